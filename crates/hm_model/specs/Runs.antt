@@ -1,0 +1,22 @@
+-- Runs of bytes: pairs of a byte and how often it stands there.
+use Rattle.std.specs.Prelude.{◌≢◌, ℕ, ◌+◌, ◌<◌, ◌≤◌, ◌^◌, List, [], ◌∷◌, ◌++◌, replicate, ⊤}
+
+-- the bytes that runs stand for
+abbrev pub expand : List (ℕ × ℕ) → List ℕ
+expand [] = []
+expand (run ∷ runs) = replicate run.1 run.0 ++ expand runs
+
+-- how many bytes they stand for
+abbrev pub total : List (ℕ × ℕ) → ℕ
+total [] = 0
+total (run ∷ runs) = run.1 + total runs
+
+-- no run is empty, and neighbouring bytes are different
+abbrev pub AreApart : List (ℕ × ℕ) → Type 0
+AreApart [] = ⊤
+AreApart (run ∷ []) = 1 ≤ run.1
+AreApart (run ∷ next ∷ runs) = (1 ≤ run.1) × (run.0 ≢ next.0) × AreApart (next ∷ runs)
+
+-- the three rules of runs; the lengths sum to at most 2 ^ 64 - 1
+abbrev pub AreRuns : List (ℕ × ℕ) → Type 0
+AreRuns runs = AreApart runs × (total runs < 2 ^ 64)

@@ -1,0 +1,4 @@
+pub mod Streams
+pub mod Causes
+pub mod PageRuns
+pub mod Lends

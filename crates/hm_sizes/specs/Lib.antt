@@ -1,0 +1,4 @@
+pub mod Classes
+pub mod Sizes
+pub mod Configs
+pub mod Shapes
