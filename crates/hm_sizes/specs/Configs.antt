@@ -1,5 +1,5 @@
 -- Configurations.
-use Rattle.std.specs.Prelude.{◌≡◌, ℕ, ◌^◌, ◌%◌, ◌≤◌, true}
+use Rattle.std.specs.Prelude.{◌≡◌, ◌^◌, ◌%◌, ◌≤◌, true}
 use Rattle.hm_sizes.specs.declared.config.Config.{Config}
 
 abbrev pub standard : Config

@@ -2,3 +2,4 @@ pub mod Classes
 pub mod Sizes
 pub mod Configs
 pub mod Shapes
+pub mod Laws

@@ -1,5 +1,13 @@
 //! The configuration of an allocator.
 
+const PAGE: u64 = 4096;
+
+const LEAST_SPACE: u64 = 1 << 20;
+
+const MOST_CLASS_REGION: u64 = 1 << 35;
+
+const MOST_LARGE_SPACE: u64 = 1 << 40;
+
 /// The configuration of an allocator.
 #[derive(Clone, Copy, Debug, PartialEq, Eq, Drop)]
 pub struct Config {
@@ -20,4 +28,45 @@ pub struct Config {
     pub check_reuse: bool,
     /// Whether the search for a slot starts at a drawn one.
     pub random_slots: bool,
+}
+
+impl Config {
+    ghost use Rattle.std.specs.Prelude.{◌≡◌, ◌↔◌, IsTrue};
+    ghost use Rattle.hm_sizes.specs.Configs.{standard, IsValid};
+
+    /// Four arenas, class regions of 32 GiB, a large region of 1 TiB, and every second slab a guard.
+    pub fn standard() -> Config
+        ensures value { result ≡ standard }
+        ensures valid { IsValid result }
+    {
+        Config {
+            arenas: 4,
+            class_region: 1 << 35,
+            large_space: 1 << 40,
+            guard_interval: 1,
+            array_base: 1,
+            ring_base: 1,
+            park_length: 32,
+            check_reuse: true,
+            random_slots: true,
+        }
+    }
+
+    /// Whether the numbers are in range, and both flags are set.
+    pub fn is_valid(&self) -> bool
+        ensures { IsTrue result ↔ IsValid self.now }
+    {
+        let space = self.class_region.is_multiple_of(PAGE)
+            && (LEAST_SPACE..=MOST_CLASS_REGION).contains(&self.class_region)
+            && self.large_space.is_multiple_of(PAGE)
+            && (LEAST_SPACE..=MOST_LARGE_SPACE).contains(&self.large_space);
+        let quarantine = self.array_base <= 1 && self.ring_base <= 1;
+        (1..=4).contains(&self.arenas)
+            && space
+            && (1..=8).contains(&self.guard_interval)
+            && quarantine
+            && (1..=32).contains(&self.park_length)
+            && self.check_reuse
+            && self.random_slots
+    }
 }

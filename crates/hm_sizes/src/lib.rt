@@ -5,9 +5,16 @@
 mod class;
 mod config;
 mod home;
+mod large;
+mod laws;
 mod shape;
+mod table;
 
-pub use class::{ClassId, Kind};
+pub use class::{ClassId, Kind, class_of};
 pub use config::Config;
 pub use home::Home;
-pub use shape::Shape;
+pub use laws::{guard_law, place_laws, region_laws, size_laws};
+pub use shape::{Shape, place_of, shape_of};
+
+#[cfg(test)]
+mod tests;

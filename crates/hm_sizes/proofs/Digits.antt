@@ -1,0 +1,48 @@
+-- How many binary digits the size of a large block has.
+use Rattle.std.proofs.Common.{◌≡◌, ◌⊎◌, ℕ, suc, ◌+◌, ◌-◌, ◌*◌, ◌/◌, ◌%◌, ◌^◌, ◌<◌, ◌≤◌, min, arith, ⊎_elim, inl, inr, zero, sym, ap, ◌∙◌, refl}
+use lib.Pow.{pow_mono}
+use Rattle.std.proofs.lemmas.Bool.{cases_lt}
+use Rattle.std.proofs.lemmas.Nat.{leading_top, one_shl, div-add-mod', div-mul-add, mod_below}
+use lib.Count.{count_leading_zeros}
+use Rattle.hm_sizes.specs.Classes.{bit_length}
+
+power_rises : (i j : ℕ) → i ≤ j → 2 ^ i ≤ 2 ^ j
+power_rises i j le = pow_mono le
+
+exponent_above : (j : ℕ) → 2 ^ 15 < 2 ^ suc j → 15 ≤ j
+exponent_above j lt =
+    ⊎_elim (λ (e : j < 15). absurd (omega (arith, power_rises (suc j) 15 (omega arith)))) (λ (e : 15 ≤ j). e) (cases_lt j 15)
+
+exponent_below : (j : ℕ) → 2 ^ j < 2 ^ 31 → j < 31
+exponent_below j lt =
+    ⊎_elim (λ (e : j < 31). e) (λ (e : 31 ≤ j). absurd (omega (arith, power_rises 31 j (omega arith)))) (cases_lt j 31)
+
+pub digits_between : (n : ℕ) → 2 ^ 15 ≤ n → n < 2 ^ 31 → (16 ≤ bit_length n) × (bit_length n ≤ 31)
+digits_between n least most =
+    let top = leading_top 64 n (omega arith) (omega arith) in
+    let j : ℕ = top.0 in
+    let is : count_leading_zeros 64 n + suc j ≡ 64 = top.1 in
+    let low : 15 ≤ j = exponent_above j (omega (arith, top.3)) in
+    let high : j < 31 = exponent_below j (omega (arith, top.2)) in
+    (omega arith, omega arith)
+
+pub power_most : (k : ℕ) → k ≤ 28 → (1 * 2 ^ k) % 2 ^ 64 ≤ 2 ^ 31
+power_most k le = omega (arith, one_shl k 64 (omega arith), power_rises k 28 le)
+
+pub rounded_up : (y x : ℕ) → 1 ≤ y → x / y + min 1 (x % y) ≡ (x + (y - 1)) / y
+rounded_up y x some =
+    let q : ℕ = x / y in
+    let r : ℕ = x % y in
+    let is : q * y + r ≡ x = div-add-mod' x y in
+    let less : r < y = mod_below x y (omega arith) in
+    ⊎_elim (λ (none : r ≡ 0).
+    let e : x + (y - 1) ≡ q * y + (y - 1) = omega arith in
+    sym (ap (λ (k : ℕ). k / y) e ∙ div-mul-add q y (y - 1) (omega arith) ∙ omega arith))
+    (λ (one : 0 < r).
+    let e : x + (y - 1) ≡ (q + 1) * y + (r - 1) = omega arith in
+    sym (ap (λ (k : ℕ). k / y) e ∙ div-mul-add (q + 1) y (r - 1) (omega arith) ∙ omega arith))
+    (zero_or r)
+  where
+    zero_or : (r : ℕ) → (r ≡ 0) ⊎ (0 < r)
+    zero_or zero = inl refl
+    zero_or (suc r) = inr (omega arith)
