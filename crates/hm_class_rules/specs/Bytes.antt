@@ -1,11 +1,11 @@
 -- The bytes of a class region.
-use Rattle.std.specs.Prelude.{◌≡◌, ℕ, zero, suc, unwrap_or, ◌+◌, ◌-◌, ◌*◌, ◌%◌, ◌<◌, ◌≤◌, ◌==◌, nat_lt, nat_le, Bool, true, ◌&&◌, if◌then◌else◌, List, [], ◌∷◌, ◌++◌, map, length, take, drop, get_or, replicate, slice_get, Option, Some, None, is_some}
+use Rattle.std.specs.Prelude.{ℕ, zero, suc, unwrap_or, ◌+◌, ◌-◌, ◌%◌, ◌==◌, nat_lt, nat_le, ◌&&◌, if◌then◌else◌, List, [], ◌∷◌, map, length, take, drop, get_or, replicate, slice_get, Option, Some, None, is_some}
 use Rattle.std.specs.Option.{option_and_then, option_map_or}
 use Rattle.std.specs.Int.{to_le_bytes, from_le_bytes}
 use mir.Syntax.{w64}
 use Rattle.hm_class_rules.specs.Maps.{at}
 use Rattle.hm_class_rules.specs.State.{State, Slab}
-use Rattle.hm_sizes.specs.Shapes.{slab_at, slab_of, usable, has_bytes}
+use Rattle.hm_sizes.specs.Shapes.{slab_at, slab_of, usable}
 use Rattle.hm_sizes.specs.declared.shape.Shape.{Shape}
 
 -- ---- reading

@@ -1,15 +1,13 @@
 -- Laws of legal histories.
-use Rattle.std.specs.Prelude.{◌≡◌, ◌≢◌, ℕ, ◌+◌, ◌*◌, ◌<◌, ◌≤◌, Bool, true, false, IsTrue, List, [], ◌∷◌, ◌++◌, length, if◌then◌else◌, Option, Some, None, ◌⊎◌}
+use Rattle.std.specs.Prelude.{◌≡◌, ◌≢◌, ℕ, ◌+◌, ◌<◌, ◌≤◌, Bool, true, false, IsTrue, List, [], ◌∷◌, ◌++◌, if◌then◌else◌, Option, Some, ◌⊎◌}
 use Rattle.hm_model.specs.declared.entry.Entry.{Entry}
 use Rattle.hm_model.specs.declared.entry.Call.TheVariants.{Allot, GiveBack}
 use Rattle.hm_model.specs.declared.entry.Reply.{Reply}
 use Rattle.hm_model.specs.declared.entry.Reply.TheVariants.{Given, Freed}
 use Rattle.hm_sizes.specs.declared.shape.Shape.{Shape}
-use Rattle.hm_sizes.specs.declared.config.Config.{Config}
-use Rattle.hm_class_rules.specs.Machine.{run, Legal}
-use Rattle.hm_class_rules.specs.Maps.{among, times, keys, has}
-use Rattle.hm_class_rules.specs.State.{State, Slab, is_open, is_live}
-use Rattle.hm_sizes.specs.Shapes.{IsShape, IsPlaceOf, IsPlace, IsGuard, delay, usable, has_bytes}
+use Rattle.hm_class_rules.specs.Maps.{among, times, keys}
+use Rattle.hm_class_rules.specs.State.{State, is_open, is_live}
+use Rattle.hm_sizes.specs.Shapes.{IsShape, IsPlaceOf, IsGuard, delay, usable}
 use Rattle.hm_class_rules.specs.Bytes.{byte_at}
 use Rattle.hm_class_rules.specs.Rules.{Terms, Allowed, IsLegal, state}
 

@@ -5,3 +5,5 @@ pub mod Steps
 pub mod Machine
 pub mod Rules
 pub mod Laws
+pub mod Judged
+pub mod Examples

@@ -1,5 +1,5 @@
 -- Which entries are allowed, and which histories are legal.
-use Rattle.std.specs.Prelude.{◌≡◌, ◌≢◌, ℕ, ◌+◌, ◌-◌, ◌*◌, ◌<◌, ◌≤◌, ◌^◌, ◌==◌, nat_lt, Bool, true, false, not, ◌&&◌, if◌then◌else◌, IsTrue, List, [], ◌∷◌, ◌++◌, length, take, slice_get, Option, Some, None, is_some, ◌⊎◌, ⊤}
+use Rattle.std.specs.Prelude.{◌≡◌, ℕ, ◌+◌, ◌*◌, ◌<◌, ◌≤◌, ◌^◌, ◌==◌, nat_lt, Bool, true, false, not, ◌&&◌, if◌then◌else◌, IsTrue, List, length, take, Option, Some, None, is_some, ◌⊎◌, ⊤}
 use Rattle.hm_model.specs.declared.entry.Entry.{Entry}
 use Rattle.hm_model.specs.declared.entry.Call.{Call}
 use Rattle.hm_model.specs.declared.entry.Call.TheVariants.{Allot, GiveBack, Measure, Fetch, Fill}
@@ -8,10 +8,10 @@ use Rattle.hm_model.specs.declared.entry.Reply.TheVariants.{Given, Overwritten, 
 use Rattle.hm_model.specs.declared.entry.Choices.{Choices}
 use Rattle.hm_model.specs.Entries.{AreDraws}
 use Rattle.hm_class_rules.specs.Machine.{run, Legal}
-use Rattle.hm_class_rules.specs.Maps.{among, without, keys}
+use Rattle.hm_class_rules.specs.Maps.{among, without}
 use Rattle.hm_sizes.specs.Sizes.{raised, block_size}
-use Rattle.hm_class_rules.specs.State.{State, start, is_open, is_live, is_taken, is_free, is_empty, is_partial, empty_slabs, none_partial, none_empty, unopened}
-use Rattle.hm_sizes.specs.Shapes.{has_bytes, usable, class_size_of, delay, place, IsPlace, IsPlaceOf, slab_of}
+use Rattle.hm_class_rules.specs.State.{State, start, is_open, is_live, is_taken, is_empty, is_partial, empty_slabs, none_partial, none_empty, unopened}
+use Rattle.hm_sizes.specs.Shapes.{has_bytes, usable, class_size_of, delay, IsPlace, slab_of}
 use Rattle.hm_class_rules.specs.Bytes.{first_trap, bytes_read, usable_bytes, first_nonzero, kept_canary, found_canary}
 use Rattle.hm_model.specs.Runs.{expand}
 use Rattle.hm_class_rules.specs.Steps.{opened, takes_back, releases, step}

@@ -1,0 +1,149 @@
+-- Short histories that are legal, and some that are not.
+use Rattle.std.specs.Prelude.{ℕ, true, false, List, [], ◌∷◌, Some, None}
+use Rattle.hm_model.specs.declared.entry.Entry.{Entry}
+use Rattle.hm_model.specs.declared.entry.Call.{Call}
+use Rattle.hm_model.specs.declared.entry.Call.TheVariants.{Allot, GiveBack, Measure, Fetch, Fill}
+use Rattle.hm_model.specs.declared.entry.Reply.{Reply}
+use Rattle.hm_model.specs.declared.entry.Reply.TheVariants.{Given, Overwritten, Exhausted, PagesFailed, Freed, DoubleFree, WrongSize, Canary, Usable, Bytes, Filled, Trap}
+use Rattle.hm_model.specs.declared.entry.Choices.{Choices}
+use Rattle.hm_sizes.specs.Configs.{standard}
+use Rattle.hm_class_rules.specs.Rules.{Terms, chose, chose_none}
+
+-- an entry of caller 1, without drawn words and page faults
+abbrev pub entry : Call → Reply → Choices → Entry
+entry call reply choices = record {
+  who = record { caller = 1; round = 1; thread = 1; step = 1; part = 1 };
+  call = call;
+  reply = reply;
+  choices = choices;
+  draws = record { used = 0; w0 = 0; w1 = 0; w2 = 0 };
+  faults_before = 0;
+  faults_after = 0;
+}
+
+-- an entry after the first page fault
+abbrev pub later : Entry → Entry
+later e = record e { faults_before = 1; faults_after = 1 }
+
+-- the choices of a giving that opens a slab, and of a free that releases a slot
+abbrev pub opens : ℕ → ℕ → Choices
+opens slab canary = chose (Some canary) (Some slab) None None None None
+
+abbrev pub opens_bare : ℕ → Choices
+opens_bare slab = chose None (Some slab) None None None None
+
+abbrev pub frees : ℕ → Choices
+frees addr = chose None None (Some addr) None None None
+
+-- ---- class 7 as it is, without a quarantine
+abbrev pub seven : Terms
+seven = record {
+  config = standard;
+  shape = record { class = record { 0 = 7 }; slot = 112; slots = 36; slab = 4096; first = 4096; limit = 256; guard_interval = 1; array = 0; ring = 0 };
+  told = true;
+}
+
+-- a double free, and what a size that is stated says of the block
+abbrev pub double_free : List Entry
+double_free =
+    entry (Allot 100 1) (Given 4096 104) (opens 0 256)
+    ∷ entry (GiveBack 4096 None) Freed (frees 4096)
+    ∷ entry (GiveBack 4096 None) DoubleFree chose_none
+    ∷ entry (Measure 4096) DoubleFree chose_none ∷ []
+
+abbrev pub stated_size : List Entry
+stated_size =
+    entry (Allot 100 1) (Given 4096 104) (opens 0 256)
+    ∷ entry (GiveBack 4096 (Some 105)) (WrongSize 112 128) chose_none
+    ∷ entry (Measure 4096) (Usable 104) chose_none
+    ∷ entry (GiveBack 4096 (Some 97)) Freed (frees 4096) ∷ []
+
+-- ---- two slots of 16 bytes to a slab of 32
+abbrev pub small : Terms
+small = record {
+  config = standard;
+  shape = record { class = record { 0 = 1 }; slot = 16; slots = 2; slab = 32; first = 4096; limit = 4; guard_interval = 1; array = 0; ring = 0 };
+  told = true;
+}
+
+-- given, its canary overwritten, and not taken back
+abbrev pub bad_canary : List Entry
+bad_canary =
+    entry (Allot 8 1) (Given 4096 8) (opens 0 256)
+    ∷ entry (Fill 4104 ((65, 8) ∷ [])) Filled chose_none
+    ∷ entry (GiveBack 4096 None) (Canary 256 4702111234474983745) chose_none
+    ∷ entry (GiveBack 4096 None) (Canary 256 4702111234474983745) chose_none ∷ []
+
+-- given, freed, written, and found overwritten; the slot is not given again
+abbrev pub write_after_free : List Entry
+write_after_free =
+    entry (Allot 8 1) (Given 4096 8) (opens 0 256)
+    ∷ entry (GiveBack 4096 None) Freed (frees 4096)
+    ∷ entry (Fill 4098 ((65, 2) ∷ [])) Filled chose_none
+    ∷ entry (Fetch 4097 4) (Bytes ((0, 1) ∷ (65, 2) ∷ (0, 1) ∷ [])) chose_none
+    ∷ entry (Fetch 4126 4) (Trap 4128) chose_none
+    ∷ entry (Allot 8 1) (Overwritten 4096 2 65) chose_none
+    ∷ entry (Allot 8 1) (Given 4112 8) chose_none ∷ []
+
+-- ---- slabs of one slot and 131,072 bytes of address space, without bytes of their own
+abbrev pub bare : Terms
+bare = record {
+  config = standard;
+  shape = record { class = record { 0 = 0 }; slot = 131072; slots = 1; slab = 131072; first = 1103806599168; limit = 262144; guard_interval = 1; array = 0; ring = 0 };
+  told = true;
+}
+
+-- the second slab that a free empties is retired, parked, and not opened again at once; slab 3 is a guard
+abbrev pub retired_slab : List Entry
+retired_slab =
+    entry (Allot 0 1) (Given 1103806599168 0) (opens_bare 0)
+    ∷ entry (Allot 0 1) (Given 1103806861312 0) (opens_bare 2)
+    ∷ entry (GiveBack 1103806599168 None) Freed (frees 1103806599168)
+    ∷ entry (GiveBack 1103806861312 None) Freed (chose None None (Some 1103806861312) (Some 2) None None)
+    ∷ entry (Allot 0 1) (Given 1103806599168 0) chose_none
+    ∷ entry (Allot 0 1) (Given 1103807123456 0) (opens_bare 4) ∷ []
+
+-- ---- a ring of one
+abbrev pub ringed : Terms
+ringed = record {
+  config = standard;
+  shape = record { class = record { 0 = 0 }; slot = 16; slots = 256; slab = 4096; first = 4096; limit = 4; guard_interval = 1; array = 0; ring = 1 };
+  told = true;
+}
+
+-- a slot is released by the next free, and not by its own
+abbrev pub waiting : List Entry
+waiting =
+    entry (Allot 0 1) (Given 4096 0) (opens_bare 0)
+    ∷ entry (GiveBack 4096 (Some 0)) Freed chose_none
+    ∷ entry (Allot 0 1) (Given 4112 0) chose_none
+    ∷ entry (GiveBack 4112 None) Freed (frees 4096) ∷ []
+
+abbrev pub released_too_early : List Entry
+released_too_early =
+    entry (Allot 0 1) (Given 4096 0) (opens_bare 0)
+    ∷ entry (GiveBack 4096 None) Freed (frees 4096) ∷ []
+
+-- a guard is no place
+abbrev pub given_in_a_guard : List Entry
+given_in_a_guard = entry (Allot 0 1) (Given 8192 0) (opens_bare 1) ∷ []
+
+-- ---- one slab of two slots, without the check on reuse
+abbrev pub unchecked : Terms
+unchecked = record {
+  config = record standard { check_reuse = false };
+  shape = record { class = record { 0 = 1 }; slot = 16; slots = 2; slab = 32; first = 4096; limit = 1; guard_interval = 8; array = 0; ring = 0 };
+  told = true;
+}
+
+-- a page fails; later a slot that was written after its free is given as it is, and there is no third
+abbrev pub reused : List Entry
+reused =
+    record (entry (Allot 8 1) PagesFailed chose_none) { faults_after = 1 }
+    ∷ later (entry (Allot 8 1) (Given 4096 8) (opens 0 256))
+    ∷ later (entry (GiveBack 4096 None) Freed (frees 4096))
+    ∷ later (entry (Fill 4100 ((65, 4) ∷ [])) Filled chose_none)
+    ∷ later (entry (Allot 8 1) (Given 4096 8) chose_none)
+    ∷ later (entry (Fetch 4096 9) (Bytes ((0, 4) ∷ (65, 4) ∷ (0, 1) ∷ [])) chose_none)
+    ∷ later (entry (Allot 8 1) (Given 4112 8) chose_none)
+    ∷ later (entry (Allot 8 1) Exhausted chose_none) ∷ []
