@@ -1,0 +1,10 @@
+pub mod Counts
+pub mod Found
+pub mod Entered
+pub mod Places
+pub mod Used
+pub mod Shown
+pub mod Paged
+pub mod Followed
+pub mod Permitted
+pub mod Entries

@@ -1,0 +1,81 @@
+-- The arithmetic of places.
+use Rattle.std.proofs.Common.{◌≡◌, ⊎_elim, ℕ, ◌+◌, ◌-◌, ◌*◌, ◌/◌, ◌%◌, ◌<◌, ◌≤◌, Bool, true, false, not, ◌&&◌, nat_lt, sym, ◌∙◌, ap, arith}
+use Rattle.std.proofs.lemmas.Nat.{rows, div-mul-add, mod-mul-add, div-add-mod'}
+use Rattle.std.proofs.lemmas.Bool.{cases_lt}
+use Rattle.std.proofs.lemmas.Bool.Decides.{nat_tests}
+use Rattle.hm_class_rules.proofs.Lists.{same_eq, other_eq}
+use Rattle.hm_sizes.specs.declared.shape.Shape.{Shape}
+use Rattle.hm_sizes.specs.Shapes.{IsShape, IsPlaceOf, IsPlace, place, slab_of, slot_of, is_slot}
+
+slot_row : (slot i n : ℕ) → i < n → i * slot + slot ≤ n * slot
+slot_row slot i n lt = grind (arith, rows)
+
+pub slab_row : (first slab m n : ℕ) → m < n → (first + m * slab) + slab ≤ first + n * slab
+slab_row first slab m n lt = grind (arith, rows)
+
+pub slab_some : (p : Shape) → IsShape p → 16 ≤ p.slab
+slab_some p shape = omega (arith, slot_row p.slot 0 p.slots shape.slots_some, shape.slot_least, shape.slots_fit)
+
+-- a place lies within its slab
+pub place_within : (p : Shape) (i : ℕ) → IsShape p → i < p.slots → i * p.slot + p.slot ≤ p.slab
+place_within p i shape lt = omega (arith, slot_row p.slot i p.slots lt, shape.slots_fit)
+
+offset : (p : Shape) (n i : ℕ) → place p n i - p.first ≡ n * p.slab + i * p.slot
+offset p n i = omega arith
+
+pub slab_of_place : (p : Shape) (n i : ℕ) → IsShape p → i < p.slots → slab_of p (place p n i) ≡ n
+slab_of_place p n i shape lt = ap (λ (x : ℕ). x / p.slab) (offset p n i) ∙ div-mul-add n p.slab (i * p.slot) (omega (arith, place_within p i shape lt, shape.slot_least))
+
+pub slot_of_place : (p : Shape) (n i : ℕ) → IsShape p → i < p.slots → slot_of p (place p n i) ≡ i
+slot_of_place p n i shape lt =
+    let rest : (place p n i - p.first) % p.slab ≡ i * p.slot + 0 =
+    ap (λ (x : ℕ). x % p.slab) (offset p n i) ∙ mod-mul-add n p.slab (i * p.slot) (omega (arith, place_within p i shape lt, shape.slot_least)) ∙ omega arith in
+    ap (λ (x : ℕ). x / p.slot) rest ∙ div-mul-add i p.slot 0 (omega (arith, shape.slot_least))
+
+-- places are the same only where their numbers are
+pub place_same : (p : Shape) (n i m j : ℕ) → IsShape p → i < p.slots → j < p.slots → place p n i ≡ place p m j → (n ≡ m) × (i ≡ j)
+place_same p n i m j shape lt lt' e = (
+  sym (slab_of_place p n i shape lt) ∙ ap (λ (a : ℕ). slab_of p a) e ∙ slab_of_place p m j shape lt',
+  sym (slot_of_place p n i shape lt) ∙ ap (λ (a : ℕ). slot_of p a) e ∙ slot_of_place p m j shape lt',
+)
+
+below : (a b : ℕ) → a < b → nat_lt a b ≡ true
+below a b lt = grind (arith, nat_tests)
+
+all_true : (a b c d : Bool) → a ≡ true → b ≡ false → c ≡ true → d ≡ true → (a && (not b && (c && d))) ≡ true
+all_true a b c d p q r s =
+    ap (λ (x : Bool). x && (not b && (c && d))) p ∙ ap (λ (x : Bool). not x && (c && d)) q ∙ ap (λ (x : Bool). x && d) r ∙ s
+
+pub is_place : (p : Shape) (a n i : ℕ) → IsPlaceOf p a n i → is_slot p a n i ≡ true
+is_place p a n i h = all_true _ _ _ _ (below n p.limit h.below) (other_eq _ _ h.no_guard) (below i p.slots h.slot) (same_eq _ _ (sym h.is))
+
+pub slab_is : (p : Shape) (a n i : ℕ) → IsShape p → IsPlaceOf p a n i → slab_of p a ≡ n
+slab_is p a n i shape h = ap (λ (q : ℕ). slab_of p q) h.is ∙ slab_of_place p n i shape h.slot
+
+pub slot_is : (p : Shape) (a n i : ℕ) → IsShape p → IsPlaceOf p a n i → slot_of p a ≡ i
+slot_is p a n i shape h = ap (λ (q : ℕ). slot_of p q) h.is ∙ slot_of_place p n i shape h.slot
+
+pub place_test : (p : Shape) (a n i : ℕ) → IsShape p → IsPlaceOf p a n i → IsPlace p a
+place_test p a n i shape h =
+    ap (λ (m : ℕ). is_slot p a m (slot_of p a)) (slab_is p a n i shape h)
+    ∙ ap (λ (j : ℕ). is_slot p a n j) (slot_is p a n i shape h)
+    ∙ is_place p a n i h
+
+-- a slab begins at a page
+pub place_whole : (p : Shape) (n : ℕ) → IsShape p → place p n 0 % 4096 ≡ 0
+place_whole p n shape =
+    let q : ℕ = p.slab / 4096 in
+    let pages : p.slab ≡ q * 4096 = omega (arith, div-add-mod' p.slab 4096, shape.slab_pages) in
+    let rest : (n * p.slab) % 4096 ≡ 0 = ap (λ (x : ℕ). x % 4096) (ap (λ (x : ℕ). n * x) pages ∙ turned n q) ∙ mod-mul-add (n * q) 4096 0 (omega arith) in
+    sum p.first (n * p.slab) (place p n 0) (omega arith) shape.first_pages rest
+  where
+    turned : (n q : ℕ) → n * (q * 4096) ≡ (n * q) * 4096 + 0
+    turned n q = omega arith
+
+    sum : (a b c : ℕ) → c ≡ a + b → a % 4096 ≡ 0 → b % 4096 ≡ 0 → c % 4096 ≡ 0
+    sum a b c e f g = omega arith
+
+-- slabs with different numbers begin at different addresses
+pub slab_apart : (first slab m n : ℕ) → 1 ≤ slab → first + m * slab ≡ first + n * slab → m ≡ n
+slab_apart first slab m n some e =
+    ⊎_elim (λ lt. absurd (omega (arith, slab_row first slab m n lt))) (λ ge. ⊎_elim (λ lt. absurd (omega (arith, slab_row first slab n m lt))) (λ le. omega arith) (cases_lt n m)) (cases_lt m n)
