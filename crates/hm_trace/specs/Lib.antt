@@ -1,0 +1,14 @@
+pub mod Views
+pub mod Names
+pub mod Numbers
+pub mod Traces
+pub mod Spelling
+pub mod Lines
+pub mod Before
+pub mod Faults
+pub mod Answers
+pub mod Gives
+pub mod ReadNumbers
+pub mod ReadWords
+pub mod ReadLines
+pub mod ReadState

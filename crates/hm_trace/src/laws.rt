@@ -1,0 +1,22 @@
+//! What ties the spelling of traces to the table of faults: a text has no fault exactly where it is the
+//! spelling of a trace, and of one trace alone.
+ghost use Rattle.std.specs.Prelude.{◌≡◌, ℕ, List, None};
+ghost use Rattle.hm_trace.specs.Faults.{text_fault};
+ghost use Rattle.hm_trace.specs.Spelling.{spelling};
+ghost use Rattle.hm_trace.specs.Traces.{IsTrace};
+ghost use Rattle.hm_trace.specs.Views.{ScriptView};
+
+/// A text without a fault is the spelling of a trace.
+pub fn texts_without_fault_are_spelled()
+    ensures { (bytes : List ℕ) → text_fault bytes ≡ None → (trace : List (List ScriptView)) × IsTrace trace × (bytes ≡ spelling trace) }
+{}
+
+/// The spelling of a trace has no fault.
+pub fn spellings_have_no_fault()
+    ensures { (trace : List (List ScriptView)) → IsTrace trace → text_fault (spelling trace) ≡ None }
+{}
+
+/// Two traces of one spelling are one trace.
+pub fn spellings_differ()
+    ensures { (one other : List (List ScriptView)) → IsTrace one → IsTrace other → spelling one ≡ spelling other → one ≡ other }
+{}

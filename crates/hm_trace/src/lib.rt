@@ -1,0 +1,28 @@
+//! Traces of calls to the allocator: what they are, how they are spelled, and the faults of a text that is none.
+#![tactic(auto)]
+
+mod fault;
+mod laws;
+mod limits;
+mod lines;
+mod names;
+mod numbers;
+mod progress;
+mod reading;
+mod setters;
+mod step;
+mod step_words;
+mod trace;
+mod words;
+mod writing;
+
+pub use fault::{FaultKind, ReadRefusal, TraceFault};
+pub use laws::{spellings_differ, spellings_have_no_fault, texts_without_fault_are_spelled};
+pub use names::Name;
+pub use reading::read_trace;
+pub use step::{Place, Step};
+pub use trace::{Round, Script, Trace};
+pub use writing::write_trace;
+
+#[cfg(test)]
+mod tests;

@@ -1,0 +1,110 @@
+//! Names of at most 32 bytes, each kept in itself, in the order of their bytes.
+ghost use Rattle.std.specs.Prelude.{◌≡◌, ◌≤◌, ◌-◌, ◌++◌, List, ℕ, length, take, replicate, true, false, nat_eq, IfSome, IfNone};
+ghost use Rattle.std.specs.List.{list_all};
+ghost use Rattle.hm_trace.specs.Names.{is_name, is_name_byte};
+ghost use Rattle.std.proofs.Common.{rules};
+ghost use Rattle.std.specs.Cmp.{partial_order_from_own_ties, partial_equiv_from_equiv};
+ghost use Rattle.std.specs.Cmp.Lexicographic.{pointwise, slice_cmp, on_texts, on_texts_equal};
+ghost use Rattle.std.specs.Cmp.Rules.{comparing};
+ghost use Rattle.std.specs.Ordering.{nat_cmp, on, as_partial_cmp};
+
+use std::cmp::Ordering;
+
+/// A name of a block: a letter, then up to 31 letters, digits or `_`, and not `null`.
+#[derive(Clone, Copy, Debug)]
+pub struct Name {
+    len: usize,
+    bytes: [u8; 32],
+    ghost within: { len ≤ 32 },
+    ghost zeros: { bytes ≡ take len bytes ++ replicate (32 - len) 0 },
+}
+
+impl PartialEq for Name {
+    ghost eq = { on (λ n. take n.len n.bytes) (pointwise nat_eq) };
+
+    ghost laws = { partial_equiv_from_equiv (on_texts_equal (λ n. take n.len n.bytes)) };
+
+    fn eq(&self, other: &Name) -> bool {
+        self.bytes() == other.bytes()
+    }
+}
+
+impl Eq for Name {
+    ghost laws = { on_texts_equal (λ n. take n.len n.bytes) };
+}
+
+impl PartialOrd for Name {
+    ghost partial_cmp = { as_partial_cmp (on (λ n. take n.len n.bytes) (slice_cmp nat_cmp)) };
+
+    ghost laws = { partial_order_from_own_ties (Prim.search (comparing, rules)) (Prim.search (comparing, rules)) };
+
+    fn partial_cmp(&self, other: &Name) -> Option<Ordering> {
+        Some(self.cmp(other))
+    }
+}
+
+impl Ord for Name {
+    ghost cmp = { on (λ n. take n.len n.bytes) (slice_cmp nat_cmp) };
+
+    ghost total = { on_texts (λ n. take n.len n.bytes) };
+
+    ghost matches_partial_cmp = { Prim.search (comparing, rules) };
+
+    ghost matches_eq = { Prim.search (comparing, rules) };
+
+    fn cmp(&self, other: &Name) -> Ordering {
+        self.bytes().cmp(other.bytes())
+    }
+}
+
+impl Name {
+    ghost use Rattle.hm_trace.specs.Views.{name_view};
+
+    /// The name that a word is, if it is one.
+    #[tactic(auto, unfolding(crate::specs::Names::is_name))]
+    pub fn of(word: &[u8]) -> Option<Name>
+        ensures some { IfSome result (λ name. (name_view name ≡ word.now) × (is_name word.now ≡ true)) }
+        ensures none { IfNone result (is_name word.now ≡ false) }
+    {
+        match word {
+            [first, rest @ ..] => {
+                if first.is_ascii_lowercase()
+                    && are_name_bytes(rest)
+                    && rest.len() <= 31
+                    && word != b"null".as_slice()
+                {
+                    Some(Name::kept(word))
+                } else {
+                    None
+                }
+            }
+            [] => None,
+        }
+    }
+
+    /// Its bytes, 1 to 32.
+    pub fn bytes(&self) -> &[u8]
+        ensures { result.now ≡ name_view self.now }
+    {
+        &self.bytes[..self.len]
+    }
+
+    // A text of at most 32 bytes, followed by zeros.
+    fn kept(word: &[u8]) -> Name
+        requires { length word.now ≤ 32 }
+        ensures { name_view result ≡ word.now }
+    {
+        let mut bytes = [0; 32];
+        bytes[..word.len()].copy_from_slice(word);
+        Name {
+            len: word.len(),
+            bytes,
+        }
+    }
+}
+
+fn are_name_bytes(bytes: &[u8]) -> bool
+    ensures { result ≡ list_all is_name_byte bytes.now }
+{
+    bytes.iter().all(|c| c.is_ascii_lowercase() || c.is_ascii_digit() || *c == b'_')
+}

@@ -1,0 +1,207 @@
+//! Texts that are traces, and the first faults of texts that are none.
+use crate::{FaultKind, ReadRefusal, TraceFault, read_trace, write_trace};
+use std::alloc::{AllocError, Global};
+use std::process::Abort;
+use std::test::Fail;
+
+/// Texts, each with its first fault.
+const FAULTS: [(&str, u64, FaultKind); 33] = [
+    ("", 1, FaultKind::NoEnd),
+    ("hmtrace 1", 1, FaultKind::NoEnd),
+    ("hmtrace 1\n", 2, FaultKind::NoEnd),
+    ("hmtrace 1\nend", 2, FaultKind::NoEnd),
+    ("hmtrace 1\nround\n\t", 3, FaultKind::NoEnd),
+    ("hmtrace 1\nend\nx", 3, FaultKind::AfterEnd),
+    ("hmtrace 1\nend\n\n", 3, FaultKind::AfterEnd),
+    ("hmtrace 1\nend\nend\n", 3, FaultKind::AfterEnd),
+    ("hmtrace 1\r\n", 1, FaultKind::NotAscii),
+    ("hmtrace 1\nround\r\n", 2, FaultKind::NotAscii),
+    ("hmtrace 1\n\u{e9}\n", 2, FaultKind::NotAscii),
+    ("hmtrace 1\n\u{7f}\n", 2, FaultKind::NotAscii),
+    ("hmtrace 1\nround\tx\n", 2, FaultKind::NotAscii),
+    ("\n", 1, FaultKind::BadHeader),
+    ("hmtrace 2\n", 1, FaultKind::BadHeader),
+    ("hmtrace 1 \n", 1, FaultKind::BadHeader),
+    ("hmtrace 1\n\n", 2, FaultKind::BadWord),
+    ("hmtrace 1\n round\n", 2, FaultKind::BadWord),
+    ("hmtrace 1\nround \n", 2, FaultKind::BadWord),
+    ("hmtrace 1\nend x\n", 2, FaultKind::BadWord),
+    ("hmtrace 1\nthread 1\n", 2, FaultKind::BadWord),
+    ("hmtrace 1\nround\nfree x\n", 3, FaultKind::BadWord),
+    ("hmtrace 1\nround\nthread 0\n", 3, FaultKind::BadNumber),
+    ("hmtrace 1\nround\nthread \n", 3, FaultKind::BadNumber),
+    ("hmtrace 1\nround\nthread 01\n", 3, FaultKind::BadNumber),
+    ("hmtrace 1\nround\nthread 017\n", 3, FaultKind::BadNumber),
+    (
+        "hmtrace 1\nround\nthread 17\n",
+        3,
+        FaultKind::TooManyThreads,
+    ),
+    (
+        "hmtrace 1\nround\nthread 99999999999999999999\n",
+        3,
+        FaultKind::TooManyThreads,
+    ),
+    (
+        "hmtrace 1\nround\nthread 2\nthread 2\n",
+        4,
+        FaultKind::BadNumber,
+    ),
+    (
+        "hmtrace 1\nround\nthread 1\nmalloc x 8\nthread 2\nmalloc x 8\n",
+        6,
+        FaultKind::NameSetTwice,
+    ),
+    (
+        "hmtrace 1\nround\nthread 1\ncalloc x 1 8\nthread 2\naligned x 8 8\n",
+        6,
+        FaultKind::NameSetTwice,
+    ),
+    (
+        "hmtrace 1\nround\nthread 1\naligned x 8 8\nthread 2\nrealloc x x 8\n",
+        6,
+        FaultKind::NameSetTwice,
+    ),
+    (
+        "hmtrace 1\nround\nthread 1\nrealloc x null 8\nthread 2\ncalloc x 1 08\n",
+        6,
+        FaultKind::BadNumber,
+    ),
+];
+
+/// Lines in the place of a step, each with its fault.
+const STEP_FAULTS: [(&str, FaultKind); 31] = [
+    ("free x 8", FaultKind::BadWord),
+    ("free x ", FaultKind::BadWord),
+    ("malloc x  8", FaultKind::BadWord),
+    ("Free x", FaultKind::BadWord),
+    ("free null+1", FaultKind::BadName),
+    ("free null-", FaultKind::BadName),
+    ("free ", FaultKind::BadName),
+    ("free 1x", FaultKind::BadName),
+    ("malloc null 8", FaultKind::BadName),
+    ("malloc  8", FaultKind::BadName),
+    (
+        "malloc a23456789_123456789_123456789_123 8",
+        FaultKind::BadName,
+    ),
+    ("realloc X y 08", FaultKind::BadName),
+    ("malloc x 08", FaultKind::BadNumber),
+    ("malloc x ", FaultKind::BadNumber),
+    ("malloc x -1", FaultKind::BadNumber),
+    ("malloc x 18446744073709551616", FaultKind::BadNumber),
+    ("calloc x 1 18446744073709551617", FaultKind::BadNumber),
+    ("aligned x 01 8", FaultKind::BadNumber),
+    ("free x+0", FaultKind::BadNumber),
+    ("free x+1099511627777", FaultKind::BadNumber),
+    ("free x-1099511627777", FaultKind::BadNumber),
+    ("free @", FaultKind::BadNumber),
+    ("free @00", FaultKind::BadNumber),
+    ("free @10000000000000000", FaultKind::BadNumber),
+    ("size @A", FaultKind::BadNumber),
+    ("sfree x+01 y", FaultKind::BadNumber),
+    ("read x 0", FaultKind::BadNumber),
+    ("write x 1048577 41", FaultKind::BadNumber),
+    ("write x 1 4", FaultKind::BadNumber),
+    ("write x 1 041", FaultKind::BadNumber),
+    ("write x 1 4G", FaultKind::BadNumber),
+];
+
+/// Texts of a header, of a piece so many times, and of a tail, each with its first fault.
+const LONG_FAULTS: [(&str, usize, &str, u64, FaultKind); 4] = [
+    ("a", 257, "\n", 2, FaultKind::LineTooLong),
+    ("a", 256, "\n", 2, FaultKind::BadWord),
+    ("a", 257, "", 2, FaultKind::NoEnd),
+    ("round\n", 1025, "", 1026, FaultKind::TooManyRounds),
+];
+
+/// A trace with each kind of step and of place.
+const STEPS: &str = "hmtrace 1
+round
+round
+thread 3
+malloc x 8
+calloc nullx 0 18446744073709551615
+aligned a23456789_123456789_123456789_12 64 100
+realloc y x 16
+free null
+free @0
+sfree @ffffffffffffffff 8
+write y-1099511627776 1048576 0f
+read y+1099511627776 1
+size y+1
+malloc x 0
+malloc z 18446744073709551615
+free z+1099511627776
+thread 16
+round
+thread 1
+malloc x 1
+end
+";
+
+/// The head, so many times the piece, and the tail.
+fn text(
+    alloc: Global,
+    head: &str,
+    piece: &str,
+    times: usize,
+    tail: &str,
+) -> Result<Vec<u8>, AllocError> {
+    let mut bytes = Vec::from_slice(alloc, head.as_bytes())?;
+    for _ in 0..times {
+        bytes.extend_from_slice(piece.as_bytes())?;
+    }
+    bytes.extend_from_slice(tail.as_bytes())?;
+    Ok(bytes)
+}
+
+fn expect_fault(rt: &impl Abort, alloc: Global, text: &[u8], line: u64, kind: FaultKind) {
+    let found = read_trace(alloc, text).err();
+    let fault = ReadRefusal::Fault(TraceFault { line, kind });
+    assert_eq!(rt; found, Some(fault));
+}
+
+#[test]
+fn first_faults(rt: HostRuntime) -> Result<(), Fail> {
+    let alloc = rt.alloc();
+    for (text, line, kind) in FAULTS {
+        expect_fault(&rt, alloc, text.as_bytes(), line, kind);
+    }
+    for (step, kind) in STEP_FAULTS {
+        let text = text(alloc, "hmtrace 1\nround\nthread 1\n", step, 1, "\n")?;
+        expect_fault(&rt, alloc, &text, 4, kind);
+    }
+    for (piece, times, tail, line, kind) in LONG_FAULTS {
+        let text = text(alloc, "hmtrace 1\n", piece, times, tail)?;
+        expect_fault(&rt, alloc, &text, line, kind);
+    }
+    let head = "hmtrace 1\nround\nthread 1\nmalloc x 8\n";
+    let steps = text(alloc, head, "size x\n", 199_999, "thread 2\nmalloc x 8\n")?;
+    expect_fault(&rt, alloc, &steps, 200_005, FaultKind::TooManySteps);
+    Ok(())
+}
+
+fn expect_same(rt: &impl Abort, alloc: Global, text: &[u8]) -> Result<(), Fail> {
+    let trace = read_trace(alloc, text)?;
+    let written = write_trace(alloc, &trace)?;
+    assert_eq!(rt; written.as_slice(), text);
+    Ok(())
+}
+
+#[test]
+fn traces_are_written_as_they_were_read(rt: HostRuntime) -> Result<(), Fail> {
+    let alloc = rt.alloc();
+    expect_same(&rt, alloc, b"hmtrace 1\nend\n")?;
+    expect_same(&rt, alloc, STEPS.as_bytes())?;
+    let rounds = text(alloc, "hmtrace 1\n", "round\n", 1024, "end\n")?;
+    expect_same(&rt, alloc, &rounds)?;
+    let steps = text(
+        alloc,
+        "hmtrace 1\nround\nthread 1\n",
+        "size x\n",
+        200_000,
+        "end\n",
+    )?;
+    expect_same(&rt, alloc, &steps)
+}
