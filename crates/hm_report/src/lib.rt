@@ -1,0 +1,15 @@
+//! The results of a replay: their text, one line for each step, and whether an answer among them is a
+//! finding.
+#![tactic(auto)]
+
+mod findings;
+mod lines;
+mod results;
+mod text;
+
+pub use findings::has_finding;
+pub use lines::report;
+pub use results::{Results, StepResult};
+
+#[cfg(test)]
+mod tests;

@@ -1,0 +1,231 @@
+use crate::{Results, StepResult, has_finding, report};
+use hm_model::{Answer, Reply, Runs};
+use hm_outside::List;
+use std::test::Fail;
+
+/// What a step referred to and was answered, its text, and whether it is a finding.
+const CASES: [(u64, Option<Answer>, &str, bool); 31] = [
+    (
+        0,
+        Some(Answer::Reply(Reply::Given {
+            addr: 4096,
+            usable: 104,
+        })),
+        "given 104",
+        false,
+    ),
+    (
+        0,
+        Some(Answer::Reply(Reply::Overwritten {
+            addr: 4096,
+            at: 0,
+            found: 0x41,
+        })),
+        "overwritten at 0 found 41",
+        true,
+    ),
+    (
+        0,
+        Some(Answer::Reply(Reply::Overwritten {
+            addr: 0,
+            at: u64::MAX,
+            found: 12,
+        })),
+        "overwritten at 18446744073709551615 found 0c",
+        true,
+    ),
+    (0, Some(Answer::Reply(Reply::Exhausted)), "exhausted", false),
+    (0, Some(Answer::Reply(Reply::NoSpace)), "no space", false),
+    (
+        0,
+        Some(Answer::Reply(Reply::PagesFailed)),
+        "pages failed",
+        false,
+    ),
+    (0, Some(Answer::Reply(Reply::Freed)), "freed", false),
+    (0, Some(Answer::Reply(Reply::NoSlot)), "no slot", true),
+    (0, Some(Answer::Reply(Reply::Unused)), "unused", true),
+    (
+        0,
+        Some(Answer::Reply(Reply::DoubleFree)),
+        "double free",
+        true,
+    ),
+    (
+        0,
+        Some(Answer::Reply(Reply::WrongSize {
+            block: 112,
+            stated: 128,
+        })),
+        "wrong size 112 128",
+        true,
+    ),
+    (
+        0,
+        Some(Answer::Reply(Reply::Canary {
+            kept: 0x4100,
+            found: 0x4141,
+        })),
+        "canary at 0",
+        true,
+    ),
+    (
+        0,
+        Some(Answer::Reply(Reply::Canary {
+            kept: 0,
+            found: 0x0100_0000_0000_0000,
+        })),
+        "canary at 7",
+        true,
+    ),
+    (
+        0,
+        Some(Answer::Reply(Reply::Canary {
+            kept: 0x4100,
+            found: 0x4100,
+        })),
+        "canary at 8",
+        true,
+    ),
+    (
+        0,
+        Some(Answer::Reply(Reply::Usable(u64::MAX))),
+        "size 18446744073709551615",
+        false,
+    ),
+    (0, Some(Answer::Reply(Reply::Filled)), "written", false),
+    (
+        4096,
+        Some(Answer::Reply(Reply::Trap { addr: 4200 })),
+        "trap at +104",
+        true,
+    ),
+    (
+        4096,
+        Some(Answer::Reply(Reply::Trap { addr: 4095 })),
+        "trap at +0",
+        true,
+    ),
+    (0, Some(Answer::Reply(Reply::NotLive)), "not live", true),
+    (0, Some(Answer::Overflow), "overflow", false),
+    (0, Some(Answer::BadAlignment), "bad alignment", false),
+    (0, Some(Answer::TooLarge), "too large", false),
+    (0, Some(Answer::Outside), "outside", true),
+    (0, Some(Answer::Busy), "busy", false),
+    (
+        0,
+        Some(Answer::HalfMoved {
+            addr: 1,
+            usable: 120,
+            cause: Reply::DoubleFree,
+        }),
+        "half moved 120: double free",
+        true,
+    ),
+    (
+        0,
+        Some(Answer::HalfMoved {
+            addr: 1,
+            usable: 229376,
+            cause: Reply::PagesFailed,
+        }),
+        "half moved 229376: pages failed",
+        true,
+    ),
+    (
+        0,
+        Some(Answer::HalfMoved {
+            addr: 1,
+            usable: 120,
+            cause: Reply::WrongSize {
+                block: 16,
+                stated: 32,
+            },
+        }),
+        "half moved 120: wrong size 16 32",
+        true,
+    ),
+    (
+        0,
+        Some(Answer::HalfMoved {
+            addr: 1,
+            usable: 120,
+            cause: Reply::Trap { addr: 4200 },
+        }),
+        "half moved 120: trap",
+        true,
+    ),
+    (
+        0,
+        Some(Answer::Kept {
+            addr: 4096,
+            usable: 504,
+        }),
+        "kept 504",
+        false,
+    ),
+    (0, Some(Answer::Nothing), "nothing", false),
+    (0, None, "skipped", false),
+];
+
+#[test]
+fn texts_of_answers(rt: HostRuntime) -> Result<(), Fail> {
+    for (base, answer, text, is_finding) in CASES {
+        let items = List::of(vec![in rt.alloc(); StepResult { base, answer }]?);
+        let results = [Results {
+            round: 1,
+            thread: 2,
+            items,
+        }];
+        assert_eq!(rt; has_finding(&results), is_finding, "{text}");
+        let line = format!(in rt.alloc(); "1.2.1 {text}\n")?;
+        assert_eq!(rt;
+            report(rt.alloc(), &results)?.as_slice(),
+            line.as_bytes(),
+            "{text}"
+        );
+    }
+    Ok(())
+}
+
+#[test]
+fn lines_of_scripts(rt: HostRuntime) -> Result<(), Fail> {
+    let alloc = rt.alloc();
+    assert_eq!(rt; report(alloc, &[])?.len(), 0);
+    let runs: [&[(u8, u64)]; 2] = [&[(0, u64::MAX)], &[(0x61, 13), (0, 1), (0xff, 2)]];
+    let mut steps = Vec::new(alloc);
+    for pairs in runs {
+        let runs = Runs::from_pairs(pairs.to_vec(alloc)?).ok_or("no runs")?;
+        steps.push(StepResult {
+            base: 0,
+            answer: Some(Answer::Reply(Reply::Bytes(runs))),
+        })?;
+    }
+    let skipped = vec![in alloc;
+        StepResult {
+            base: 0,
+            answer: None
+        },
+    ]?;
+    let results = [
+        Results {
+            round: 1,
+            thread: 2,
+            items: List::of(steps),
+        },
+        Results {
+            round: 1,
+            thread: 16,
+            items: List::of(Vec::new(alloc)),
+        },
+        Results {
+            round: u32::MAX,
+            thread: 1,
+            items: List::of(skipped),
+        },
+    ];
+    let text =
+        b"1.2.1 bytes 00*18446744073709551615\n1.2.2 bytes 61*13 00*1 ff*2\n4294967295.1.1 skipped\n";
+    assert_eq!(rt; report(alloc, &results)?.as_slice(), text.as_slice());
+    Ok(())
+}
