@@ -1,0 +1,5 @@
+use Rattle.hm_choice.proofs.Places.{comes_again}
+use Rattle.hm_choice.proofs.laws.back_law.Goals as goal
+
+pub returns : goal.returns
+returns c = comes_again
