@@ -1,0 +1,4 @@
+pub mod Ages
+pub mod Counts
+pub mod Passes
+pub mod Rings

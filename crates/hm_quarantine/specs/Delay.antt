@@ -1,0 +1,45 @@
+-- How long a freed slot stays in quarantine. `array` and `ring` are the lengths of the two.
+use Rattle.std.specs.Prelude.{◌≡◌, ℕ, ◌+◌, ◌≤◌, ◌==◌, min, not, Bool, true, false, List, [], ◌∷◌, map, length, take, Option, Some, None, IfSome}
+use Rattle.std.specs.List.{list_any, filter}
+use Rattle.hm_quarantine.specs.LookingBack.{Free, released, ArePlaces}
+
+-- whether a slot stands in the list
+abbrev pub among : ℕ → List ℕ → Bool
+among slot slots = list_any (λ x. x == slot) slots
+
+-- the list without what is released
+abbrev pub without : Option ℕ → List ℕ → List ℕ
+without None slots = slots
+without (Some slot) slots = filter (λ x. not (x == slot)) slots
+
+abbrev pub slots_of : List Free → List ℕ
+slots_of past = map (λ (free : Free). free.slot) past
+
+-- the slots in quarantine after these frees: each free brings its slot, and what it releases goes
+abbrev pub held : ℕ → ℕ → List Free → List ℕ
+held array ring [] = []
+held array ring (free ∷ past) = without (released array ring past free) (free.slot ∷ held array ring past)
+
+-- no free is of a slot that is in quarantine
+abbrev pub AreNew : ℕ → ℕ → List Free → Type 0
+AreNew array ring [] = Unit {0}
+AreNew array ring (free ∷ past) = (among free.slot (held array ring past) ≡ false) × AreNew array ring past
+
+-- how many further frees stand at least between the free of a slot and its release
+abbrev pub delay : ℕ → ℕ → ℕ
+delay array ring = ring + min array 1
+
+-- a slot that a free releases was in quarantine, and none of the latest frees is its own
+pub record IsDelayed (array ring : ℕ) (past : List Free) (free : Free) (slot : ℕ) : Type 0 where
+  pub was_held : among slot (free.slot ∷ held array ring past) ≡ true
+  pub late : among slot (take (delay array ring) (slots_of (free ∷ past))) ≡ false
+
+-- what is released is delayed
+abbrev pub Delays : Type 0
+Delays = (array ring : ℕ) (past : List Free) (free : Free) → ArePlaces array (free ∷ past)
+    → AreNew array ring (free ∷ past) → IfSome (released array ring past free) (IsDelayed array ring past free)
+
+-- no more slots are in quarantine than the array and the ring have places
+abbrev pub HoldsFew : Type 0
+HoldsFew = (array ring : ℕ) (past : List Free) → ArePlaces array past → AreNew array ring past
+    → length (held array ring past) ≤ array + ring
