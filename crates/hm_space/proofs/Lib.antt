@@ -1,0 +1,6 @@
+pub mod Apart
+pub mod Cuts
+pub mod Fits
+pub mod Joins
+pub mod Multiples
+pub mod Places
