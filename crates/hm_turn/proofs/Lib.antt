@@ -1,0 +1,5 @@
+pub mod Histories
+pub mod Views
+pub mod Numbers
+pub mod Keeps
+pub mod Callers

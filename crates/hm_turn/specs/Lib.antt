@@ -1,0 +1,9 @@
+pub mod Histories
+pub mod Callers
+pub mod Knowledge
+pub mod Known
+pub mod Views
+pub mod Sound
+pub mod Rule
+pub mod Steps
+pub mod Shelved

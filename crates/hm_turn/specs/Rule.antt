@@ -1,0 +1,83 @@
+-- The rule of a lock's table, which holds between any two steps. Word 0 is 1 while the turn is held, word 1 is the number
+-- of entries, and the one slot has the value. Spent views are excepted.
+use Rattle.std.specs.Prelude.{◌≡◌, ◌≢◌, ℕ, true, false, ◌⊎◌, List, [], ◌∷◌, length, Option, None, Some}
+use mathlib.Core.Option.{some, none}
+use lib.ListN.{get_elem?}
+use Rattle.atomic_table.specs.Table.{State}
+use Rattle.hm_model.specs.declared.entry.Entry.{Entry}
+use Rattle.hm_model.specs.Entries.{calls_of}
+use Rattle.hm_turn.specs.declared.view.View.{View}
+use Rattle.hm_turn.specs.Histories.{StartsWith}
+use Rattle.hm_turn.specs.Callers.{is_among, AreDistinct, ended_of}
+
+-- the j-th seat has this view
+abbrev pub At : List View → ℕ → View → Type 0
+At views j v = get_elem? views j ≡ some v
+
+-- what a seat knows is a beginning of the history, with all entries of its own caller
+pub record Fits (origin : List ℕ) (history : List Entry) (v : View) : Type 0 where
+  pub origin_is : v.origin ≡ origin
+  pub begins : StartsWith history v.seen
+  pub own_seen : calls_of v.seen v.caller ≡ v.mine
+  pub own_all : calls_of history v.caller ≡ v.mine
+
+-- the live seats are the chief's, whose caller is 0, and one for each caller that is out
+pub record AreSeated (root : ℕ) (chief : View) (outs : List ℕ) (views : List View) : Type 0 where
+  pub at_root : At views root chief
+  pub root_live : chief.spent ≡ false
+  pub root_zero : chief.caller ≡ 0
+  pub counted : chief.out ≡ length outs
+  pub distinct : AreDistinct outs
+  pub apart : (j k : ℕ) (v w : View) → At views j v → At views k w → v.spent ≡ false → w.spent ≡ false → v.caller ≡ w.caller → j ≡ k
+  pub live : (j : ℕ) (v : View) → At views j v → v.spent ≡ false → (v.caller ≡ 0) ⊎ (is_among v.caller outs ≡ true)
+  pub present : (c : ℕ) → is_among c outs ≡ true → (j : ℕ) × (v : View) × At views j v × (v.spent ≡ false) × (v.caller ≡ c)
+
+-- the callers that are out are the used ones that are not ended; what the history has of an ended caller is what was joined,
+-- the chief has seen it, and there is nothing of a caller never split off
+pub record AreCounted (chief : View) (outs : List ℕ) (history : List Entry) (views : List View) : Type 0 where
+  pub gone : (j : ℕ) (v : View) → At views j v → v.spent ≡ false → ended_of v.caller chief.ended ≡ None
+  pub out_used : (c : ℕ) → is_among c outs ≡ true → is_among c chief.used ≡ true
+  pub used_are : (c : ℕ) → is_among c chief.used ≡ true → (is_among c outs ≡ true) ⊎ ((calls : List Entry) × (ended_of c chief.ended ≡ Some calls))
+  pub ended_used : (c : ℕ) (calls : List Entry) → ended_of c chief.ended ≡ Some calls → is_among c chief.used ≡ true
+  pub ended_are : (c : ℕ) (calls : List Entry) → ended_of c chief.ended ≡ Some calls → (calls_of chief.seen c ≡ calls) × (calls_of history c ≡ calls)
+  pub strangers : (c : ℕ) → c ≢ 0 → is_among c chief.used ≡ false → calls_of history c ≡ []
+
+-- there is a chief, and there are callers that are out
+pub record AreKnown (history : List Entry) (views : List View) : Type 0 where
+  pub root : ℕ
+  pub chief : View
+  pub outs : List ℕ
+  pub seats : AreSeated root chief outs views
+  pub calls : AreCounted chief outs history views
+
+module _ {T : Type 0} (entries : T → List Entry) (origin_of : T → List ℕ) where
+  abbrev pub Table : Type 0
+  Table = State (Option T) View
+
+  -- the turn is free: the value is at home, the history is its entries, and no seat holds the turn
+  pub record IsHome (origin : List ℕ) (history : List Entry) (s : Table) : Type 0 where
+    pub value : T
+    pub words : s.words ≡ 0 ∷ length history ∷ []
+    pub homes : s.homes ≡ some (Some value) ∷ []
+    pub entries_are : entries value ≡ history
+    pub origin_is : origin_of value ≡ origin
+    pub none_holds : (j : ℕ) (v : View) → At s.views j v → v.holds ≡ false
+
+  -- the turn is held: one seat holds it and has the value out, and the history is what it has seen
+  pub record IsOut (history : List Entry) (s : Table) : Type 0 where
+    pub holder : ℕ
+    pub view : View
+    pub words : s.words ≡ 1 ∷ length history ∷ []
+    pub homes : s.homes ≡ none ∷ []
+    pub at_holder : At s.views holder view
+    pub holds : view.holds ≡ true
+    pub holder_live : view.spent ≡ false
+    pub knows : view.seen ≡ history
+    pub only : (j : ℕ) (v : View) → At s.views j v → v.holds ≡ true → j ≡ holder
+
+  -- there is a history: the turn is free or held, each seat knows a beginning of it, and the callers are known
+  pub record Orderly (origin : List ℕ) (s : Table) : Type 0 where
+    pub history : List Entry
+    pub place : IsHome origin history s ⊎ IsOut history s
+    pub each : (j : ℕ) (v : View) → At s.views j v → v.spent ≡ false → Fits origin history v
+    pub callers : AreKnown history s.views

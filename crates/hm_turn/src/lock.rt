@@ -1,0 +1,146 @@
+//! The lock: how it is built, and how its value is taken and given back.
+ghost use Rattle.std.specs.Prelude.{◌≡◌, [], length, IfOk, MatchResult};
+ghost use Rattle.hm_turn.specs.Knowledge.{Knowledge, founding, with_seen, with_given, with_lost};
+ghost use Rattle.hm_turn.specs.Known.{IsOf, IsTaken, MayGive, Gains, HasLost};
+ghost use Rattle.hm_turn.specs.Views.{knowing};
+ghost use Rattle.hm_turn.specs.Steps.{IsGrown};
+
+use crate::steps::{Add, Ask, Count, Free, Order, Written};
+use crate::{Held, Kept, Turn, View};
+use atomic_table::{Refused, Seat, Table};
+use hm_outside::NoMemory;
+use std::alloc::Global;
+use std::marker::{Brand, Model};
+use std::snapshot::Snapshot;
+use std::sync::Wait;
+use std::thread;
+
+/// A value that is lent to one holder at a time.
+#[derive(Drop)]
+pub struct TurnLock<T: Kept> {
+    pub(crate) table: Table<Option<T>, View, Snapshot<T>, Order<T>, Global>,
+}
+
+impl<T: Kept> Model for TurnLock<T> {
+    ghost use Rattle.std.specs.Prelude.{◌≡◌};
+    ghost use Rattle.hm_turn.specs.Known.{Lock};
+
+    ghost Value = { Lock };
+
+    ghost view = { λ l. record { id = l.table.shared.table_id; origin = T.origin l.table.shared.key.value } };
+
+    ghost invariant = { λ l. (l.table.shared.table_id.words ≡ 2) × (l.table.shared.table_id.slots ≡ 1) };
+}
+
+impl<T: Kept> TurnLock<T> {
+    /// A lock over the value, and its first turn, whose caller is 0.
+    pub fn build(alloc: Global, value: T) -> Result<(TurnLock<T>, Turn), NoMemory>
+        requires empty { T.entries value ≡ [] }
+        ensures lock { IfOk result (λ r. r.0.origin ≡ T.origin value) }
+        ensures turn { IfOk result (λ r. (r.1.lock ≡ r.0.id) × (r.1.knows ≡ founding (T.origin value))) }
+    {
+        let key = Snapshot::of(&value);
+        let mut slots = Vec::with_capacity(alloc, 1)?;
+        slots.push_reserved(Some(value));
+        match Table::new(alloc, &[0, 0], slots, &key) {
+            Ok((table, seat)) => Ok((
+                TurnLock { table },
+                Turn {
+                    badge: seat.into_badge(),
+                    caller: 0,
+                    out: 0,
+                },
+            )),
+            Err(Refused { slots: _ }) => Err(NoMemory),
+        }
+    }
+
+    /// The value, if the turn is free. At `Err` this call's one step found the turn held by another.
+    pub fn try_take(&self, turn: Turn) -> Result<Held<T>, Turn>
+        requires lock { IsOf self.now turn }
+        ensures { MatchResult result (λ held. IsTaken T.entries T.origin self.now turn held × (held.knows ≡ with_seen turn.knows (T.entries held.value))) (λ back. (back.lock ≡ turn.lock) × (back.knows ≡ with_lost turn.knows)) }
+    {
+        let Turn { badge, caller, out } = turn;
+        let shared = &self.table.shared;
+        let mut seat = badge.into_seat::<Option<T>>();
+        if shared.compare_exchange::<Ask<T>>(&mut seat, 0, 0, 1) == 0 {
+            let value = shared.exchange(&mut seat, 0, None).unwrap();
+            Ok(Held {
+                seat,
+                value,
+                caller,
+                out,
+            })
+        } else {
+            Err(Turn {
+                badge: seat.into_badge(),
+                caller,
+                out,
+            })
+        }
+    }
+
+    /// The value. It waits until the turn is got.
+    pub fn take<R: Wait>(&self, rt: &R, mut turn: Turn) -> Held<T>
+        requires lock { IsOf self.now turn }
+        ensures taken { IsTaken T.entries T.origin self.now turn result }
+        ensures knows { (k : Knowledge) × HasLost turn.knows k × (result.knows ≡ with_seen k (T.entries result.value)) }
+    {
+        for _ in rt.forever() {
+            match self.try_take(turn) {
+                Ok(held) => return held,
+                Err(back) => turn = back,
+            }
+            thread::yield_now();
+        }
+        unreachable!()
+    }
+
+    /// Puts the value back, and frees the turn, which has then seen all entries of the value.
+    pub fn give(&self, held: Held<T>) -> Turn
+        requires value { MayGive T.entries T.origin self.now held }
+        ensures lock { result.lock ≡ held.lock }
+        ensures knows { result.knows ≡ with_given held.knows (T.entries held.value) }
+        ensures gains { Gains held.knows result.knows }
+    {
+        let Held {
+            mut seat,
+            value,
+            caller,
+            out,
+        } = held;
+        let shared = &self.table.shared;
+        self.note::<Brand>(&mut seat, &value);
+        drop(shared.exchange(&mut seat, 0, Some(value)));
+        shared.store::<Free<T>>(&mut seat, 0, 0);
+        Turn {
+            badge: seat.into_badge(),
+            caller,
+            out,
+        }
+    }
+
+    /// Counts the value's last entry, if it is a new one.
+    fn note<N: Written>(&self, seat: &mut Seat<Option<T>, View>, value: &T)
+        requires named { T.entries value.now ≡ N.entries }
+        requires table { seat.old.table_id ≡ self.now.id }
+        requires grown { IsGrown seat.old.me.0 N.entries (length N.entries) }
+        ensures table { seat.new.table_id ≡ seat.old.table_id }
+        ensures knows { seat.new.me ≡ (knowing seat.old.me.0 N.entries, seat.old.me.1) }
+    {
+        self.count::<N>(seat, value.len());
+    }
+
+    /// Counts an entry, if fewer than `len` are counted.
+    fn count<N: Written>(&self, seat: &mut Seat<Option<T>, View>, len: u64)
+        requires table { seat.old.table_id ≡ self.now.id }
+        requires grown { IsGrown seat.old.me.0 N.entries len }
+        ensures table { seat.new.table_id ≡ seat.old.table_id }
+        ensures knows { seat.new.me ≡ (knowing seat.old.me.0 N.entries, seat.old.me.1) }
+    {
+        let shared = &self.table.shared;
+        if shared.load::<Count<T>>(seat, 1) < len {
+            shared.fetch_add::<Add<N>>(seat, 1, 1);
+        }
+    }
+}
