@@ -1,0 +1,77 @@
+-- A trace that is built is run.
+use Rattle.std.proofs.Common.{◌≡◌, ◌⊎◌, ℕ, ◌+◌, ◌<◌, ◌≤◌, Bool, true, false, cond, inl, inr, List, [], ◌++◌, length, Option, Some, None, String, Global, refl, sym, ◌∙◌, ap, subst, arith, true≢false, append-nil, length-append}
+use Rattle.hm_outside.specs.PageRuns.{PageRuns}
+use Rattle.hm_outside.specs.Streams.{Taken, IsEmptied}
+use Rattle.hm_trace.specs.declared.fault.TraceFault.{TraceFault}
+use Rattle.hm_trace.specs.Faults.{text_fault}
+use Rattle.hm_trace.specs.Spelling.{spelling}
+use Rattle.hm_trace.specs.Traces.{IsTrace}
+use Rattle.hm_trace.specs.Views.{ScriptView}
+use Rattle.hm_report.specs.declared.results.Results.{Results}
+use Rattle.hm_report.specs.Findings.{has_finding}
+use Rattle.hm_report.specs.Text.{report_text}
+use Rattle.hmreplay.specs.declared.closed.Closed.{Closed}
+use Rattle.hmreplay.specs.declared.refusal.Refusal.{Refusal}
+use Rattle.hmreplay.specs.declared.refusal.Refusal.TheVariants.{Usage, NotBuilt, ReadFault, TooLong}
+use Rattle.hmreplay.specs.Built.{is_built}
+use Rattle.hmreplay.specs.Endings.{Ends, TextEnds, IsRefused, status_after}
+use Rattle.hmreplay.specs.Streams.{IsReadToEnd, IsTakenPast, IsWritten}
+use Rattle.hmreplay.specs.Words.{AreRun}
+
+abbrev EndsRun : ℕ → Type 0
+EndsRun status = (status ≡ 0) ⊎ (status ≡ 1) ⊎ (status ≡ 6)
+
+none_some : (fault : TraceFault) → None ≡ Some fault → ⊥
+none_some fault e = cc
+
+-- what was read to its end is what was left
+read_all : (bytes read : List ℕ) (left' : Option (List ℕ)) → IsReadToEnd (Some bytes) left' read → read ≡ bytes
+read_all bytes read None h = absurd h.0
+read_all bytes read (Some rest) h = sym (h.0 ∙ ap (λ (l : List ℕ). read ++ l) h.1 ∙ append-nil read)
+
+-- not more than what was left is taken
+not_past : (bytes : List ℕ) (left' : Option (List ℕ)) → length bytes ≤ 67108864 → IsTakenPast 67108864 (Some bytes) left' → ⊥
+not_past bytes None short past = past.1
+not_past bytes (Some rest) short past = omega (arith, past.2, ap (λ (l : List ℕ). length l) past.1, length-append past.0 rest)
+
+finding_or_none : (b : Bool) (status : ℕ) → status ≡ cond b 1 0 → EndsRun status
+finding_or_none true status e = inr (inl e)
+finding_or_none false status e = inl e
+
+refused : (refusal : Refusal) (words : List (String Global)) (bytes : List ℕ) (left' : Option (List ℕ)) (rose : Type 0)
+    → AreRun words → length bytes ≤ 67108864 → (rose → ⊥) → IsRefused refusal words (Some bytes) left' rose → ⊥
+refused Usage words bytes left' rose are short source cause = cause are
+refused ReadFault words bytes left' rose are short source cause = source cause.1
+refused TooLong words bytes left' rose are short source cause = not_past bytes left' short cause.1
+refused NotBuilt words bytes left' rose are short source cause = cause
+
+-- the two laws of spellings that are needed
+abbrev pub Faultless : Type 0
+Faultless = (trace : List (List ScriptView)) → IsTrace trace → text_fault (spelling trace) ≡ None
+
+abbrev pub OneTrace : Type 0
+OneTrace = (one other : List (List ScriptView)) → IsTrace one → IsTrace other → spelling one ≡ spelling other → one ≡ other
+
+module _ {P : Type 0} (faultless : Faultless) (one_trace : OneTrace) (told : P → Bool) (runs : P → PageRuns) (faults : P → ℕ) (status : ℕ) (closed : Option (Closed P)) where
+  text_ends : (trace : List (List ScriptView)) (bytes : List ℕ) (held held' : Option (List ℕ)) (sink_rose : Type 0)
+      → IsTrace trace → bytes ≡ spelling trace → is_built trace ≡ true → (sink_rose → ⊥) → TextEnds told runs faults status closed bytes held held' sink_rose → EndsRun status
+  text_ends trace bytes held held' sink_rose is spelled built sink (inl ran) =
+      by_writing ran.results ran.written
+    where
+      by_writing : (results : List Results) → IsWritten status (status_after results) held held' sink_rose (report_text results) → EndsRun status
+      by_writing results (inl w) = finding_or_none (has_finding results) status w.0
+      by_writing results (inr w) = absurd (sink w.1)
+  text_ends trace bytes held held' sink_rose is spelled built sink (inr (inl faulty)) =
+      absurd (none_some faulty.fault (sym (ap text_fault spelled ∙ faultless trace is) ∙ faulty.first))
+  text_ends trace bytes held held' sink_rose is spelled built sink (inr (inr (inl unbuilt))) =
+      absurd (true≢false (sym built ∙ ap is_built (one_trace trace unbuilt.trace is unbuilt.is_trace (sym spelled ∙ unbuilt.text)) ∙ unbuilt.not_built))
+  text_ends trace bytes held held' sink_rose is spelled built sink (inr (inr (inr none))) = inr (inr none.0)
+
+  pub complete : (words : List (String Global)) (trace : List (List ScriptView)) (bytes : List ℕ) (left' held held' : Option (List ℕ)) (source_rose sink_rose : Type 0)
+      → Ends told runs faults status closed words (Some bytes) left' source_rose held held' sink_rose
+      → AreRun words → IsTrace trace → bytes ≡ spelling trace → is_built trace ≡ true → length bytes ≤ 67108864 → (source_rose → ⊥) → (sink_rose → ⊥) → EndsRun status
+  complete words trace bytes left' held held' source_rose sink_rose (inl read) are is spelled built short source sink =
+      text_ends trace read.bytes held held' sink_rose is (read_all bytes read.bytes left' read.read ∙ spelled) built sink read.ends
+  complete words trace bytes left' held held' source_rose sink_rose (inr (inl ended)) are is spelled built short source sink =
+      absurd (refused ended.refusal words bytes left' source_rose are short source ended.cause)
+  complete words trace bytes left' held held' source_rose sink_rose (inr (inr unread)) are is spelled built short source sink = inr (inr unread.status_is)

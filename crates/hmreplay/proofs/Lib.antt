@@ -1,0 +1,6 @@
+mod Addresses
+mod Closing
+mod Completed
+mod Pushed
+mod Putting
+mod Taking

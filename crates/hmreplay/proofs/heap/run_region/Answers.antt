@@ -1,0 +1,11 @@
+use Rattle.hmreplay.proofs.Closing.{kept, closing}
+use Rattle.hm_trace.specs.Views.{steps_view}
+use Rattle.hmreplay.proofs.heap.run_region.Goals as goal
+
+pub returns : goal.returns
+returns g c =
+    let told = g.M.P.Pages.told in
+    let runs = g.M.P.Pages.runs in
+    let faults = g.M.P.Pages.faults in
+    closing told runs faults c.run_steps.new.heap _ _ (steps_view c.args.steps.now) c.in_ok-items.items.items
+    (kept told runs faults _ _ c.in_ok-items.ensures.name c.in_ok-heap.ensures.first) c.in_ok-items.ensures.region c.in_ok-items.ensures.plain c.in_ok-items.ensures.ran c.in_ok-closed.ensures

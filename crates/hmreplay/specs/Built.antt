@@ -1,0 +1,38 @@
+-- The traces that are built so far.
+use Rattle.std.specs.Prelude.{◌≡◌, ◌⊎◌, Bool, true, false, ◌&&◌, ◌==◌, nat_le, List, [], ◌∷◌, length, ℤ, pos}
+use Rattle.std.specs.List.{list_all}
+use Rattle.hm_trace.specs.Views.{Named, StepView, Malloc, Free, ScriptView}
+
+-- no offset
+abbrev pub is_plain : ℤ → Bool
+is_plain (pos n) = n == 0
+is_plain offset = false
+
+-- an allotment of a size from 89 to 104, or a free of what a name holds
+abbrev pub is_built_step : StepView → Bool
+is_built_step (Malloc name size) = nat_le 89 size && nat_le size 104
+is_built_step (Free (Named name offset)) = is_plain offset
+is_built_step step = false
+
+-- at most 1,000 such steps of thread 1
+abbrev pub is_built_script : ScriptView → Bool
+is_built_script s = s.thread == 1 && nat_le (length s.steps) 1000 && list_all is_built_step s.steps
+
+-- at most one round with at most one script
+abbrev pub is_built : List (List ScriptView) → Bool
+is_built [] = true
+is_built ([] ∷ []) = true
+is_built ((s ∷ []) ∷ []) = is_built_script s
+is_built rounds = false
+
+-- the steps of such a trace
+abbrev pub steps_of : List (List ScriptView) → List StepView
+steps_of ((s ∷ []) ∷ []) = s.steps
+steps_of rounds = []
+
+-- such a trace has this script, or none
+abbrev pub HasScript : List (List ScriptView) → ScriptView → Type 0
+HasScript rounds s = (rounds ≡ (s ∷ []) ∷ []) × (is_built_script s ≡ true)
+
+abbrev pub HasNoScript : List (List ScriptView) → Type 0
+HasNoScript rounds = (rounds ≡ []) ⊎ (rounds ≡ [] ∷ [])

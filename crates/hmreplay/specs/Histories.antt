@@ -1,0 +1,62 @@
+-- What a run leaves: the history of its region, beside its pages.
+use Rattle.std.specs.Prelude.{◌≡◌, ℕ, Bool, false, IsTrue, List, [], ◌∷◌, Option, Some, None}
+use Rattle.hm_outside.specs.PageRuns.{PageRuns}
+use Rattle.hm_sizes.specs.declared.config.Config.{Config}
+use Rattle.hm_sizes.specs.declared.shape.Shape.{Shape}
+use Rattle.hm_sizes.specs.Configs.{standard}
+use Rattle.hm_sizes.specs.Shapes.{shape_of}
+use Rattle.hm_class_rules.specs.Rules.{Terms, IsLegal, state}
+use Rattle.hm_class.specs.Region.{Region, HoldsSlabs, region_shape}
+use Rattle.hm_report.specs.declared.results.StepResult.{StepResult}
+use Rattle.hm_trace.specs.Views.{StepView}
+use Rattle.hmreplay.specs.declared.closed.History.{History}
+use Rattle.hmreplay.specs.declared.closed.Closed.{Closed}
+use Rattle.hmreplay.specs.Scripts.{Settings, Runs, ArePlain}
+
+-- ---- the one region: class 7 of arena 0, without a quarantine, nothing being said of bytes
+abbrev pub config : Config
+config = record standard { array_base = 0; ring_base = 0 }
+
+abbrev pub shape : Shape
+shape = shape_of config 0 (record { 0 = 7 }) 4096
+
+abbrev pub terms : Terms
+terms = record { config = config; shape = shape; told = false }
+
+-- the region as contracts see it
+pub record IsFirstRegion {P : Type 0} (r : Region P) : Type 0 where
+  pub config_is : r.config ≡ config
+  pub number_is : r.number ≡ 0
+  pub arena_is : r.arena ≡ 0
+  pub class_is : r.class ≡ record { 0 = 7 }
+
+-- ---- what is closed
+module _ {P : Type 0} (told : P → Bool) (runs : P → PageRuns) (faults : P → ℕ) where
+  -- the history of region 7 beside its pages: it is legal, its counts are the pages' own, their runs are its open slabs, and its entries are exactly the calls of these steps, each once, in order
+  pub record IsHistory (h : History) (p : P) (steps : List StepView) (results : List StepResult) : Type 0 where
+    pub region : h.region.0 ≡ 7
+    pub first : h.first ≡ shape.first
+    pub legal : IsLegal terms h.entries
+    pub plain : ArePlain h.entries
+    pub counted : h.faults ≡ faults p
+    pub last : h.faults ≡ (state terms h.entries).faults
+    pub slabs : IsTrue (told p) → HoldsSlabs shape (state terms h.entries) (runs p)
+    pub settings : Settings
+    pub calls : Runs 1 [] steps h.entries results settings
+
+  -- there is one history, and one pages beside it
+  abbrev pub AreClosed : List History → List P → List StepView → List StepResult → Type 0
+  AreClosed (h ∷ []) (p ∷ []) steps results = IsHistory h p steps results
+  AreClosed histories pages steps results = ⊥
+
+  abbrev pub Closes : Option (Closed P) → List StepView → List StepResult → Type 0
+  Closes None steps results = ⊥
+  Closes (Some c) steps results = AreClosed c.histories c.pages steps results
+
+-- the region was closed as it was
+abbrev pub HasClosed : {P : Type 0} → (P → ℕ) → List History → List P → Region P → Type 0
+HasClosed faults (h ∷ []) (p ∷ []) r = (h.region.0 ≡ 7) × (h.first ≡ (region_shape r).first) × (h.entries ≡ r.entries) × (h.faults ≡ faults p) × (p ≡ r.pages)
+HasClosed faults histories pages r = ⊥
+
+abbrev pub IsClosedAs : {P : Type 0} → (P → ℕ) → Closed P → Region P → Type 0
+IsClosedAs faults c r = HasClosed faults c.histories c.pages r

@@ -1,0 +1,64 @@
+//! `hmreplay run` reads a trace from standard input, runs it and writes one line a step. It ends with
+//! the status of `replay`; with 9 where the words after its name could not be taken from the system,
+//! and with 6 where there was no memory for them.
+#![tactic(auto)]
+
+mod built;
+mod closed;
+mod heap;
+mod laws;
+mod names;
+mod reading;
+mod refusal;
+mod run;
+mod script;
+#[cfg(test)]
+mod tests;
+mod trace_fault;
+mod words;
+mod writing;
+
+use hm_outside::{NoGate, PlainMaker, StdinSource, StdoutSink};
+use run::replay;
+use std::env;
+use std::io::ErrorKind;
+use std::process::ExitCode;
+
+// The words after the program's name, or the status to end with.
+fn take_words(rt: &HostRuntime) -> Result<Vec<String>, u8> {
+    let mut words = Vec::new(rt.alloc());
+    match env::args(rt) {
+        Ok(all) => {
+            for word in all.skip(1) {
+                if words.push(word).is_err() {
+                    return Err(6);
+                }
+            }
+            Ok(words)
+        }
+        Err(error) => match error.kind() {
+            ErrorKind::OutOfMemory => Err(6),
+            _ => Err(9),
+        },
+    }
+}
+
+fn main(rt: HostRuntime) -> ExitCode {
+    match take_words(&rt) {
+        Err(status) => ExitCode::from(status),
+        Ok(words) => {
+            let mut source = StdinSource::new(rt.stdin().lock());
+            let mut sink = StdoutSink::new(rt.stdout());
+            let run = replay(
+                &rt,
+                rt.alloc(),
+                &words,
+                &mut source,
+                &mut sink,
+                &mut PlainMaker,
+                &NoGate,
+            );
+            ExitCode::from(run.status)
+        }
+    }
+}

@@ -1,0 +1,61 @@
+//! Reading a source to its end, in pieces, up to a limit.
+ghost use Rattle.std.specs.Prelude.{◌≡◌, ◌≤◌, length, IfOk, IsErrOf};
+ghost use Rattle.hm_outside.specs.Causes.{Rose};
+ghost use Rattle.hmreplay.specs.Streams.{IsReadToEnd, IsTakenPast, IsTakenWithin};
+
+use hm_outside::Source;
+use std::alloc::Global;
+
+/// The most bytes that are read.
+const LIMIT: usize = 67_108_864;
+
+/// The most bytes of a piece.
+const PIECE: usize = 65_536;
+
+/// Why a source was not read to its end.
+#[derive(Clone, Copy, Debug, PartialEq, Eq)]
+pub enum ReadStop {
+    NoMemory,
+    Fault,
+    TooLong,
+}
+
+/// All bytes of the source. Each turn but the last takes at least one byte, and at most one byte past
+/// the limit is taken.
+pub fn read_all<S: Source>(alloc: Global, source: &mut S) -> Result<Vec<u8>, ReadStop>
+    ensures whole { IfOk result (λ v. IsReadToEnd (S.left source.old) (S.left source.new) v.items) }
+    ensures within { IfOk result (λ v. length v.items ≤ 67108864) }
+    ensures fault { IsErrOf result ReadStop.Fault → Rose (S.faults source.old) (S.faults source.new) }
+    ensures bound { IsTakenWithin 67108865 (S.left source.old) (S.left source.new) }
+    ensures long { IsErrOf result ReadStop.TooLong → IsTakenPast 67108864 (S.left source.old) (S.left source.new) }
+{
+    match vec![in alloc; 0u8; PIECE] {
+        Ok(mut piece) => read_by(alloc, source, &mut piece),
+        Err(_) => Err(ReadStop::NoMemory),
+    }
+}
+
+// All bytes of the source, each piece of them by way of a buffer.
+fn read_by<S: Source>(alloc: Global, source: &mut S, piece: &mut [u8]) -> Result<Vec<u8>, ReadStop>
+    requires { length piece.old ≡ 65536 }
+    ensures whole { IfOk result (λ v. IsReadToEnd (S.left source.old) (S.left source.new) v.items) }
+    ensures within { IfOk result (λ v. length v.items ≤ 67108864) }
+    ensures fault { IsErrOf result ReadStop.Fault → Rose (S.faults source.old) (S.faults source.new) }
+    ensures bound { IsTakenWithin 67108865 (S.left source.old) (S.left source.new) }
+    ensures long { IsErrOf result ReadStop.TooLong → IsTakenPast 67108864 (S.left source.old) (S.left source.new) }
+{
+    let mut bytes = Vec::new(alloc);
+    'turns: while bytes.len() <= LIMIT {
+        let room = (LIMIT + 1 - bytes.len()).min(PIECE);
+        match source.take(&mut piece[..room]) {
+            Err(_) => return Err(ReadStop::Fault),
+            Ok(0) => return Ok(bytes),
+            Ok(count) => {
+                if bytes.extend_from_slice(&piece[..count]).is_err() {
+                    return Err(ReadStop::NoMemory);
+                }
+            }
+        }
+    }
+    Err(ReadStop::TooLong)
+}

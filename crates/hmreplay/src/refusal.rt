@@ -1,0 +1,42 @@
+//! Why a run is refused before its script runs: the status it ends with and the line it writes.
+ghost use Rattle.std.specs.Prelude.{◌≡◌};
+
+/// Why a run is refused.
+#[derive(Clone, Copy, Debug, PartialEq, Eq)]
+pub enum Refusal {
+    /// The words after the program's name are not accepted.
+    Usage,
+    /// The source failed.
+    ReadFault,
+    /// The source has more bytes than are read.
+    TooLong,
+    /// The bytes are no text that runs so far.
+    NotBuilt,
+}
+
+impl Refusal {
+    ghost use Rattle.hmreplay.specs.Endings.{status_of, line_of};
+
+    pub fn status(self) -> u8
+        ensures { result ≡ status_of self }
+    {
+        match self {
+            Refusal::Usage => 2,
+            Refusal::ReadFault => 4,
+            Refusal::TooLong => 7,
+            Refusal::NotBuilt => 8,
+        }
+    }
+
+    /// The line, with its line feed.
+    pub fn line(self) -> &'static [u8]
+        ensures { result.now ≡ line_of self }
+    {
+        match self {
+            Refusal::Usage => b"fault: usage\n",
+            Refusal::ReadFault => b"fault: read\n",
+            Refusal::TooLong => b"fault: too long\n",
+            Refusal::NotBuilt => b"fault: not built\n",
+        }
+    }
+}
