@@ -1,1 +1,4 @@
 pub mod Apart
+pub mod Lists
+pub mod Overlaid
+pub mod RunsOf

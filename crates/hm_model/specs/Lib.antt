@@ -1,2 +1,5 @@
 pub mod Runs
 pub mod Entries
+pub mod Machine
+pub mod Maps
+pub mod Overlaid

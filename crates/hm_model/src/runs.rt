@@ -1,7 +1,10 @@
 //! Bytes as runs of equal ones.
-ghost use Rattle.std.specs.Prelude.{◌≡◌, ◌^◌, ◌<◌, ◌↔◌, IsTrue, IsSome, IfSome};
-ghost use Rattle.hm_model.specs.Runs.{total, AreApart, AreRuns};
+ghost use Rattle.std.specs.Prelude.{◌≡◌, ◌==◌, ◌^◌, ◌<◌, ◌≤◌, ◌↔◌, length, replicate, IsTrue, IsSome, IfSome, IfOk};
+ghost use Rattle.std.specs.List.{prefix_len};
+ghost use Rattle.hm_model.specs.Runs.{expand, total, runs_of, same_runs, AreApart, AreRuns};
 
+use hm_outside::NoMemory;
+use std::alloc::Global;
 use std::marker::Model;
 
 /// Bytes as pairs of a byte and how often it stands there.
@@ -22,6 +25,65 @@ impl Model for Runs {
 }
 
 impl Runs {
+    /// The runs of these bytes: neighbours that are equal stand in one.
+    pub fn of(alloc: Global, bytes: &[u8]) -> Result<Runs, NoMemory>
+        ensures value { IfOk result (λ runs. runs ≡ runs_of bytes.now) }
+        ensures bytes { IfOk result (λ runs. expand runs ≡ bytes.now) }
+    {
+        let mut pairs = Vec::new(alloc);
+        let mut start = 0;
+        while start < bytes.len() {
+            let byte = bytes[start];
+            let len = leading(&bytes[start..], byte);
+            pairs.push((byte, len as u64))?;
+            start += len;
+        }
+        Ok(Runs { pairs })
+    }
+
+    /// The runs of one byte, so many times.
+    pub fn same(alloc: Global, byte: u8, len: u64) -> Result<Runs, NoMemory>
+        ensures value { IfOk result (λ runs. runs ≡ same_runs byte len) }
+        ensures bytes { IfOk result (λ runs. expand runs ≡ replicate len byte) }
+    {
+        let mut pairs = Vec::new(alloc);
+        if len > 0 {
+            pairs.push((byte, len))?;
+        }
+        Ok(Runs { pairs })
+    }
+
+    /// The same runs once more.
+    pub fn copy(&self) -> Result<Runs, NoMemory>
+        ensures { IfOk result (λ runs. runs ≡ self.now) }
+    {
+        let pairs = self.pairs.clone()?;
+        Ok(Runs { pairs })
+    }
+
+    /// The bytes that they stand for.
+    pub fn to_vec(&self, alloc: Global) -> Result<Vec<u8>, NoMemory>
+        ensures { IfOk result (λ bytes. bytes.items ≡ expand self.now) }
+    {
+        let mut bytes = Vec::new(alloc);
+        for (byte, len) in &self.pairs {
+            bytes.resize(bytes.len() + *len as usize, *byte)?;
+        }
+        Ok(bytes)
+    }
+
+    /// How many bytes they stand for.
+    pub fn len(&self) -> u64
+        ensures value { result ≡ total self.now }
+        ensures bytes { result ≡ length (expand self.now) }
+    {
+        let mut bytes = 0;
+        for (_, len) in &self.pairs {
+            bytes += *len;
+        }
+        bytes
+    }
+
     /// The bytes that these pairs stand for, unless they break a rule of runs: none is of length 0,
     /// neighbours have different bytes, and the lengths sum to a `u64`.
     pub fn from_pairs(pairs: Vec<(u8, u64)>) -> Option<Runs>
@@ -41,6 +103,14 @@ impl Runs {
     {
         &self.pairs
     }
+}
+
+/// How many equal bytes stand in front.
+fn leading(bytes: &[u8], byte: u8) -> usize
+    ensures count { result ≡ prefix_len (λ b. b == byte) bytes.now }
+    ensures within { result ≤ length bytes.now }
+{
+    bytes.iter().take_while(|b| **b == byte).count()
 }
 
 /// Whether no run is empty, and neighbouring bytes are different.
@@ -95,6 +165,33 @@ mod tests {
                 None => assert!(rt; !are_runs, "{pairs:?}"),
             }
         }
+        Ok(())
+    }
+
+    #[test]
+    fn runs_of_bytes(rt: HostRuntime) -> Result<(), Fail> {
+        let cases: [(&[u8], &[(u8, u64)]); 5] = [
+            (&[], &[]),
+            (&[7], &[(7, 1)]),
+            (&[0, 0, 0], &[(0, 3)]),
+            (&[1, 2, 1], &[(1, 1), (2, 1), (1, 1)]),
+            (&[0, 0, 5, 5, 5, 0], &[(0, 2), (5, 3), (0, 1)]),
+        ];
+        for (bytes, pairs) in cases {
+            let runs = Runs::of(rt.alloc(), bytes)?;
+            assert_eq!(rt; runs.pairs(), pairs);
+            assert_eq!(rt; runs.copy()?.pairs(), pairs);
+            assert_eq!(rt; runs.len(), bytes.len() as u64);
+        }
+        Ok(())
+    }
+
+    #[test]
+    fn runs_of_one_byte(rt: HostRuntime) -> Result<(), Fail> {
+        assert!(rt; Runs::same(rt.alloc(), 7, 0)?.pairs().is_empty());
+        let longest = Runs::same(rt.alloc(), 7, u64::MAX)?;
+        assert_eq!(rt; longest.pairs(), [(7, u64::MAX)].as_slice());
+        assert_eq!(rt; longest.len(), u64::MAX);
         Ok(())
     }
 }

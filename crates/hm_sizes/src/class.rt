@@ -1,9 +1,11 @@
 //! The 49 size classes, and where a request goes.
 ghost use Rattle.std.specs.Prelude.{◌≡◌};
-ghost use Rattle.hm_sizes.specs.Sizes.{raised, IsKindOf};
+ghost use Rattle.std.specs.Prelude.{◌<◌};
+ghost use Rattle.hm_sizes.specs.Classes.{class_count, class_size};
+ghost use Rattle.hm_sizes.specs.Sizes.{raised, block_size, IsKindOf};
 
 use crate::large::large_size;
-use crate::table::SIZE_CLASSES;
+use crate::table::{SIZE_CLASSES, numbers_of};
 
 /// A size class, from 0 to 48.
 #[derive(Clone, Copy, Debug, PartialEq, Eq, PartialOrd, Ord, Drop)]
@@ -36,6 +38,30 @@ pub fn class_of(asked: u64) -> Kind
         Kind::Small(ClassId(class as u8))
     } else {
         Kind::Large(large_size(raised(asked)))
+    }
+}
+
+/// The size of the block for a request of this many bytes: the class size of a small one, the rounded
+/// size of a large one, and the request itself where it is not served.
+pub fn block_size(asked: u64) -> u64
+    ensures { result ≡ block_size asked }
+{
+    match class_of(asked) {
+        Kind::Small(class) => class_size(class),
+        Kind::Large(size) => size,
+        Kind::TooLarge => asked,
+    }
+}
+
+/// The size of a block of a class.
+fn class_size(class: ClassId) -> u64
+    requires { class.0 < class_count }
+    ensures { result ≡ class_size class.0 }
+{
+    if class.0 == 0 {
+        0
+    } else {
+        numbers_of(class).slot
     }
 }
 

@@ -10,7 +10,7 @@ mod laws;
 mod shape;
 mod table;
 
-pub use class::{ClassId, Kind, class_of};
+pub use class::{ClassId, Kind, block_size, class_of};
 pub use config::Config;
 pub use home::Home;
 pub use laws::{guard_law, place_laws, region_laws, size_laws};

@@ -2,7 +2,7 @@
 ghost use Rattle.std.specs.Prelude.{◌≡◌, ◌+◌, ◌*◌, ◌%◌, ◌^◌, ◌<◌, ◌≤◌};
 ghost use Rattle.hm_sizes.specs.Classes.{class_count};
 ghost use Rattle.hm_sizes.specs.Configs.{IsValid};
-ghost use Rattle.hm_sizes.specs.Shapes.{shape_of, is_guard, IsShape, PlaceGives};
+ghost use Rattle.hm_sizes.specs.Shapes.{shape_of, is_guard, has_bytes, usable, class_size_of, IsShape, PlaceGives};
 
 use crate::table::{CLASSES, numbers_of};
 use crate::{ClassId, Config};
@@ -82,10 +82,32 @@ pub fn place_of(shape: &Shape, addr: u64) -> Option<(u64, u32)>
 
 impl Shape {
     /// Whether the slab of this number is a guard.
-    fn is_guard(&self, slab: u64) -> bool
+    pub fn is_guard(&self, slab: u64) -> bool
         requires { self.now.guard_interval ≤ 8 }
         ensures { result ≡ is_guard self.now slab }
     {
         slab % (u64::from(self.guard_interval) + 1) == u64::from(self.guard_interval)
+    }
+
+    /// Whether slots have bytes and canaries: all but those of class 0.
+    pub fn has_bytes(&self) -> bool
+        ensures { result ≡ has_bytes self.now }
+    {
+        self.class.0 != 0
+    }
+
+    /// The bytes of a slot that its owner may use: all but the canary's 8.
+    pub fn usable(&self) -> u64
+        requires { 16 ≤ self.now.slot }
+        ensures { result ≡ usable self.now }
+    {
+        if self.has_bytes() { self.slot - 8 } else { 0 }
+    }
+
+    /// The size of a block: a slot's, but 0 in class 0.
+    pub fn class_size(&self) -> u64
+        ensures { result ≡ class_size_of self.now }
+    {
+        if self.has_bytes() { self.slot } else { 0 }
     }
 }
