@@ -8,14 +8,14 @@ use Rattle.hm_model.specs.declared.entry.Reply.{Reply}
 use Rattle.hm_model.specs.declared.entry.Reply.TheVariants.{Given, Overwritten, Freed, Filled}
 use Rattle.hm_model.specs.declared.entry.Choices.{Choices}
 use Rattle.hm_sizes.specs.declared.shape.Shape.{Shape}
-use Rattle.hm_class_rules.specs.Machine.{run, Legal, Legal_split}
-use Rattle.hm_class_rules.specs.Maps.{among, without}
+use Rattle.hm_model.specs.Machine.{run, Legal, Legal_split}
+use Rattle.hm_model.specs.Maps.{among, without}
 use Rattle.hm_class_rules.specs.State.{State, start}
 use Rattle.hm_sizes.specs.Shapes.{delay, place}
 use Rattle.hm_class_rules.specs.Steps.{taken_new, opened, takes_back, releases, unparks, retires, purges, moved, step}
 use Rattle.hm_class_rules.specs.Rules.{Terms, Allows, Allowed, AllowsFreed, AllowsGiven, Releases}
 use Rattle.hm_class_rules.specs.Laws.{is_freed, frees_in, IsFreedAt, IsGivenAt, Delays}
-use Rattle.hm_class_rules.proofs.Lists.{times_among, among_times, same_eq, without_other}
+use Rattle.hm_model.proofs.Lists.{times_among, among_times, same_eq, without_other}
 use Rattle.hm_class_rules.proofs.Legal.{picked_uses}
 
 -- what stands among the latest few stands among the latest more
@@ -50,7 +50,7 @@ waits_released p s a k (Some b) allows held recent =
     (cases_eq b a)
 
 -- what comes after the release leaves quarantine and frees
-out_held : (p : Shape) (s : State) (r q u : Option ℕ) → (purges p q (retires r (unparks u s))).held ≡ s.held
+pub out_held : (p : Shape) (s : State) (r q u : Option ℕ) → (purges p q (retires r (unparks u s))).held ≡ s.held
 out_held p s None None None = refl
 out_held p s None None (Some u) = refl
 out_held p s None (Some q) None = refl
@@ -60,7 +60,7 @@ out_held p s (Some r) None (Some u) = refl
 out_held p s (Some r) (Some q) None = refl
 out_held p s (Some r) (Some q) (Some u) = refl
 
-out_frees : (p : Shape) (s : State) (r q u : Option ℕ) → (purges p q (retires r (unparks u s))).frees ≡ s.frees
+pub out_frees : (p : Shape) (s : State) (r q u : Option ℕ) → (purges p q (retires r (unparks u s))).frees ≡ s.frees
 out_frees p s None None None = refl
 out_frees p s None None (Some u) = refl
 out_frees p s None (Some q) None = refl
@@ -78,11 +78,11 @@ new_frees : (p : Shape) (l : List ℕ) (s : State) → (taken_new p l s).frees �
 new_frees p [] s = refl
 new_frees p (m ∷ ms) s = refl
 
-opened_held : (p : Shape) (o canary : Option ℕ) (s : State) → (opened p o canary s).held ≡ s.held
+pub opened_held : (p : Shape) (o canary : Option ℕ) (s : State) → (opened p o canary s).held ≡ s.held
 opened_held p None canary s = refl
 opened_held p (Some n) canary s = new_held p s.shut s
 
-opened_frees : (p : Shape) (o canary : Option ℕ) (s : State) → (opened p o canary s).frees ≡ s.frees
+pub opened_frees : (p : Shape) (o canary : Option ℕ) (s : State) → (opened p o canary s).frees ≡ s.frees
 opened_frees p None canary s = refl
 opened_frees p (Some n) canary s = new_frees p s.shut s
 

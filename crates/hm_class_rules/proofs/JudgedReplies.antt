@@ -3,7 +3,7 @@ use Rattle.std.proofs.Common.{◌≡◌, ℕ, Bool, true, false, Option, None, s
 use Rattle.std.proofs.lemmas.Bool.{false_from_ne_true}
 use Rattle.hm_model.specs.declared.entry.Reply.{Reply}
 use Rattle.hm_model.specs.declared.entry.Reply.TheVariants.{NoSlot, Unused, DoubleFree, WrongSize, Canary, Freed}
-use Rattle.hm_class_rules.specs.Maps.{among}
+use Rattle.hm_model.specs.Maps.{among}
 use Rattle.hm_class_rules.specs.State.{State, is_live}
 use Rattle.hm_sizes.specs.Shapes.{is_slot, slab_of, slot_of}
 use Rattle.hm_class_rules.specs.Rules.{Terms, wrong_size, wrong_canary}

@@ -1,9 +1,8 @@
 -- Laws of all legal histories.
-use Rattle.std.proofs.Common.{◌≡◌, ◌≢◌, ◌⊎◌, inl, inr, ⊎_elim, ℕ, zero, suc, ◌+◌, ◌*◌, ◌%◌, ◌<◌, ◌≤◌, ◌==◌, Bool, true, false, cond, not, ◌&&◌, nat_lt, List, [], ◌∷◌, length, Option, Some, None, sym, ◌∙◌, ap, subst, refl, arith, true≢false}
+use Rattle.std.proofs.Common.{◌≡◌, ◌≢◌, ◌⊎◌, inl, inr, ⊎_elim, ℕ, zero, suc, ◌+◌, ◌*◌, ◌<◌, ◌≤◌, Bool, true, false, cond, not, ◌&&◌, nat_lt, List, [], ◌∷◌, length, Option, Some, None, sym, ◌∙◌, ap, subst, refl, arith, true≢false}
 use Rattle.std.specs.List.{list_all, range_with_len}
 use Rattle.std.proofs.lemmas.Bool.{cases_lt, and_parts}
 use Rattle.std.proofs.lemmas.Nat.{rows}
-use Rattle.std.proofs.lemmas.Bool.Decides.{nat_tests}
 use Rattle.hm_model.specs.declared.entry.Entry.{Entry}
 use Rattle.hm_model.specs.declared.entry.Call.{Call}
 use Rattle.hm_model.specs.declared.entry.Call.TheVariants.{Allot, GiveBack, Fill}
@@ -11,10 +10,11 @@ use Rattle.hm_model.specs.declared.entry.Reply.{Reply}
 use Rattle.hm_model.specs.declared.entry.Reply.TheVariants.{Given, Overwritten, Freed, Filled}
 use Rattle.hm_model.specs.declared.entry.Choices.{Choices}
 use Rattle.hm_sizes.specs.declared.shape.Shape.{Shape}
-use Rattle.hm_class_rules.specs.Machine.{Legal_push, Legal_split, run_keeps}
-use Rattle.hm_class_rules.specs.Maps.{among}
+use Rattle.hm_model.specs.Machine.{Legal_push, Legal_split, run_keeps}
+use Rattle.hm_model.specs.Maps.{among}
 use Rattle.hm_class_rules.specs.State.{State, start, is_open, is_taken, is_free, is_empty, empty_slabs, unopened}
-use Rattle.hm_sizes.specs.Shapes.{place, slab_of, slot_of, is_slot, IsPlaceOf}
+use Rattle.hm_sizes.proofs.PlaceTest.{place_is}
+use Rattle.hm_sizes.specs.Shapes.{place, slab_of, slot_of, IsPlaceOf}
 use Rattle.hm_model.specs.Runs.{expand}
 use Rattle.hm_class_rules.specs.Steps.{opened, takes_back, releases, unparks, retires, purges, moved, step}
 use Rattle.hm_class_rules.specs.Rules.{Terms, Allows, Allowed, state, Source, Picks, AllowsFreed, Empties, surplus, Unparks}
@@ -87,7 +87,7 @@ unparked_was t s before now c None a v e = absurd (none_some v (sym a.2 ∙ e))
 unparked_was t s before now c (Some m) a v e =
     ⊎_elim (λ l. unparks_one t.config.park_length s.parked c.unparked v l.2 e) (λ r. absurd (none_some v (sym r.2 ∙ e))) a
 
-retired_was : (t : Terms) (s : State) (before now : ℕ) (c : Choices) (o : Option ℕ) → Empties t s before now c o → (m : ℕ) → c.retired ≡ Some m → o ≡ Some m
+pub retired_was : (t : Terms) (s : State) (before now : ℕ) (c : Choices) (o : Option ℕ) → Empties t s before now c o → (m : ℕ) → c.retired ≡ Some m → o ≡ Some m
 retired_was t s before now c None a m e = absurd (none_some m (sym a.0 ∙ e))
 retired_was t s before now c (Some k) a m e = ⊎_elim (λ l. sym l.0 ∙ e) (λ r. absurd (none_some m (sym r.0 ∙ e))) a
 
@@ -101,22 +101,6 @@ sound_freed t s before now c a stated shape h allows =
     out_purge p _ c.purged (out_retire p (unparks c.unparked s₂) c.retired shape
     (λ m e. same_empty p s₂ c.unparked m (surplus_empty p s₂ c.released m (retired_was t s₂ before now c (surplus p s₂ c.released) allows.emptied m e)))
     h₃)
-
-below : (a b : ℕ) → nat_lt a b ≡ true → a < b
-below a b e = grind (arith, nat_tests)
-
-same : (a b : ℕ) → (a == b) ≡ true → a ≡ b
-same a b e = grind (arith, nat_tests)
-
-other : (a b : ℕ) → not (a == b) ≡ true → a ≡ b → ⊥
-other a b e = grind (arith, nat_tests)
-
-pub place_is : (p : Shape) (a n i : ℕ) → is_slot p a n i ≡ true → IsPlaceOf p a n i
-place_is p a n i e =
-    let x = and_parts (nat_lt n p.limit) (not (n % (p.guard_interval + 1) == p.guard_interval) && (nat_lt i p.slots && (place p n i == a))) e in
-    let y = and_parts (not (n % (p.guard_interval + 1) == p.guard_interval)) (nat_lt i p.slots && (place p n i == a)) x.1 in
-    let z = and_parts (nat_lt i p.slots) (place p n i == a) y.1 in
-    record { below = below n p.limit x.0; no_guard = other _ _ y.0; slot = below i p.slots z.0; is = sym (same (place p n i) a z.1) }
 
 pub picked_place : (p : Shape) (s now : State) (c : Choices) (a : ℕ) → Picks p s now c a → IsPlaceOf p a (slab_of p a) (slot_of p a)
 picked_place p s now c a k = place_is p a (slab_of p a) (slot_of p a) k.place
@@ -157,7 +141,7 @@ pub sound : Sound
 sound t es shape legal = run_keeps (step t.shape) (Allowed t) (IsSound t.shape) (λ s e h allowed. sound_step t s e shape h allowed) start es (sound_start t.shape shape) legal
 
 -- ---- live slots
-slot_row : (slot i n : ℕ) → i < n → i * slot + slot ≤ n * slot
+pub slot_row : (slot i n : ℕ) → i < n → i * slot + slot ≤ n * slot
 slot_row slot i n lt = grind (arith, rows)
 
 slab_row : (first slab m n : ℕ) → m < n → (first + m * slab) + slab ≤ first + n * slab

@@ -8,14 +8,15 @@ use Rattle.std.proofs.lemmas.Bool.Decides.{nat_tests}
 use Rattle.std.specs.Int.{to_le_bytes}
 use mir.Syntax.{w64}
 use Rattle.hm_sizes.specs.declared.shape.Shape.{Shape}
-use Rattle.hm_class_rules.specs.Maps.{among, times, has, removed, put, keys}
+use Rattle.hm_model.specs.Maps.{among, times, has, removed, put, keys}
 use Rattle.hm_class_rules.specs.State.{State, Slab, is_open, is_live, is_taken, is_free, is_empty, unopened}
 use Rattle.hm_sizes.specs.Shapes.{place, IsPlaceOf, IsGuard, after, usable}
-use Rattle.hm_class_rules.specs.Bytes.{write, overlaid_slabs, zeros, kept_canary}
+use Rattle.hm_class_rules.specs.Bytes.{write, overlaid_slabs, kept_canary}
+use Rattle.hm_outside.specs.PageRuns.{zeros}
 use Rattle.hm_class_rules.specs.Steps.{taken_new, new_slab, opened, gives, condemns, takes_back, releases, unparks, retires}
 use Rattle.hm_sizes.specs.Shapes.{IsShape}
 use Rattle.hm_class_rules.specs.Laws.{uses, slab_uses, StandsIn, IsSound}
-use Rattle.hm_class_rules.proofs.Lists.{times_among, among_times, times_none, same_eq, other_eq, times_here, times_apart, without_same, without_other, without_le, times_append, keys_removed, has_keys}
+use Rattle.hm_model.proofs.Lists.{times_among, among_times, times_none, same_eq, other_eq, times_here, times_apart, without_same, without_other, without_le, times_append, keys_removed, has_keys}
 
 -- ---- numbers that are no guard
 two : (x n : ℕ) → x ≡ n + 2 → x ≡ (n + 1) + 1

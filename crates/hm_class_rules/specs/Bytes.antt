@@ -1,9 +1,10 @@
 -- The bytes of a class region.
-use Rattle.std.specs.Prelude.{ℕ, zero, suc, unwrap_or, ◌+◌, ◌-◌, ◌%◌, ◌==◌, nat_lt, nat_le, ◌&&◌, if◌then◌else◌, List, [], ◌∷◌, map, length, take, drop, get_or, replicate, slice_get, Option, Some, None, is_some}
+use Rattle.std.specs.Prelude.{ℕ, zero, suc, unwrap_or, ◌+◌, ◌-◌, ◌%◌, ◌==◌, nat_lt, if◌then◌else◌, List, [], ◌∷◌, map, take, drop, slice_get, Option, Some, None, is_some}
 use Rattle.std.specs.Option.{option_and_then, option_map_or}
 use Rattle.std.specs.Int.{to_le_bytes, from_le_bytes}
 use mir.Syntax.{w64}
-use Rattle.hm_class_rules.specs.Maps.{at}
+use Rattle.hm_model.specs.Maps.{at}
+use Rattle.hm_model.specs.Overlaid.{overlaid}
 use Rattle.hm_class_rules.specs.State.{State, Slab}
 use Rattle.hm_sizes.specs.Shapes.{slab_at, slab_of, usable}
 use Rattle.hm_sizes.specs.declared.shape.Shape.{Shape}
@@ -47,20 +48,12 @@ abbrev pub found_canary : Shape → State → ℕ → ℕ
 found_canary p s a = from_le_bytes w64 (bytes_from p s (a + usable p) 8)
 
 -- ---- writing
--- bytes that stand at q, with w over them from a on
-abbrev pub overlaid : ℕ → List ℕ → ℕ → List ℕ → List ℕ
-overlaid a w q [] = []
-overlaid a w q (b ∷ bs) = (if nat_le a q && nat_lt q (a + length w) then get_or w (q - a) 0 else b) ∷ overlaid a w (q + 1) bs
-
 abbrev pub overlaid_slabs : Shape → ℕ → List ℕ → List (ℕ × Slab) → List (ℕ × Slab)
 overlaid_slabs p a w slabs = map (λ e. (e.0, record { bytes = overlaid a w (slab_at p e.0) e.1.bytes; canary = e.1.canary })) slabs
 
 -- w is written from a on, where there are bytes
 abbrev pub write : Shape → ℕ → List ℕ → State → State
 write p a w s = record s { opens = overlaid_slabs p a w s.opens }
-
-abbrev pub zeros : ℕ → List ℕ
-zeros n = replicate n 0
 
 -- a slot's canary is set, where there are bytes
 abbrev pub set_canary : Shape → ℕ → State → State

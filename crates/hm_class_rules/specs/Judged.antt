@@ -4,7 +4,7 @@ use Rattle.hm_model.specs.declared.entry.Call.TheVariants.{GiveBack}
 use Rattle.hm_model.specs.declared.entry.Choices.{Choices}
 use Rattle.hm_model.specs.declared.entry.Reply.{Reply}
 use Rattle.hm_model.specs.declared.entry.Reply.TheVariants.{NoSlot, Unused, DoubleFree, WrongSize, Canary, Freed}
-use Rattle.hm_class_rules.specs.Maps.{among}
+use Rattle.hm_model.specs.Maps.{among}
 use Rattle.hm_class_rules.specs.State.{State, is_live}
 use Rattle.hm_sizes.specs.Shapes.{is_slot, slab_of, slot_of}
 use Rattle.hm_class_rules.specs.Rules.{Terms, Allows, wrong_size, wrong_canary}

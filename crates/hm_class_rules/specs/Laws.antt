@@ -1,15 +1,16 @@
 -- Laws of legal histories.
-use Rattle.std.specs.Prelude.{◌≡◌, ◌≢◌, ℕ, ◌+◌, ◌<◌, ◌≤◌, Bool, true, false, IsTrue, List, [], ◌∷◌, ◌++◌, if◌then◌else◌, Option, Some, ◌⊎◌}
+use Rattle.std.specs.Prelude.{◌≡◌, ◌≢◌, ℕ, ◌+◌, ◌<◌, ◌≤◌, Bool, true, false, IsTrue, List, [], ◌∷◌, ◌++◌, length, if◌then◌else◌, Option, Some, ◌⊎◌}
 use Rattle.hm_model.specs.declared.entry.Entry.{Entry}
 use Rattle.hm_model.specs.declared.entry.Call.TheVariants.{Allot, GiveBack}
 use Rattle.hm_model.specs.declared.entry.Reply.{Reply}
 use Rattle.hm_model.specs.declared.entry.Reply.TheVariants.{Given, Freed}
 use Rattle.hm_sizes.specs.declared.shape.Shape.{Shape}
-use Rattle.hm_class_rules.specs.Maps.{among, times, keys}
-use Rattle.hm_class_rules.specs.State.{State, is_open, is_live}
-use Rattle.hm_sizes.specs.Shapes.{IsShape, IsPlaceOf, IsGuard, delay, usable}
+use Rattle.hm_model.specs.Maps.{among, times, at, keys}
+use Rattle.hm_class_rules.specs.State.{State, Slab, is_open, is_live, is_empty, empty_slabs}
+use Rattle.hm_sizes.specs.Shapes.{IsShape, IsPlaceOf, IsGuard, delay, has_bytes, usable, slab_of}
 use Rattle.hm_class_rules.specs.Bytes.{byte_at}
-use Rattle.hm_class_rules.specs.Rules.{Terms, Allowed, IsLegal, state}
+use Rattle.hm_class_rules.specs.Steps.{takes_back, releases}
+use Rattle.hm_class_rules.specs.Rules.{Terms, Releases, Allowed, IsLegal, state}
 
 -- ---- prefixes
 abbrev pub Prefixes : Type 0
@@ -83,7 +84,28 @@ abbrev pub Delays : Type 0
 Delays = (t : Terms) (before middle after : List Entry) (f g : Entry) (a : ℕ) → IsLegal t (before ++ (f ∷ (middle ++ (g ∷ after)))) → IsFreedAt f a → IsGivenAt g a
     → delay t.shape ≤ frees_in middle
 
--- ---- zero bytes
+-- the quarantine holds no more addresses than its array and its ring have places
+abbrev pub HoldsFew : Type 0
+HoldsFew = (t : Terms) (es : List Entry) → IsLegal t es → length (state t es).held ≤ t.shape.array + t.shape.ring
+
+-- a release that empties a slab makes one empty slab more
+abbrev pub OneMoreEmpty : Type 0
+OneMoreEmpty = (p : Shape) (s : State) (a b : ℕ) → IsShape p → IsSound p s → is_live s a ≡ true → Releases p (takes_back p a s) (Some b)
+    → is_empty p (releases (Some b) (takes_back p a s)) (slab_of p b) ≡ true → length (empty_slabs p (releases (Some b) (takes_back p a s))) ≡ length (empty_slabs p s) + 1
+
+-- ---- bytes
+-- how many bytes an open slab has
+abbrev pub bytes_of_slab : Shape → ℕ
+bytes_of_slab p = if has_bytes p then p.slab else 0
+
+-- each of these slabs has so many bytes
+abbrev pub AllWhole : ℕ → List (ℕ × Slab) → Type 0
+AllWhole count slabs = (n : ℕ) (b : Slab) → at n slabs ≡ Some b → length b.bytes ≡ count
+
+abbrev pub WholeSlabs : Type 0
+WholeSlabs = (t : Terms) (es : List Entry) → IsLegal t es → AllWhole (bytes_of_slab t.shape) (state t es).opens
+
+-- where reuse is checked, all usable bytes of a given slot are zero
 abbrev pub Zeroed : Type 0
 Zeroed = (t : Terms) (es : List Entry) (g : Entry) (a k : ℕ) → IsShape t.shape → IsLegal t (es ++ (g ∷ [])) → IsGivenAt g a → IsTrue t.told → t.config.check_reuse ≡ true
     → k < usable t.shape → byte_at t.shape (state t (es ++ (g ∷ []))) (a + k) ≡ Some 0

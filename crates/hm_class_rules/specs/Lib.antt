@@ -1,9 +1,13 @@
-pub mod Maps
 pub mod State
 pub mod Bytes
 pub mod Steps
-pub mod Machine
 pub mod Rules
 pub mod Laws
 pub mod Judged
 pub mod Examples
+pub mod Draws
+pub mod Kinds
+pub mod Drawn
+pub mod Stepped
+pub mod DrawnLaws
+pub mod DrawnExamples

@@ -7,8 +7,8 @@ use Rattle.hm_model.specs.declared.entry.Reply.{Reply}
 use Rattle.hm_model.specs.declared.entry.Reply.TheVariants.{Given, Overwritten, Exhausted, PagesFailed, Freed, NoSlot, Unused, DoubleFree, WrongSize, Canary, Usable, Bytes, Filled, Trap}
 use Rattle.hm_model.specs.declared.entry.Choices.{Choices}
 use Rattle.hm_model.specs.Entries.{AreDraws}
-use Rattle.hm_class_rules.specs.Machine.{run, Legal}
-use Rattle.hm_class_rules.specs.Maps.{among, without}
+use Rattle.hm_model.specs.Machine.{run, Legal}
+use Rattle.hm_model.specs.Maps.{among, without}
 use Rattle.hm_sizes.specs.Sizes.{raised, block_size}
 use Rattle.hm_class_rules.specs.State.{State, start, is_open, is_live, is_taken, is_empty, is_partial, empty_slabs, none_partial, none_empty, unopened}
 use Rattle.hm_sizes.specs.Shapes.{has_bytes, usable, class_size_of, delay, IsPlace, slab_of}

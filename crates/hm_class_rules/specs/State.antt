@@ -1,7 +1,7 @@
 -- The state of a class region after some entries, its places, and which of them are available.
 use Rattle.std.specs.Prelude.{ℕ, nat_lt, Bool, not, ◌||◌, ◌&&◌, if◌then◌else◌, List, [], ◌∷◌, Option, Some, None}
 use Rattle.std.specs.List.{list_any, list_all, range_with_len, filter}
-use Rattle.hm_class_rules.specs.Maps.{among, has, keys}
+use Rattle.hm_model.specs.Maps.{among, has, keys}
 use Rattle.hm_sizes.specs.declared.shape.Shape.{Shape}
 use Rattle.hm_sizes.specs.Shapes.{place}
 

@@ -6,11 +6,12 @@ use Rattle.hm_model.specs.declared.entry.Call.TheVariants.{Allot, GiveBack, Fill
 use Rattle.hm_model.specs.declared.entry.Reply.{Reply}
 use Rattle.hm_model.specs.declared.entry.Reply.TheVariants.{Given, Overwritten, Freed, Filled}
 use Rattle.hm_model.specs.declared.entry.Choices.{Choices}
-use Rattle.hm_class_rules.specs.Maps.{put, removed, without}
+use Rattle.hm_model.specs.Maps.{put, removed, without}
 use Rattle.hm_class_rules.specs.State.{State, Slab}
 use Rattle.hm_sizes.specs.Shapes.{slab_at, after, has_bytes, usable}
-use Rattle.hm_class_rules.specs.Bytes.{write, zeros, set_canary}
+use Rattle.hm_class_rules.specs.Bytes.{write, set_canary}
 use Rattle.hm_model.specs.Runs.{expand}
+use Rattle.hm_outside.specs.PageRuns.{zeros}
 use Rattle.hm_sizes.specs.declared.shape.Shape.{Shape}
 
 -- ---- allotting

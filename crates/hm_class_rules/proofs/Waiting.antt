@@ -1,0 +1,136 @@
+-- What the frees of a legal and drawn history hold in quarantine.
+use Rattle.std.proofs.Common.{◌≡◌, ℕ, ◌+◌, ◌≤◌, ◌==◌, Bool, true, false, List, [], ◌∷◌, length, take, Option, Some, None, IfSome, sym, ◌∙◌, ap, subst, refl, arith}
+use Rattle.hm_quarantine.specs.Quarantine.{Kept, IsArrayPlace, goes_on, let_go, kept_with}
+use Rattle.hm_quarantine.specs.LookingBack.{Free, released, ArePlaces, kept_after}
+use Rattle.hm_quarantine.specs.Delay as quarantine
+use Rattle.hm_quarantine.specs.Delay.{slots_of, held, AreNew, IsDelayed}
+use Rattle.hm_quarantine.proofs.Counts as counted
+use Rattle.hm_quarantine.proofs.Counts.{one_of, count, count_in, count_array, count_empty, count_ring, count_without, once_more, self_is}
+use Rattle.hm_quarantine.proofs.Passes.{length_array, length_is, ring_is, few_latest, looks_back}
+use Rattle.hm_quarantine.proofs.Ages.{delays, holds_few}
+use Rattle.hm_model.specs.Maps.{among}
+use Rattle.hm_model.specs.declared.entry.Call.{Call}
+use Rattle.hm_model.specs.declared.entry.Call.TheVariants.{Allot, GiveBack, Fill}
+use Rattle.hm_model.specs.declared.entry.Reply.{Reply}
+use Rattle.hm_model.specs.declared.entry.Reply.TheVariants.{Given, Overwritten, Freed, Filled}
+use Rattle.hm_model.specs.declared.entry.Choices.{Choices}
+use Rattle.hm_model.specs.declared.entry.Draws.{Draws}
+use Rattle.hm_model.proofs.Lists.{among_none}
+use Rattle.hm_sizes.specs.declared.shape.Shape.{Shape}
+use Rattle.hm_sizes.specs.Shapes.{delay}
+use Rattle.hm_class_rules.specs.State.{State, is_live}
+use Rattle.hm_class_rules.specs.Steps.{takes_back, releases, moved}
+use Rattle.hm_class_rules.specs.Rules.{Terms, Allows, Releases}
+use Rattle.hm_class_rules.specs.Laws.{IsSound}
+use Rattle.hm_class_rules.specs.Draws.{Event, Returned, event_of}
+use Rattle.hm_class_rules.specs.Drawn.{free_at, with_free}
+use Rattle.hm_class_rules.proofs.Sound.{has_times}
+use Rattle.hm_class_rules.proofs.Parking.{only_one}
+use Rattle.hm_class_rules.proofs.Delay.{out_held, out_frees, opened_held, opened_frees}
+
+-- the addresses in quarantine and the accepted frees are those of these frees, none of which is of an address in quarantine
+pub record AreHeld (p : Shape) (frees : List Free) (in_quarantine accepted : List ℕ) : Type 0 where
+  pub held_is : in_quarantine ≡ held p.array p.ring frees
+  pub frees_is : accepted ≡ slots_of frees
+  pub new : AreNew p.array p.ring frees
+
+held_moved : (p : Shape) (frees : List Free) (h h' f f' : List ℕ) → h' ≡ h → f' ≡ f → AreHeld p frees h f → AreHeld p frees h' f'
+held_moved p frees h h' f f' e d are = record { held_is = e ∙ are.held_is; frees_is = d ∙ are.frees_is; new = are.new }
+
+-- a live address is not in quarantine
+live_apart : (p : Shape) (s : State) (a : ℕ) → IsSound p s → is_live s a ≡ true → among a s.held ≡ false
+live_apart p s a sound is = among_none a s.held (omega (arith, sound.once a, has_times a s.live is))
+
+pub is_new : (p : Shape) (s : State) (frees : List Free) (a : ℕ) (d : Draws) → IsSound p s → AreHeld p frees s.held s.frees → is_live s a ≡ true → AreNew p.array p.ring (free_at p d a ∷ frees)
+is_new p s frees a d sound are is = (ap (λ (l : List ℕ). among a l) (sym are.held_is) ∙ live_apart p s a sound is, are.new)
+
+released_held : (o : Option ℕ) (s : State) → (releases o s).held ≡ quarantine.without o s.held
+released_held None s = refl
+released_held (Some b) s = refl
+
+released_frees : (o : Option ℕ) (s : State) → (releases o s).frees ≡ s.frees
+released_frees None s = refl
+released_frees (Some b) s = refl
+
+-- what an event releases is what looking back finds
+abbrev pub ReleasesDrawn : Shape → List Free → Draws → Choices → Event → Type 0
+ReleasesDrawn p frees d c (Returned a) = c.released ≡ released p.array p.ring frees (free_at p d a)
+ReleasesDrawn p frees d c event = Unit {0}
+
+pub held_next : (t : Terms) (s : State) (frees : List Free) (d : Draws) (before now : ℕ) (c : Choices) (call : Call) (reply : Reply) → IsSound t.shape s → Allows t s before now c call reply
+    → ReleasesDrawn t.shape frees d c (event_of call reply) → AreHeld t.shape frees s.held s.frees
+    → let s' = moved t.shape c call reply s in AreHeld t.shape (with_free t.shape d (event_of call reply) frees) s'.held s'.frees
+held_next t s frees d before now c (Allot asked align) (Given a size) sound allows drawn are =
+    held_moved t.shape frees s.held _ s.frees _ (opened_held t.shape c.opened c.canary s) (opened_frees t.shape c.opened c.canary s) are
+held_next t s frees d before now c (Allot asked align) (Overwritten a at found) sound allows drawn are =
+    held_moved t.shape frees s.held _ s.frees _ (opened_held t.shape c.opened c.canary s) (opened_frees t.shape c.opened c.canary s) are
+held_next t s frees d before now c (GiveBack a stated) Freed sound allows drawn are =
+    let p : Shape = t.shape in
+    let s₂ : State = releases c.released (takes_back p a s) in
+    record {
+      held_is = out_held p s₂ c.retired c.purged c.unparked ∙ released_held c.released (takes_back p a s) ∙ ap (λ (o : Option ℕ). quarantine.without o (a ∷ s.held)) drawn
+          ∙ ap (λ (l : List ℕ). quarantine.without (released p.array p.ring frees (free_at p d a)) (a ∷ l)) are.held_is;
+      frees_is = out_frees p s₂ c.retired c.purged c.unparked ∙ released_frees c.released (takes_back p a s) ∙ ap (λ (l : List ℕ). a ∷ l) are.frees_is;
+      new = is_new p s frees a d sound are allows.block.live;
+    }
+held_next t s frees d before now c (Fill a runs) Filled sound allows drawn are = are
+held_next t s frees d before now c call reply sound allows drawn are = are
+
+-- what the next free releases may be released
+releases_by : (p : Shape) (s : State) (o : Option ℕ) (frees : List Free) (free : Free) → AreHeld p frees s.held s.frees → IfSome o (IsDelayed p.array p.ring frees free)
+    → length (quarantine.without o (free.slot ∷ held p.array p.ring frees)) ≤ p.array + p.ring → Releases p (takes_back p free.slot s) o
+releases_by p s None frees free are late few = subst (λ (l : List ℕ). length (free.slot ∷ l) ≤ p.array + p.ring) (sym are.held_is) few
+releases_by p s (Some b) frees free are late few = (
+  ap (λ (l : List ℕ). among b (free.slot ∷ l)) are.held_is ∙ late.was_held,
+  ap (λ (l : List ℕ). among b (take (delay p) (free.slot ∷ l))) are.frees_is ∙ late.late,
+  subst (λ (l : List ℕ). length (quarantine.without (Some b) (free.slot ∷ l)) ≤ p.array + p.ring) (sym are.held_is) few,
+)
+
+pub release_allowed : (p : Shape) (s : State) (frees : List Free) (kept : Kept) (a place : ℕ) → IsSound p s → AreHeld p frees s.held s.frees → ArePlaces p.array frees → kept ≡ kept_after p.array p.ring frees → is_live s a ≡ true
+    → IsArrayPlace p.array place → Releases p (takes_back p a s) (let_go kept a place)
+release_allowed p s frees kept a place sound are places is live at_place =
+    let free : Free = record { slot = a; place = place } in
+    let new : AreNew p.array p.ring (free ∷ frees) = (ap (λ (l : List ℕ). among a l) (sym are.held_is) ∙ live_apart p s a sound live, are.new) in
+    let path : let_go kept a place ≡ released p.array p.ring frees free = ap (λ (k : Kept). let_go k a place) is ∙ looks_back p.array p.ring frees free (at_place, places) in
+    subst (λ (o : Option ℕ). Releases p (takes_back p a s) o) (sym path)
+    (releases_by p s (released p.array p.ring frees free) frees free are (delays p.array p.ring frees free (at_place, places) new) (holds_few p.array p.ring (free ∷ frees) (at_place, places) new))
+
+-- ---- the array and the ring hold just what is held
+pub ring_few : (n size : ℕ) (past : List Free) → ArePlaces n past → length (kept_after n size past).ring ≤ size
+ring_few n size past places = subst (λ (l : List ℕ). length l ≤ size) (sym (ring_is n size past places)) (few_latest size _)
+
+-- each slot stands in quarantine once, in the array or in the ring
+pub record AreCounted (n size : ℕ) (past : List Free) : Type 0 where
+  pub counts : (f : ℕ → Bool) → count f (held n size past) ≡ count_in f (kept_after n size past).array + count f (kept_after n size past).ring
+  pub once : (a : ℕ) → counted.times a (held n size past) ≤ 1
+
+counted_next : (n size : ℕ) (past : List Free) (free : Free) → ArePlaces n (free ∷ past) → AreNew n size (free ∷ past) → AreCounted n size past → AreCounted n size (free ∷ past)
+counted_next n size past free places new before = record {
+  counts = λ f. omega (arith, left f, entered f);
+  once = λ a. omega (arith, once_more a free.slot (held n size past) new.0 (before.once a), left (λ x. x == a));
+}
+  where
+    kept : Kept
+    kept = kept_after n size past
+
+    out : Option ℕ
+    out = released n size past free
+
+    -- what enters is what stays and what goes out
+    entered : (f : ℕ → Bool) → count_in f (kept_with kept free.slot free.place).array + count f (kept_with kept free.slot free.place).ring + one_of f out ≡ count f (free.slot ∷ held n size past)
+    entered f =
+        omega (
+          arith,
+          before.counts f,
+          count_array f kept.array free.slot free.place (subst (λ (j : ℕ). IsArrayPlace j free.place) (sym (length_array n size past)) places.0),
+          count_ring f kept.ring_length kept.ring (goes_on kept.array free.slot free.place) (subst (λ (k : ℕ). length kept.ring ≤ k) (sym (length_is n size past)) (ring_few n size past places.1)),
+          ap (λ (o : Option ℕ). one_of f o) (looks_back n size past free places),
+        )
+
+    left : (f : ℕ → Bool) → count f (quarantine.without out (free.slot ∷ held n size past)) + one_of f out ≡ count f (free.slot ∷ held n size past)
+    left f = count_without f out (free.slot ∷ held n size past)
+        (λ b is. only_one _ (omega (arith, entered (λ x. x == b), ap (λ (o : Option ℕ). one_of (λ x. x == b) o) is, self_is b)) (once_more b free.slot (held n size past) new.0 (before.once b)))
+
+pub are_counted : (n size : ℕ) (past : List Free) → ArePlaces n past → AreNew n size past → AreCounted n size past
+are_counted n size [] places new = record { counts = λ f. omega (arith, count_empty f n); once = λ a. omega arith }
+are_counted n size (free ∷ past) places new = counted_next n size past free places new (are_counted n size past places.1 new.1)
