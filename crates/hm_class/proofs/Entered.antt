@@ -1,12 +1,29 @@
 -- Maps from numbers, after a key was put or removed.
 use Rattle.std.proofs.Common.{◌≡◌, ◌≢◌, ℕ, ◌+◌, ◌≤◌, ◌==◌, Bool, true, false, cond, not, List, [], ◌∷◌, length, Option, Some, is_some, sym, ◌∙◌, ap, refl, arith, true≢false}
-use Rattle.hm_class_rules.specs.Maps.{at, has, removed, put}
+use Rattle.std.specs.Option.{option_map_or}
+use Rattle.hm_model.specs.Maps.{at, has, removed, put}
+use Rattle.hm_model.specs.Overlaid.{overlaid}
+use Rattle.hm_sizes.specs.Shapes.{slab_at}
 use Rattle.hm_class_rules.specs.State.{Slab}
 use Rattle.hm_class_rules.specs.Bytes.{overlaid_slabs}
-use Rattle.hm_class_rules.proofs.Lists.{same_eq, other_eq, eq_same}
+use Rattle.hm_model.proofs.Lists.{same_eq, other_eq, eq_same}
 use Rattle.hm_sizes.specs.declared.shape.Shape.{Shape}
 
 module _ {X : Type 0} where
+  pub at_removed : (n k : ℕ) (m : List (ℕ × X)) → n ≢ k → at k (removed n m) ≡ at k m
+  at_removed n k [] ne = refl
+  at_removed n k (e ∷ m) ne =
+      elim (e.0 == n) as (λ t. (e.0 == n) ≡ t → at k (cond (not t) (e ∷ removed n m) (removed n m)) ≡ at k (e ∷ m)) [
+        | true ↦ λ is. at_removed n k m ne ∙ sym (ap (λ (t : Bool). cond t (Some e.1) (at k m)) (other_eq e.0 k (λ s. ne (sym (eq_same e.0 n is) ∙ s))))
+        | false ↦ λ is. ap (λ (o : Option X). cond (e.0 == k) (Some e.1) o) (at_removed n k m ne)
+      ] refl
+
+  pub at_put_same : (n k : ℕ) (x : X) (m : List (ℕ × X)) → n ≡ k → at k (put n x m) ≡ Some x
+  at_put_same n k x m e = ap (λ (t : Bool). cond t (Some x) (at k (removed n m))) (same_eq n k e)
+
+  pub at_put_other : (n k : ℕ) (x : X) (m : List (ℕ × X)) → n ≢ k → at k (put n x m) ≡ at k m
+  at_put_other n k x m ne = ap (λ (t : Bool). cond t (Some x) (at k (removed n m))) (other_eq n k ne) ∙ at_removed n k m ne
+
   pub has_removed_same : (k : ℕ) (m : List (ℕ × X)) → has k (removed k m) ≡ false
   has_removed_same k [] = refl
   has_removed_same k (e ∷ m) =
@@ -68,3 +85,13 @@ has_overlaid p a w n (e ∷ m) = below _ e.1 (e.0 == n) (at n (overlaid_slabs p 
 pub length_overlaid : (p : Shape) (a : ℕ) (w : List ℕ) (m : List (ℕ × Slab)) → length (overlaid_slabs p a w m) ≡ length m
 length_overlaid p a w [] = refl
 length_overlaid p a w (e ∷ m) = omega (arith, length_overlaid p a w m)
+
+-- and their canaries
+pub canary_overlaid : (p : Shape) (a : ℕ) (w : List ℕ) (n : ℕ) (m : List (ℕ × Slab)) → option_map_or (λ (b : Slab). b.canary) (at n (overlaid_slabs p a w m)) 0 ≡ option_map_or (λ (b : Slab). b.canary) (at n m) 0
+canary_overlaid p a w n [] = refl
+canary_overlaid p a w n (e ∷ m) = below (e.0 == n) (at n (overlaid_slabs p a w m)) (at n m) (canary_overlaid p a w n m)
+  where
+    below : (b : Bool) (o o' : Option Slab) → option_map_or (λ (b : Slab). b.canary) o 0 ≡ option_map_or (λ (b : Slab). b.canary) o' 0
+        → option_map_or (λ (b : Slab). b.canary) (cond b (Some (record { bytes = overlaid a w (slab_at p e.0) e.1.bytes; canary = e.1.canary })) o) 0 ≡ option_map_or (λ (b : Slab). b.canary) (cond b (Some e.1) o') 0
+    below true o o' s = refl
+    below false o o' s = s

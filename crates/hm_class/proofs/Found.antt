@@ -9,7 +9,7 @@ use Rattle.std.proofs.lemmas.List.Quantifiers.{position-Some}
 use Rattle.std.proofs.lemmas.List.Sums.{prefix_len_passes}
 use Rattle.std.proofs.lemmas.Option.{slice_get_within, get_or_from_slice_get, slice_get-get_or, none-some}
 use Rattle.hm_class.specs.declared.slab.SlotUse.{SlotUse}
-use Rattle.hm_class.specs.Uses.{Uses, lives, is_available, has_available, is_partly, is_unused, slots_of, use_at, first_available}
+use Rattle.hm_class.specs.Uses.{Uses, SlabUse, occupied, is_available, has_available, is_partly, is_unused, slab_in, use_at, first_available}
 use Rattle.hm_class.proofs.Counts.{mapped}
 
 -- ---- positions
@@ -37,50 +37,50 @@ position_there p xs any none =
     position_none p xs none r.0 r.1 (slice_get-get_or xs r.0 r.1 r.2 ∙ ap (λ x. Some x) r.3) r.4
 
 -- ---- slabs
-opened : (o : Option (Option (List SlotUse))) (us : List SlotUse) → option_and_then (λ slab. slab) o ≡ Some us → o ≡ Some (Some us)
-opened None us e = absurd (none-some us e)
-opened (Some o) us e = ap (λ (x : Option (List SlotUse)). Some x) e
+opened : (o : Option (Option SlabUse)) (b : SlabUse) → option_and_then (λ slab. slab) o ≡ Some b → o ≡ Some (Some b)
+opened None b e = absurd (none-some b e)
+opened (Some o) b e = ap (λ (x : Option SlabUse). Some x) e
 
-pub slab_there : (uses : Uses) (n : ℕ) (us : List SlotUse) → slots_of uses n ≡ Some us → slice_get uses n ≡ Some (Some us)
-slab_there uses n us e = opened (slice_get uses n) us e
+pub slab_there : (uses : Uses) (n : ℕ) (b : SlabUse) → slab_in uses n ≡ Some b → slice_get uses n ≡ Some (Some b)
+slab_there uses n b e = opened (slice_get uses n) b e
 
-tested : (f : List SlotUse → Bool) (o : Option (List SlotUse)) → option_map_or f o false ≡ true → option_map f o ≡ Some true
+tested : (f : SlabUse → Bool) (o : Option SlabUse) → option_map_or f o false ≡ true → option_map f o ≡ Some true
 tested f None e = absurd (true≢false (sym e))
-tested f (Some us) e = ap (λ (b : Bool). Some b) e
+tested f (Some b) e = ap (λ (x : Bool). Some x) e
 
-pub none_at : (f : List SlotUse → Bool) (uses : Uses) → position (λ slab. option_map_or f slab false) uses ≡ None → (n : ℕ) → option_map f (slots_of uses n) ≡ Some true → ⊥
+pub none_at : (f : SlabUse → Bool) (uses : Uses) → position (λ slab. option_map_or f slab false) uses ≡ None → (n : ℕ) → option_map f (slab_in uses n) ≡ Some true → ⊥
 none_at f uses e n is =
-    let m = mapped f (slots_of uses n) true is in
+    let m = mapped f (slab_in uses n) true is in
     position_none (λ slab. option_map_or f slab false) uses e n (Some m.0) (slab_there uses n m.0 m.1) m.2
 
-pub some_at : (f : List SlotUse → Bool) (uses : Uses) (n : ℕ) → position (λ slab. option_map_or f slab false) uses ≡ Some n → option_map f (slots_of uses n) ≡ Some true
+pub some_at : (f : SlabUse → Bool) (uses : Uses) (n : ℕ) → position (λ slab. option_map_or f slab false) uses ≡ Some n → option_map f (slab_in uses n) ≡ Some true
 some_at f uses n e =
     let r = position_some (λ slab. option_map_or f slab false) uses n e in
-    ap (λ (o : Option (Option (List SlotUse))). option_map f (option_and_then (λ slab. slab) o)) r.1 ∙ tested f r.0 r.2
+    ap (λ (o : Option (Option SlabUse)). option_map f (option_and_then (λ slab. slab) o)) r.1 ∙ tested f r.0 r.2
 
 -- ---- slots
 -- a slab with an available slot has a first one
-pub first_there : (f : List SlotUse → Bool) (uses : Uses) (n : ℕ) → ((us : List SlotUse) → f us ≡ true → has_available us ≡ true) → option_map f (slots_of uses n) ≡ Some true → first_available uses n ≡ None → ⊥
+pub first_there : (f : SlabUse → Bool) (uses : Uses) (n : ℕ) → ((b : SlabUse) → f b ≡ true → has_available b.slots ≡ true) → option_map f (slab_in uses n) ≡ Some true → first_available uses n ≡ None → ⊥
 first_there f uses n has is e =
-    let m = mapped f (slots_of uses n) true is in
-    position_there is_available m.0 (has m.0 m.2) (ap (λ (o : Option (List SlotUse)). option_and_then (λ us. position is_available us) o) (sym m.1) ∙ e)
+    let m = mapped f (slab_in uses n) true is in
+    position_there is_available m.0.slots (has m.0 m.2) (ap (λ (o : Option SlabUse). option_and_then (λ (b : SlabUse). position is_available b.slots) o) (sym m.1) ∙ e)
 
-pub partly_has : (us : List SlotUse) → is_partly us ≡ true → has_available us ≡ true
-partly_has us e = (and_parts _ (has_available us) e).1
+pub partly_has : (b : SlabUse) → is_partly b ≡ true → has_available b.slots ≡ true
+partly_has b e = (and_parts _ (has_available b.slots) e).1
 
-pub unused_has : (us : List SlotUse) → is_unused us ≡ true → has_available us ≡ true
-unused_has us e = (and_parts _ (has_available us) e).1
+pub unused_has : (b : SlabUse) → is_unused b ≡ true → has_available b.slots ≡ true
+unused_has b e = (and_parts _ (has_available b.slots) e).1
 
--- the first available slot is not live
-pub first_is : (uses : Uses) (n i : ℕ) → first_available uses n ≡ Some i → option_map lives (use_at uses n i) ≡ Some false
-first_is uses n i e = slot_is (slots_of uses n) e
+-- the first available slot is not occupied
+pub first_is : (uses : Uses) (n i : ℕ) → first_available uses n ≡ Some i → option_map occupied (use_at uses n i) ≡ Some false
+first_is uses n i e = slot_is (slab_in uses n) e
   where
     from_not : (b : Bool) → not b ≡ true → b ≡ false
     from_not true e = sym e
     from_not false e = refl
 
-    slot_is : (o : Option (List SlotUse)) → option_and_then (λ us. position is_available us) o ≡ Some i → option_map lives (option_and_then (λ us. slice_get us i) o) ≡ Some false
+    slot_is : (o : Option SlabUse) → option_and_then (λ (b : SlabUse). position is_available b.slots) o ≡ Some i → option_map occupied (option_and_then (λ (b : SlabUse). slice_get b.slots i) o) ≡ Some false
     slot_is None e = absurd (none-some i e)
-    slot_is (Some us) e =
-        let r = position_some is_available us i e in
-        ap (λ (o : Option SlotUse). option_map lives o) r.1 ∙ ap (λ (b : Bool). Some b) (from_not (lives r.0) r.2)
+    slot_is (Some b) e =
+        let r = position_some is_available b.slots i e in
+        ap (λ (o : Option SlotUse). option_map occupied o) r.1 ∙ ap (λ (x : Bool). Some x) (from_not (occupied r.0) r.2)

@@ -1,10 +1,12 @@
 pub mod Counts
 pub mod Found
+pub mod SlotBytes
 pub mod Entered
 pub mod Places
 pub mod Used
 pub mod Shown
 pub mod Paged
+pub mod Accessed
 pub mod Followed
 pub mod Permitted
 pub mod Entries

@@ -1,20 +1,31 @@
--- The runs of the pages are the open slabs.
-use Rattle.std.proofs.Common.{◌≡◌, ◌≢◌, inl, ⊎_elim, ℕ, ◌<◌, Bool, true, false, cond, List, length, Option, Some, None, sym, ◌∙◌, ap, subst, refl, arith, true≢false}
+-- The runs of the pages are the open slabs, and stay so where slabs are opened and bytes are written.
+use Rattle.std.proofs.Common.{◌≡◌, ◌≢◌, inl, inr, ⊎_elim, ℕ, ◌+◌, ◌-◌, ◌*◌, ◌/◌, ◌%◌, ◌<◌, ◌≤◌, ◌==◌, Bool, true, false, cond, nat_lt, List, [], ◌∷◌, length, take, drop, Option, Some, None, is_some, slice_get, sym, ◌∙◌, ap, refl, arith, true≢false}
 use Rattle.std.specs.FinMap as map
 use Rattle.std.specs.FinMap.{FinMap, get-insert, get-empty}
+use Rattle.std.specs.Option.{option_and_then, option_map_or}
 use Rattle.std.specs.Ordering.{nat_cmp, eq_by_cmp}
 use Rattle.std.proofs.lemmas.Cmp.{nat_cmp_total}
-use Rattle.std.proofs.lemmas.Bool.{cases_eq}
+use Rattle.std.proofs.lemmas.Bool.{cases_eq, cases_lt}
 use Rattle.std.proofs.lemmas.Bool.Decides.{nat_tests}
 use Rattle.std.proofs.lemmas.List.{length-replicate}
+use Rattle.std.proofs.lemmas.Nat.{div-mul-add, mod-mul-add}
 use Rattle.std.proofs.lemmas.Option.{none-some, same_Some}
-use Rattle.hm_outside.specs.PageRuns.{PageRuns, MeetsNone, zeros}
+use Rattle.hm_outside.specs.PageRuns.{PageRuns, MeetsNone, IsHeld, Reads, Writes, written, zeros}
 use Rattle.hm_sizes.specs.declared.shape.Shape.{Shape}
-use Rattle.hm_sizes.specs.Shapes.{IsShape, slab_at}
-use Rattle.hm_class_rules.specs.State.{State, start, is_open}
+use Rattle.hm_sizes.specs.Shapes.{IsShape, slab_at, slab_of, has_bytes}
+use Rattle.hm_model.specs.Maps.{at, has, put}
+use Rattle.hm_model.specs.Overlaid.{overlaid}
+use Rattle.hm_model.proofs.Lists.{eq_same}
+use Rattle.hm_model.proofs.Overlaid.{overlaid_apart, overlaid_written, length_overlaid}
+use Rattle.hm_class_rules.specs.State.{State, Slab, start, is_open}
+use Rattle.hm_class_rules.specs.Bytes.{overlaid_slabs, byte_at, bytes_from}
+use Rattle.hm_class_rules.specs.Laws.{bytes_of_slab}
+use Rattle.hm_class_rules.specs.Steps.{new_slab}
 use Rattle.hm_class.specs.Region.{HoldsSlabs}
+use Rattle.hm_class.proofs.Entered.{at_put_same, at_put_other}
 use Rattle.hm_class.proofs.Places.{slab_row, slab_apart, slab_some}
 
+-- ---- finite maps
 module _ {X : Type 0} (m : FinMap nat_cmp X) (k : ℕ) (v : X) (q : ℕ) where
   get_same : q ≡ k → map.get (map.insert m k v) q ≡ Some v
   get_same e = get-insert nat_cmp_total m k v q ∙ ap (λ (b : Bool). cond b (Some v) (map.get m q)) (same q k e)
@@ -28,53 +39,185 @@ module _ {X : Type 0} (m : FinMap nat_cmp X) (k : ℕ) (v : X) (q : ℕ) where
       apart : (q k : ℕ) → q ≢ k → eq_by_cmp nat_cmp q k ≡ false
       apart q k ne = grind (arith, nat_tests)
 
--- the same slabs are open
-pub holds_same : (p : Shape) (s s' : State) (runs : PageRuns) → ((n : ℕ) → is_open s' n ≡ is_open s n) → HoldsSlabs p s runs → HoldsSlabs p s' runs
-holds_same p s s' runs same h = record {
-  each = λ n on. h.each n (sym (same n) ∙ on);
-  only = λ q bytes is. (let r = h.only q bytes is in (r.0, same r.0 ∙ r.1, r.2));
+-- ---- open slabs
+pub on_some : (m : List (ℕ × Slab)) (n : ℕ) → has n m ≡ true → (b : Slab) × (at n m ≡ Some b)
+on_some m n e = elim (at n m) as (λ o. is_some o ≡ true → (b : Slab) × (o ≡ Some b)) [ None ↦ λ h. absurd (true≢false (sym h)) | Some b ↦ λ h. (b, refl) ] e
+
+-- a slab that is not open is none of the open ones
+not_on : (m : List (ℕ × Slab)) (n k : ℕ) (b : Slab) → has n m ≡ false → at k m ≡ Some b → n ≢ k
+not_on m n k b off is e = true≢false (sym (ap (λ (o : Option Slab). is_some o) (ap (λ (x : ℕ). at x m) e ∙ is)) ∙ off)
+
+pub bytes_new : (p : Shape) (k : ℕ) → has_bytes p ≡ true → (new_slab p k).bytes ≡ zeros p.slab
+bytes_new p k e = ap (λ (t : Bool). cond {A = List ℕ} t (zeros p.slab) []) e
+
+bytes_of : (p : Shape) → has_bytes p ≡ true → bytes_of_slab p ≡ p.slab
+bytes_of p own = ap (λ (b : Bool). cond b p.slab 0) own
+
+pub all_bytes : (p : Shape) (opens : List (ℕ × Slab)) (runs : PageRuns) → HoldsSlabs p opens runs → has_bytes p ≡ true → (n : ℕ) (b : Slab) → at n opens ≡ Some b → length b.bytes ≡ p.slab
+all_bytes p opens runs h own n b is = h.whole n b is ∙ bytes_of p own
+
+-- ---- nothing is open
+pub holds_nothing : (p : Shape) (runs : PageRuns) → runs ≡ map.empty → HoldsSlabs p start.opens runs
+holds_nothing p runs none = record {
+  each = λ own n b is. absurd (none-some b is);
+  only = λ q bytes is. absurd (none-some bytes (sym (get-empty nat_cmp q) ∙ ap (λ (m : PageRuns). map.get m q) (sym none) ∙ is));
+  whole = λ n b is. absurd (none-some b is);
 }
 
--- slab n is opened
-pub holds_opened : (p : Shape) (s s' : State) (n : ℕ) (runs : PageRuns) → IsShape p → is_open s' n ≡ true → ((m : ℕ) → m ≢ n → is_open s' m ≡ is_open s m) → HoldsSlabs p s runs
-    → HoldsSlabs p s' (map.insert runs (slab_at p n) (zeros p.slab))
-holds_opened p s s' n runs shape here there h = record {
-  each = λ m on. ⊎_elim
-      (λ e. (zeros p.slab, get_same runs (slab_at p n) (zeros p.slab) (slab_at p m) (ap (λ k. slab_at p k) e), length-replicate p.slab 0))
-      (λ ne. let r = h.each m (sym (there m ne) ∙ on) in (
-        r.0,
-        get_other runs (slab_at p n) (zeros p.slab) (slab_at p m) (λ e. ne (slab_apart p.first p.slab m n (omega (arith, slab_some p shape)) e)) ∙ r.1,
-        r.2,
-      ))
-      (cases_eq m n);
-  only = λ q bytes is. ⊎_elim
-      (λ e. (n, here, e))
-      (λ ne. let r = h.only q bytes (sym (get_other runs (slab_at p n) (zeros p.slab) q ne) ∙ is) in (
-        r.0,
-        there r.0 (λ e. ne (r.2 ∙ ap (λ k. slab_at p k) e)) ∙ r.1,
-        r.2,
-      ))
-      (cases_eq q (slab_at p n));
-}
-
--- a slab above all open ones meets no run
-pub meets_none : (p : Shape) (s : State) (n len : ℕ) (runs : PageRuns) → IsShape p → HoldsSlabs p s runs → ((m : ℕ) → is_open s m ≡ true → m < n) → MeetsNone runs (slab_at p n) len
-meets_none p s n len runs shape h below = record {
-  fresh = by_none _ (λ b is. let r = h.only (slab_at p n) b is in
-      omega (arith, slab_row p.first p.slab r.0 n (below r.0 r.1), r.2, slab_some p shape));
+-- ---- a slab is opened
+-- where slab n is not open its range is free
+pub meets_none : (p : Shape) (opens : List (ℕ × Slab)) (n : ℕ) (runs : PageRuns) → IsShape p → has n opens ≡ false → HoldsSlabs p opens runs → MeetsNone runs (slab_at p n) p.slab
+meets_none p opens n runs shape off h = record {
+  fresh = by_none (map.get runs (slab_at p n)) (λ b is. let r = h.only (slab_at p n) b is in not_on opens n r.number r.slab off r.slab_is (slab_apart p.first p.slab n r.number (omega (arith, slab_some p shape)) r.first_is));
   apart = λ q b is. (let r = h.only q b is in
-      let run = h.each r.0 r.1 in
-      let same : length b ≡ p.slab = ap (λ (l : List ℕ). length l) (same_Some b run.0 (sym is ∙ ap (λ (k : ℕ). map.get runs k) r.2 ∙ run.1)) ∙ run.2 in
-      inl (omega (arith, slab_row p.first p.slab r.0 n (below r.0 r.1), r.2, same)));
+      let l : length b ≡ p.slab = ap (λ (y : List ℕ). length y) r.bytes_is ∙ all_bytes p opens runs h r.own r.number r.slab r.slab_is in
+      let ne : n ≢ r.number = not_on opens n r.number r.slab off r.slab_is in
+      ⊎_elim
+      (λ lt. inr (omega (arith, slab_row p.first p.slab n r.number lt, r.first_is)))
+      (λ ge. inl (omega (arith, slab_row p.first p.slab r.number n (below n r.number ge ne), r.first_is, l)))
+      (cases_lt n r.number));
 }
   where
     by_none : (o : Option (List ℕ)) → ((b : List ℕ) → o ≡ Some b → ⊥) → o ≡ None
     by_none None no_run = refl
     by_none (Some b) no_run = absurd (no_run b refl)
 
--- no slab is open
-pub holds_nothing : (p : Shape) (runs : PageRuns) → runs ≡ map.empty → HoldsSlabs p start runs
-holds_nothing p runs e = subst (λ (r : PageRuns). HoldsSlabs p start r) (sym e) (record {
-  each = λ n on. absurd (true≢false (sym on));
-  only = λ q b is. absurd (none-some b (sym (get-empty nat_cmp q) ∙ is));
-})
+    below : (n m : ℕ) → m ≤ n → n ≢ m → m < n
+    below n m le ne = omega arith
+
+pub holds_opened : (p : Shape) (opens : List (ℕ × Slab)) (n k : ℕ) (runs : PageRuns) → IsShape p → has_bytes p ≡ true → HoldsSlabs p opens runs
+    → HoldsSlabs p (put n (new_slab p k) opens) (map.insert runs (slab_at p n) (zeros p.slab))
+holds_opened p opens n k runs shape own h =
+    let x : Slab = new_slab p k in
+    let is_new : x.bytes ≡ zeros p.slab = bytes_new p k own in
+    let some : 1 ≤ p.slab = omega (arith, slab_some p shape) in
+    record {
+      each = λ o m b is. ⊎_elim
+          (λ e. get_same runs (slab_at p n) (zeros p.slab) (slab_at p m) (ap (λ (y : ℕ). slab_at p y) (sym e)) ∙ ap (λ (y : List ℕ). Some y) (sym is_new)
+          ∙ ap (λ (y : Slab). Some y.bytes) (same_Some x b (sym (at_put_same n m x opens e) ∙ is)))
+          (λ ne. get_other runs (slab_at p n) (zeros p.slab) (slab_at p m) (λ e. ne (slab_apart p.first p.slab n m some (sym e))) ∙ h.each o m b (sym (at_put_other n m x opens ne) ∙ is))
+          (cases_eq n m);
+      only = λ q bytes is. ⊎_elim
+          (λ e. record { own = own; number = n; slab = x; first_is = e; slab_is = at_put_same n n x opens refl; bytes_is = same_Some bytes (zeros p.slab) (sym is ∙ get_same runs (slab_at p n) (zeros p.slab) q e) ∙ sym is_new })
+          (λ ne. let o = h.only q bytes (sym (get_other runs (slab_at p n) (zeros p.slab) q ne) ∙ is) in record {
+            own = own;
+            number = o.number;
+            slab = o.slab;
+            first_is = o.first_is;
+            slab_is = at_put_other n o.number x opens (λ e. ne (o.first_is ∙ ap (λ (y : ℕ). slab_at p y) (sym e))) ∙ o.slab_is;
+            bytes_is = o.bytes_is;
+          })
+          (cases_eq q (slab_at p n));
+      whole = λ m b is. ⊎_elim
+          (λ e. ap (λ (y : Slab). length y.bytes) (same_Some b x (sym is ∙ at_put_same n m x opens e)) ∙ ap (λ (y : List ℕ). length y) is_new ∙ length-replicate p.slab 0 ∙ sym (bytes_of p own))
+          (λ ne. h.whole m b (sym (at_put_other n m x opens ne) ∙ is))
+          (cases_eq n m);
+    }
+
+-- ---- bytes are written
+abbrev pub over : Shape → ℕ → List ℕ → ℕ → Slab → Slab
+over p a w n b = record { bytes = overlaid a w (slab_at p n) b.bytes; canary = b.canary }
+
+pub at_over : (p : Shape) (a : ℕ) (w : List ℕ) (n : ℕ) (m : List (ℕ × Slab)) (b : Slab) → at n m ≡ Some b → at n (overlaid_slabs p a w m) ≡ Some (over p a w n b)
+at_over p a w n [] b is = absurd (none-some b is)
+at_over p a w n (e ∷ m) b is =
+    elim (e.0 == n) as (λ t. (e.0 == n) ≡ t → cond t (Some e.1) (at n m) ≡ Some b → cond t (Some (over p a w e.0 e.1)) (at n (overlaid_slabs p a w m)) ≡ Some (over p a w n b)) [
+      | true ↦ λ key h. ap (λ (k : ℕ). Some (over p a w k e.1)) (eq_same e.0 n key) ∙ ap (λ (x : Slab). Some (over p a w n x)) (same_Some e.1 b h)
+      | false ↦ λ key h. at_over p a w n m b h
+    ] refl is
+
+pub over_at : (p : Shape) (a : ℕ) (w : List ℕ) (n : ℕ) (m : List (ℕ × Slab)) (x : Slab) → at n (overlaid_slabs p a w m) ≡ Some x → (b : Slab) × (at n m ≡ Some b)
+over_at p a w n [] x is = absurd (none-some x is)
+over_at p a w n (e ∷ m) x is =
+    elim (e.0 == n) as (λ t. cond t (Some (over p a w e.0 e.1)) (at n (overlaid_slabs p a w m)) ≡ Some x → (b : Slab) × (cond t (Some e.1) (at n m) ≡ Some b)) [
+      | true ↦ λ h. (e.1, refl)
+      | false ↦ λ h. over_at p a w n m x h
+    ] is
+
+pub holds_write : (p : Shape) (opens : List (ℕ × Slab)) (a len : ℕ) (w : List ℕ) (runs after : PageRuns) → IsShape p → length w ≡ len → HoldsSlabs p opens runs → Writes runs a len w after → HoldsSlabs p (overlaid_slabs p a w opens) after
+holds_write p opens a len w runs after shape long h wrote =
+    let some : 1 ≤ p.slab = omega (arith, slab_some p shape) in
+    let r = h.only wrote.first wrote.bytes wrote.is_run in
+    let k : ℕ = r.number in
+    let len_is : length r.slab.bytes ≡ p.slab = all_bytes p opens runs h r.own k r.slab r.slab_is in
+    let from : slab_at p k ≤ a = omega (arith, wrote.lies.from, r.first_is) in
+    let to : a + length w ≤ slab_at p k + p.slab = omega (arith, wrote.lies.to, r.first_is, ap (λ (l : List ℕ). length l) r.bytes_is, len_is, long) in
+    let here : overlaid a w (slab_at p k) r.slab.bytes ≡ written wrote.bytes (a - wrote.first) w =
+    ap (λ (x : ℕ). overlaid x w (slab_at p k) r.slab.bytes) (omega arith) ∙ overlaid_written (a - slab_at p k) (slab_at p k) w r.slab.bytes (omega arith)
+    ∙ ap (λ (x : ℕ). written r.slab.bytes (a - x) w) (sym r.first_is) ∙ ap (λ (x : List ℕ). written x (a - wrote.first) w) (sym r.bytes_is) in
+    let now : (q : ℕ) → map.get after q ≡ map.get (map.insert runs wrote.first (written wrote.bytes (a - wrote.first) w)) q = λ q. ap (λ (m : PageRuns). map.get m q) wrote.value in
+    -- the bytes of a slab after the write
+    let new : (n : ℕ) (b : Slab) → at n opens ≡ Some b → map.get after (slab_at p n) ≡ Some (overlaid a w (slab_at p n) b.bytes) = λ n b is. now (slab_at p n) ∙ ⊎_elim
+    (λ e. get_same runs wrote.first (written wrote.bytes (a - wrote.first) w) (slab_at p n) (ap (λ (x : ℕ). slab_at p x) e ∙ sym r.first_is)
+    ∙ ap (λ (x : List ℕ). Some x) (sym here) ∙ ap (λ (x : ℕ). Some (overlaid a w (slab_at p x) r.slab.bytes)) (sym e)
+    ∙ ap (λ (x : Slab). Some (overlaid a w (slab_at p n) x.bytes)) (same_Some r.slab b (sym r.slab_is ∙ ap (λ (x : ℕ). at x opens) (sym e) ∙ is)))
+    (λ ne. get_other runs wrote.first (written wrote.bytes (a - wrote.first) w) (slab_at p n) (λ e. ne (slab_apart p.first p.slab n k some (e ∙ r.first_is)))
+    ∙ h.each r.own n b is ∙ ap (λ (x : List ℕ). Some x) (sym (overlaid_apart a w (slab_at p n) b.bytes (⊎_elim
+    (λ lt. inl (omega (arith, slab_row p.first p.slab n k lt, all_bytes p opens runs h r.own n b is)))
+    (λ ge. inr (omega (arith, slab_row p.first p.slab k n (omega arith))))
+    (cases_lt n k)))))
+    (cases_eq n k) in
+    record {
+      each = λ own n x is. let o = over_at p a w n opens x is in
+          new n o.0 o.1 ∙ ap (λ (y : Slab). Some y.bytes) (same_Some (over p a w n o.0) x (sym (at_over p a w n opens o.0 o.1) ∙ is));
+      only = λ q bytes is. ⊎_elim
+          (λ e. record {
+            own = r.own;
+            number = k;
+            slab = over p a w k r.slab;
+            first_is = e ∙ r.first_is;
+            slab_is = at_over p a w k opens r.slab r.slab_is;
+            bytes_is = same_Some bytes (overlaid a w (slab_at p k) r.slab.bytes) (sym is ∙ ap (λ (x : ℕ). map.get after x) (e ∙ r.first_is) ∙ new k r.slab r.slab_is);
+          })
+          (λ ne. let o = h.only q bytes (sym (get_other runs wrote.first (written wrote.bytes (a - wrote.first) w) q ne) ∙ sym (now q) ∙ is) in record {
+            own = o.own;
+            number = o.number;
+            slab = over p a w o.number o.slab;
+            first_is = o.first_is;
+            slab_is = at_over p a w o.number opens o.slab o.slab_is;
+            bytes_is = same_Some bytes (overlaid a w (slab_at p o.number) o.slab.bytes) (sym is ∙ ap (λ (x : ℕ). map.get after x) o.first_is ∙ new o.number o.slab o.slab_is);
+          })
+          (cases_eq q wrote.first);
+      whole = λ n x is. let o = over_at p a w n opens x is in
+          ap (λ (y : Slab). length y.bytes) (same_Some x (over p a w n o.0) (sym is ∙ at_over p a w n opens o.0 o.1)) ∙ length_overlaid a w (slab_at p n) o.0.bytes ∙ h.whole n o.0 o.1;
+    }
+
+-- ---- bytes are read
+pub slab_is : (p : Shape) (n r a : ℕ) → a ≡ slab_at p n + r → r < p.slab → slab_of p a ≡ n
+slab_is p n r a is lt =
+    let off : a - p.first ≡ n * p.slab + r = omega arith in
+    ap (λ (x : ℕ). x / p.slab) off ∙ div-mul-add n p.slab r lt
+
+-- the byte of an address within a slab
+pub byte_in : (p : Shape) (s : State) (n r a : ℕ) (b : Slab) → a ≡ slab_at p n + r → r < p.slab → at n s.opens ≡ Some b → byte_at p s a ≡ slice_get b.bytes r
+byte_in p s n r a b is lt on =
+    let off : a - p.first ≡ n * p.slab + r = omega arith in
+    ap (λ (t : Bool). cond t None (option_and_then (λ (b : Slab). slice_get b.bytes ((a - p.first) % p.slab)) (at (slab_of p a) s.opens))) (above a p.first (omega arith))
+    ∙ ap (λ (m : ℕ). option_and_then (λ (b : Slab). slice_get b.bytes ((a - p.first) % p.slab)) (at m s.opens)) (slab_is p n r a is lt)
+    ∙ ap (λ (o : Option Slab). option_and_then (λ (b : Slab). slice_get b.bytes ((a - p.first) % p.slab)) o) on
+    ∙ ap (λ (x : ℕ). slice_get b.bytes x) (ap (λ (x : ℕ). x % p.slab) off ∙ mod-mul-add n p.slab r lt)
+  where
+    above : (a f : ℕ) → f ≤ a → nat_lt a f ≡ false
+    above a f le = grind (arith, nat_tests)
+
+pub bytes_in : (p : Shape) (s : State) (n r a len : ℕ) (b : Slab) → a ≡ slab_at p n + r → r < p.slab → at n s.opens ≡ Some b → bytes_from p s a len ≡ take len (drop r b.bytes)
+bytes_in p s n r a len b is lt on =
+    ap (λ (m : ℕ). take len (drop (a - slab_at p m) (option_map_or (λ (b : Slab). b.bytes) (at m s.opens) []))) (slab_is p n r a is lt)
+    ∙ ap (λ (o : Option Slab). take len (drop (a - slab_at p n) (option_map_or (λ (b : Slab). b.bytes) o []))) on
+    ∙ ap (λ (x : ℕ). take len (drop x b.bytes)) (omega arith)
+
+-- a range within an open slab can be read and written
+pub held_in : (p : Shape) (s : State) (n r a len : ℕ) (runs : PageRuns) → has_bytes p ≡ true → is_open s n ≡ true → a ≡ slab_at p n + r → r + len ≤ p.slab → 0 < len → HoldsSlabs p s.opens runs → IsHeld runs a len
+held_in p s n r a len runs own on is fits some h =
+    let b = on_some s.opens n on in
+    let l : length b.0.bytes ≡ p.slab = all_bytes p s.opens runs h own n b.0 b.1 in
+    (slab_at p n, b.0.bytes, h.each own n b.0 b.1, record { some = some; from = omega arith; to = omega arith })
+
+-- and what is read there are the bytes of the state
+pub reads_bytes : (p : Shape) (s : State) (a len : ℕ) (runs : PageRuns) (slice : List ℕ) → HoldsSlabs p s.opens runs → Reads runs a len slice → slice ≡ bytes_from p s a len
+reads_bytes p s a len runs slice h reads =
+    let r = h.only reads.first reads.bytes reads.is_run in
+    let l : length reads.bytes ≡ p.slab = ap (λ (y : List ℕ). length y) r.bytes_is ∙ all_bytes p s.opens runs h r.own r.number r.slab r.slab_is in
+    let off : a - reads.first ≡ a - slab_at p r.number = ap (λ (y : ℕ). a - y) r.first_is in
+    reads.value ∙ ap (λ (y : ℕ). take len (drop y reads.bytes)) off ∙ ap (λ (y : List ℕ). take len (drop (a - slab_at p r.number) y)) r.bytes_is
+    ∙ sym (bytes_in p s r.number (a - slab_at p r.number) a len r.slab (omega (arith, reads.lies.from, r.first_is)) (omega (arith, reads.lies.some, reads.lies.to, reads.lies.from, r.first_is, l)) r.slab_is)

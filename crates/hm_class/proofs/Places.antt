@@ -1,11 +1,10 @@
 -- The arithmetic of places.
-use Rattle.std.proofs.Common.{◌≡◌, ⊎_elim, ℕ, ◌+◌, ◌-◌, ◌*◌, ◌/◌, ◌%◌, ◌<◌, ◌≤◌, Bool, true, false, not, ◌&&◌, nat_lt, sym, ◌∙◌, ap, arith}
+use Rattle.std.proofs.Common.{◌≡◌, ⊎_elim, ℕ, ◌+◌, ◌-◌, ◌*◌, ◌/◌, ◌%◌, ◌<◌, ◌≤◌, Bool, true, cond, sym, ◌∙◌, ap, arith}
 use Rattle.std.proofs.lemmas.Nat.{rows, div-mul-add, mod-mul-add, div-add-mod'}
 use Rattle.std.proofs.lemmas.Bool.{cases_lt}
-use Rattle.std.proofs.lemmas.Bool.Decides.{nat_tests}
-use Rattle.hm_class_rules.proofs.Lists.{same_eq, other_eq}
+use Rattle.hm_sizes.proofs.PlaceTest.{place_tested, shape_places}
 use Rattle.hm_sizes.specs.declared.shape.Shape.{Shape}
-use Rattle.hm_sizes.specs.Shapes.{IsShape, IsPlaceOf, IsPlace, place, slab_of, slot_of, is_slot}
+use Rattle.hm_sizes.specs.Shapes.{IsShape, IsPlaceOf, IsPlace, place, slab_of, slot_of, has_bytes, usable}
 
 slot_row : (slot i n : ℕ) → i < n → i * slot + slot ≤ n * slot
 slot_row slot i n lt = grind (arith, rows)
@@ -39,27 +38,8 @@ place_same p n i m j shape lt lt' e = (
   sym (slot_of_place p n i shape lt) ∙ ap (λ (a : ℕ). slot_of p a) e ∙ slot_of_place p m j shape lt',
 )
 
-below : (a b : ℕ) → a < b → nat_lt a b ≡ true
-below a b lt = grind (arith, nat_tests)
-
-all_true : (a b c d : Bool) → a ≡ true → b ≡ false → c ≡ true → d ≡ true → (a && (not b && (c && d))) ≡ true
-all_true a b c d p q r s =
-    ap (λ (x : Bool). x && (not b && (c && d))) p ∙ ap (λ (x : Bool). not x && (c && d)) q ∙ ap (λ (x : Bool). x && d) r ∙ s
-
-pub is_place : (p : Shape) (a n i : ℕ) → IsPlaceOf p a n i → is_slot p a n i ≡ true
-is_place p a n i h = all_true _ _ _ _ (below n p.limit h.below) (other_eq _ _ h.no_guard) (below i p.slots h.slot) (same_eq _ _ (sym h.is))
-
-pub slab_is : (p : Shape) (a n i : ℕ) → IsShape p → IsPlaceOf p a n i → slab_of p a ≡ n
-slab_is p a n i shape h = ap (λ (q : ℕ). slab_of p q) h.is ∙ slab_of_place p n i shape h.slot
-
-pub slot_is : (p : Shape) (a n i : ℕ) → IsShape p → IsPlaceOf p a n i → slot_of p a ≡ i
-slot_is p a n i shape h = ap (λ (q : ℕ). slot_of p q) h.is ∙ slot_of_place p n i shape h.slot
-
 pub place_test : (p : Shape) (a n i : ℕ) → IsShape p → IsPlaceOf p a n i → IsPlace p a
-place_test p a n i shape h =
-    ap (λ (m : ℕ). is_slot p a m (slot_of p a)) (slab_is p a n i shape h)
-    ∙ ap (λ (j : ℕ). is_slot p a n j) (slot_is p a n i shape h)
-    ∙ is_place p a n i h
+place_test p a n i shape h = place_tested p a n i (shape_places p shape) h
 
 -- a slab begins at a page
 pub place_whole : (p : Shape) (n : ℕ) → IsShape p → place p n 0 % 4096 ≡ 0
@@ -79,3 +59,9 @@ place_whole p n shape =
 pub slab_apart : (first slab m n : ℕ) → 1 ≤ slab → first + m * slab ≡ first + n * slab → m ≡ n
 slab_apart first slab m n some e =
     ⊎_elim (λ lt. absurd (omega (arith, slab_row first slab m n lt))) (λ ge. ⊎_elim (λ lt. absurd (omega (arith, slab_row first slab n m lt))) (λ le. omega arith) (cases_lt n m)) (cases_lt m n)
+
+-- a slot with bytes has some that are usable, and then the canary's 8
+pub usable_within : (p : Shape) → IsShape p → has_bytes p ≡ true → (usable p + 8 ≡ p.slot) × (0 < usable p)
+usable_within p shape own =
+    let is : usable p ≡ p.slot - 8 = ap (λ (b : Bool). cond b (p.slot - 8) 0) own in
+    (omega (arith, is, shape.slot_least), omega (arith, is, shape.slot_least))

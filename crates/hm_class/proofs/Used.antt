@@ -1,6 +1,6 @@
 -- How slots are used after one of them changed, or a slab was opened.
-use Rattle.std.proofs.Common.{◌≡◌, ◌≢◌, ⊎_elim, ℕ, zero, suc, ◌+◌, ◌<◌, ◌≤◌, Bool, true, false, cond, List, [], ◌∷◌, ◌++◌, length, get_or, slice_get, slice_set, replicate, Option, Some, None, is_some, option_map, count_by, sum_by, sym, ◌∙◌, ap, subst, refl, arith, length-append, append-nil}
-use Rattle.std.specs.Option.{option_and_then}
+use Rattle.std.proofs.Common.{◌≡◌, ◌≢◌, ⊎_elim, ℕ, zero, suc, ◌+◌, ◌<◌, ◌≤◌, Bool, true, false, cond, List, [], ◌∷◌, ◌++◌, length, get_or, slice_get, slice_set, replicate, Option, Some, None, is_some, option_map, count_by, sum_by, sym, ◌∙◌, ap, subst, refl, arith, length-append, append-nil, true≢false}
+use Rattle.std.specs.Option.{option_and_then, option_map_or}
 use Rattle.std.proofs.lemmas.Bool.{cases_eq}
 use Rattle.std.proofs.lemmas.List.{length-set, get_or-set_same}
 use Rattle.std.proofs.lemmas.List.Sums.{sum_by-set, sum_by-cons, sum_by_push, sum_by-append}
@@ -8,9 +8,9 @@ use Rattle.std.proofs.lemmas.Option.{slice_get_within, get_or_from_slice_get, sl
 use Rattle.hm_sizes.specs.declared.shape.Shape.{Shape}
 use Rattle.hm_sizes.specs.Shapes.{is_guard, after}
 use Rattle.hm_class.specs.declared.slab.SlotUse.{SlotUse}
-use Rattle.hm_class.specs.declared.slab.SlotUse.TheVariants.{Never, Free, Live}
-use Rattle.hm_class.specs.Uses.{Uses, lives, slots_of, use_at, with_use, with_slab, live_in, live_count, open_count}
-use Rattle.hm_class.proofs.Counts.{mapped, count_given, count_taken}
+use Rattle.hm_class.specs.declared.slab.SlotUse.TheVariants.{Never}
+use Rattle.hm_class.specs.Uses.{Uses, SlabUse, slab_in, use_at, canary_at, with_slot, with_use, with_slab, count_in, open_count}
+use Rattle.hm_class.proofs.Counts.{weight, count_set}
 use Rattle.hm_class.proofs.Found.{slab_there}
 
 -- ---- lists
@@ -25,134 +25,146 @@ module _ {X : Type 0} where
   get_set_other (x ∷ xs) (suc i) zero y ne = refl
   get_set_other (x ∷ xs) (suc i) (suc j) y ne = get_set_other xs i j y (λ e. ne (ap (λ n. suc n) e))
 
-abbrev opens : Option (List SlotUse) → ℕ
+abbrev opens : Option SlabUse → ℕ
 opens slab = cond (is_some slab) 1 0
 
 -- ---- one slot changes
-module _ (uses : Uses) (n i : ℕ) (u : SlotUse) (us : List SlotUse) (is : slots_of uses n ≡ Some us) where
-  with_use_is : with_use uses n i u ≡ slice_set uses n (Some (slice_set us i u))
-  with_use_is = ap (λ (o : Option (List SlotUse)). slice_set uses n (option_map (λ slots. slice_set slots i u) o)) is
+module _ (uses : Uses) (n i : ℕ) (u : SlotUse) (b : SlabUse) (is : slab_in uses n ≡ Some b) where
+  with_use_is : with_use uses n i u ≡ slice_set uses n (Some (with_slot i u b))
+  with_use_is = ap (λ (o : Option SlabUse). slice_set uses n (option_map (with_slot i u) o)) is
 
-  within : n < length uses
-  within = slice_get_within uses n (Some us) (slab_there uses n us is)
+  pub within : n < length uses
+  within = slice_get_within uses n (Some b) (slab_there uses n b is)
 
-  pub slots_here : slots_of (with_use uses n i u) n ≡ Some (slice_set us i u)
-  slots_here =
-      ap (λ (l : Uses). slots_of l n) with_use_is
-      ∙ ap (λ (o : Option (Option (List SlotUse))). option_and_then (λ slab. slab) o) (get_set_same uses n (Some (slice_set us i u)) within)
+  pub slab_here : slab_in (with_use uses n i u) n ≡ Some (with_slot i u b)
+  slab_here =
+      ap (λ (l : Uses). slab_in l n) with_use_is
+      ∙ ap (λ (o : Option (Option SlabUse)). option_and_then (λ slab. slab) o) (get_set_same uses n (Some (with_slot i u b)) within)
 
-  pub slots_there : (m : ℕ) → m ≢ n → slots_of (with_use uses n i u) m ≡ slots_of uses m
-  slots_there m ne =
-      ap (λ (l : Uses). slots_of l m) with_use_is
-      ∙ ap (λ (o : Option (Option (List SlotUse))). option_and_then (λ slab. slab) o) (get_set_other uses n m (Some (slice_set us i u)) ne)
+  pub slab_elsewhere : (m : ℕ) → m ≢ n → slab_in (with_use uses n i u) m ≡ slab_in uses m
+  slab_elsewhere m ne =
+      ap (λ (l : Uses). slab_in l m) with_use_is
+      ∙ ap (λ (o : Option (Option SlabUse)). option_and_then (λ slab. slab) o) (get_set_other uses n m (Some (with_slot i u b)) ne)
 
-  pub use_here : i < length us → use_at (with_use uses n i u) n i ≡ Some u
-  use_here lt = ap (λ (o : Option (List SlotUse)). option_and_then (λ slots. slice_get slots i) o) slots_here ∙ get_set_same us i u lt
+  pub use_here : i < length b.slots → use_at (with_use uses n i u) n i ≡ Some u
+  use_here lt = ap (λ (o : Option SlabUse). option_and_then (λ (b : SlabUse). slice_get b.slots i) o) slab_here ∙ get_set_same b.slots i u lt
 
   pub use_beside : (j : ℕ) → j ≢ i → use_at (with_use uses n i u) n j ≡ use_at uses n j
   use_beside j ne =
-      ap (λ (o : Option (List SlotUse)). option_and_then (λ slots. slice_get slots j) o) slots_here
-      ∙ get_set_other us i j u ne
-      ∙ ap (λ (o : Option (List SlotUse)). option_and_then (λ slots. slice_get slots j) o) (sym is)
+      ap (λ (o : Option SlabUse). option_and_then (λ (b : SlabUse). slice_get b.slots j) o) slab_here
+      ∙ get_set_other b.slots i j u ne
+      ∙ ap (λ (o : Option SlabUse). option_and_then (λ (b : SlabUse). slice_get b.slots j) o) (sym is)
 
   pub use_there : (m j : ℕ) → m ≢ n → use_at (with_use uses n i u) m j ≡ use_at uses m j
-  use_there m j ne = ap (λ (o : Option (List SlotUse)). option_and_then (λ slots. slice_get slots j) o) (slots_there m ne)
+  use_there m j ne = ap (λ (o : Option SlabUse). option_and_then (λ (b : SlabUse). slice_get b.slots j) o) (slab_elsewhere m ne)
 
   pub length_with_use : length (with_use uses n i u) ≡ length uses
-  length_with_use = ap (λ (l : Uses). length l) with_use_is ∙ length-set uses n (Some (slice_set us i u))
+  length_with_use = ap (λ (l : Uses). length l) with_use_is ∙ length-set uses n (Some (with_slot i u b))
 
-  there : get_or uses n None ≡ Some us
-  there = get_or_from_slice_get uses n (Some us) None (slab_there uses n us is)
+  pub canary_with_use : (m : ℕ) → canary_at (with_use uses n i u) m ≡ canary_at uses m
+  canary_with_use m =
+      ⊎_elim
+      (λ e. subst (λ (k : ℕ). canary_at (with_use uses n i u) k ≡ canary_at uses k) (sym e)
+      (ap (λ (o : Option SlabUse). option_map_or (λ (b : SlabUse). b.canary) o 0) slab_here ∙ ap (λ (o : Option SlabUse). option_map_or (λ (b : SlabUse). b.canary) o 0) (sym is)))
+      (λ ne. ap (λ (o : Option SlabUse). option_map_or (λ (b : SlabUse). b.canary) o 0) (slab_elsewhere m ne))
+      (cases_eq m n)
 
-  pub live_with_use : live_count (with_use uses n i u) + count_by lives us ≡ live_count uses + count_by lives (slice_set us i u)
-  live_with_use =
-      let old : live_in (get_or uses n None) ≡ count_by lives us = ap live_in there in
-      let all : live_count (with_use uses n i u) ≡ live_count (slice_set uses n (Some (slice_set us i u))) = ap live_count with_use_is in
-      omega (arith, sum_by-set live_in uses n (Some (slice_set us i u)) None within, old, all)
+  there : get_or uses n None ≡ Some b
+  there = get_or_from_slice_get uses n (Some b) None (slab_there uses n b is)
+
+  -- the slots that pass a test
+  pub count_with_use : (test : SlotUse → Bool) (v : SlotUse) → slice_get b.slots i ≡ Some v
+      → sum_by (count_in test) (with_use uses n i u) + weight test v ≡ sum_by (count_in test) uses + weight test u
+  count_with_use test v was =
+      let old : count_in test (get_or uses n None) ≡ count_by test b.slots = ap (count_in test) there in
+      let all : sum_by (count_in test) (with_use uses n i u) ≡ sum_by (count_in test) (slice_set uses n (Some (with_slot i u b))) = ap (sum_by (count_in test)) with_use_is in
+      omega (arith, sum_by-set (count_in test) uses n (Some (with_slot i u b)) None within, old, all, count_set test b.slots i v u was)
 
   pub open_with_use : open_count (with_use uses n i u) ≡ open_count uses
   open_with_use =
       let old : opens (get_or uses n None) ≡ 1 = ap opens there in
-      let all : open_count (with_use uses n i u) ≡ sum_by opens (slice_set uses n (Some (slice_set us i u))) = ap open_count with_use_is in
-      omega (arith, sum_by-set opens uses n (Some (slice_set us i u)) None within, old, all)
+      let all : open_count (with_use uses n i u) ≡ sum_by opens (slice_set uses n (Some (with_slot i u b))) = ap open_count with_use_is in
+      omega (arith, sum_by-set opens uses n (Some (with_slot i u b)) None within, old, all)
 
--- a slot that is not live, and its slab
+-- a slot and its slab
 pub record IsFound (uses : Uses) (n i : ℕ) (u : SlotUse) : Type 0 where
-  pub slots : List SlotUse
-  pub is_slab : slots_of uses n ≡ Some slots
-  pub is_use : slice_get slots i ≡ Some u
+  pub slab : SlabUse
+  pub is_slab : slab_in uses n ≡ Some slab
+  pub is_use : slice_get slab.slots i ≡ Some u
 
 pub found : (uses : Uses) (n i : ℕ) (u : SlotUse) → use_at uses n i ≡ Some u → IsFound uses n i u
-found uses n i u e = of (slots_of uses n) refl e
+found uses n i u e = of (slab_in uses n) refl e
   where
-    of : (o : Option (List SlotUse)) → slots_of uses n ≡ o → option_and_then (λ slots. slice_get slots i) o ≡ Some u → IsFound uses n i u
+    of : (o : Option SlabUse) → slab_in uses n ≡ o → option_and_then (λ (b : SlabUse). slice_get b.slots i) o ≡ Some u → IsFound uses n i u
     of None is e = absurd (none-some u e)
-    of (Some us) is e = record { slots = us; is_slab = is; is_use = e }
+    of (Some b) is e = record { slab = b; is_slab = is; is_use = e }
 
-pub live_given : (uses : Uses) (n i : ℕ) → option_map lives (use_at uses n i) ≡ Some false → live_count (with_use uses n i Live) ≡ live_count uses + 1
-live_given uses n i e =
-    let m = mapped lives (use_at uses n i) false e in
-    let f = found uses n i m.0 m.1 in
-    omega (arith, live_with_use uses n i Live f.slots f.is_slab, count_given f.slots i (ap (λ (o : Option SlotUse). option_map lives o) f.is_use ∙ ap (λ (b : Bool). Some b) m.2))
+pub some_use : (uses : Uses) (n i : ℕ) → is_some (use_at uses n i) ≡ true → (u : SlotUse) × (use_at uses n i ≡ Some u)
+some_use uses n i e = of (use_at uses n i) e
+  where
+    of : (o : Option SlotUse) → is_some o ≡ true → (u : SlotUse) × (o ≡ Some u)
+    of None e = absurd (true≢false (sym e))
+    of (Some u) e = (u, refl)
 
-pub live_taken : (uses : Uses) (n i : ℕ) → use_at uses n i ≡ Some Live → live_count (with_use uses n i Free) + 1 ≡ live_count uses
-live_taken uses n i e =
-    let f = found uses n i Live e in
-    omega (arith, live_with_use uses n i Free f.slots f.is_slab, count_taken f.slots i f.is_use)
+-- how many pass a test, once a slot that is there is used otherwise
+pub counted : (test : SlotUse → Bool) (uses : Uses) (n i : ℕ) (u v : SlotUse) → use_at uses n i ≡ Some v
+    → sum_by (count_in test) (with_use uses n i u) + weight test v ≡ sum_by (count_in test) uses + weight test u
+counted test uses n i u v e = let f = found uses n i v e in count_with_use uses n i u f.slab f.is_slab test v f.is_use
 
 -- ---- a slab is opened
-slots_guard : (uses : Uses) (m : ℕ) → slots_of (uses ++ None ∷ []) m ≡ slots_of uses m
-slots_guard [] zero = refl
-slots_guard [] (suc m) = refl
-slots_guard (o ∷ uses) zero = refl
-slots_guard (o ∷ uses) (suc m) = slots_guard uses m
+slab_guard : (uses : Uses) (m : ℕ) → slab_in (uses ++ None ∷ []) m ≡ slab_in uses m
+slab_guard [] zero = refl
+slab_guard [] (suc m) = refl
+slab_guard (o ∷ uses) zero = refl
+slab_guard (o ∷ uses) (suc m) = slab_guard uses m
 
-slots_push : (uses : Uses) (us : List SlotUse) → slots_of (uses ++ Some us ∷ []) (length uses) ≡ Some us
-slots_push [] us = refl
-slots_push (o ∷ uses) us = slots_push uses us
+slab_push : (uses : Uses) (b : SlabUse) → slab_in (uses ++ Some b ∷ []) (length uses) ≡ Some b
+slab_push [] b = refl
+slab_push (o ∷ uses) b = slab_push uses b
 
-slots_before : (uses : Uses) (us : List SlotUse) (m : ℕ) → m ≢ length uses → slots_of (uses ++ Some us ∷ []) m ≡ slots_of uses m
-slots_before [] us zero ne = absurd (ne refl)
-slots_before [] us (suc m) ne = refl
-slots_before (o ∷ uses) us zero ne = refl
-slots_before (o ∷ uses) us (suc m) ne = slots_before uses us m (λ e. ne (ap (λ n. suc n) e))
+slab_before : (uses : Uses) (b : SlabUse) (m : ℕ) → m ≢ length uses → slab_in (uses ++ Some b ∷ []) m ≡ slab_in uses m
+slab_before [] b zero ne = absurd (ne refl)
+slab_before [] b (suc m) ne = refl
+slab_before (o ∷ uses) b zero ne = refl
+slab_before (o ∷ uses) b (suc m) ne = slab_before uses b m (λ e. ne (ap (λ n. suc n) e))
 
-module _ (p : Shape) (uses : Uses) (us : List SlotUse) where
-  guarded : (b : Bool) (m : ℕ) → slots_of ((uses ++ Some us ∷ []) ++ cond b (None ∷ []) []) m ≡ slots_of (uses ++ Some us ∷ []) m
-  guarded true m = slots_guard (uses ++ Some us ∷ []) m
-  guarded false m = ap (λ (l : Uses). slots_of l m) (append-nil (uses ++ Some us ∷ []))
+module _ (p : Shape) (uses : Uses) (b : SlabUse) where
+  guarded : (t : Bool) (m : ℕ) → slab_in ((uses ++ Some b ∷ []) ++ cond t (None ∷ []) []) m ≡ slab_in (uses ++ Some b ∷ []) m
+  guarded true m = slab_guard (uses ++ Some b ∷ []) m
+  guarded false m = ap (λ (l : Uses). slab_in l m) (append-nil (uses ++ Some b ∷ []))
 
-  pub slots_new : slots_of (with_slab p uses us) (length uses) ≡ Some us
-  slots_new = guarded (is_guard p (length uses + 1)) (length uses) ∙ slots_push uses us
+  pub slab_new : slab_in (with_slab p uses b) (length uses) ≡ Some b
+  slab_new = guarded (is_guard p (length uses + 1)) (length uses) ∙ slab_push uses b
 
-  pub slots_old : (m : ℕ) → m ≢ length uses → slots_of (with_slab p uses us) m ≡ slots_of uses m
-  slots_old m ne = guarded (is_guard p (length uses + 1)) m ∙ slots_before uses us m ne
+  pub slab_old : (m : ℕ) → m ≢ length uses → slab_in (with_slab p uses b) m ≡ slab_in uses m
+  slab_old m ne = guarded (is_guard p (length uses + 1)) m ∙ slab_before uses b m ne
 
-  pub length_with_slab : length (with_slab p uses us) ≡ after p (length uses)
+  pub length_with_slab : length (with_slab p uses b) ≡ after p (length uses)
   length_with_slab = of (is_guard p (length uses + 1))
     where
-      of : (b : Bool) → length ((uses ++ Some us ∷ []) ++ cond b (None ∷ []) []) ≡ cond b (length uses + 2) (length uses + 1)
-      of true = omega (arith, length-append (uses ++ Some us ∷ []) (None ∷ []), length-append uses (Some us ∷ []))
-      of false = omega (arith, length-append (uses ++ Some us ∷ []) [], length-append uses (Some us ∷ []))
+      of : (t : Bool) → length ((uses ++ Some b ∷ []) ++ cond t (None ∷ []) []) ≡ cond t (length uses + 2) (length uses + 1)
+      of true = omega (arith, length-append (uses ++ Some b ∷ []) (None ∷ []), length-append uses (Some b ∷ []))
+      of false = omega (arith, length-append (uses ++ Some b ∷ []) [], length-append uses (Some b ∷ []))
 
-  pub live_with_slab : live_count (with_slab p uses us) ≡ live_count uses + count_by lives us
-  live_with_slab = of (is_guard p (length uses + 1))
+  pub count_with_slab : (test : SlotUse → Bool) → sum_by (count_in test) (with_slab p uses b) ≡ sum_by (count_in test) uses + count_by test b.slots
+  count_with_slab test = of (is_guard p (length uses + 1))
     where
-      of : (b : Bool) → live_count ((uses ++ Some us ∷ []) ++ cond b (None ∷ []) []) ≡ live_count uses + count_by lives us
-      of true = omega (arith, sum_by_push live_in (uses ++ Some us ∷ []) None, sum_by_push live_in uses (Some us))
-      of false = omega (arith, sum_by-append live_in (uses ++ Some us ∷ []) [], sum_by_push live_in uses (Some us))
+      of : (t : Bool) → sum_by (count_in test) ((uses ++ Some b ∷ []) ++ cond t (None ∷ []) []) ≡ sum_by (count_in test) uses + count_by test b.slots
+      of true = omega (arith, sum_by_push (count_in test) (uses ++ Some b ∷ []) None, sum_by_push (count_in test) uses (Some b))
+      of false = omega (arith, sum_by-append (count_in test) (uses ++ Some b ∷ []) [], sum_by_push (count_in test) uses (Some b))
 
-  pub open_with_slab : open_count (with_slab p uses us) ≡ open_count uses + 1
+  pub open_with_slab : open_count (with_slab p uses b) ≡ open_count uses + 1
   open_with_slab = of (is_guard p (length uses + 1))
     where
-      of : (b : Bool) → open_count ((uses ++ Some us ∷ []) ++ cond b (None ∷ []) []) ≡ open_count uses + 1
-      of true = omega (arith, sum_by_push opens (uses ++ Some us ∷ []) None, sum_by_push opens uses (Some us))
-      of false = omega (arith, sum_by-append opens (uses ++ Some us ∷ []) [], sum_by_push opens uses (Some us))
+      of : (t : Bool) → open_count ((uses ++ Some b ∷ []) ++ cond t (None ∷ []) []) ≡ open_count uses + 1
+      of true = omega (arith, sum_by_push opens (uses ++ Some b ∷ []) None, sum_by_push opens uses (Some b))
+      of false = omega (arith, sum_by-append opens (uses ++ Some b ∷ []) [], sum_by_push opens uses (Some b))
 
--- nothing is live in a new slab
-pub none_live : (n : ℕ) → count_by lives (replicate n Never) ≡ 0
-none_live zero = refl
-none_live (suc n) = sum_by-cons (λ (u : SlotUse). cond (lives u) 1 0) Never (replicate n Never) ∙ omega (arith, none_live n)
+-- no slot of a new slab passes a test that one never given fails
+pub none_new : (test : SlotUse → Bool) (n : ℕ) → test Never ≡ false → count_by test (replicate n Never) ≡ 0
+none_new test zero fails = refl
+none_new test (suc n) fails =
+    sum_by-cons (λ (u : SlotUse). cond (test u) 1 0) Never (replicate n Never) ∙ ap (λ (b : Bool). cond b 1 0 + count_by test (replicate n Never)) fails ∙ omega (arith, none_new test n fails)
 
 pub new_slot : (n i : ℕ) → i < n → slice_get (replicate n Never) i ≡ Some Never
 new_slot zero i lt = absurd (omega arith)
@@ -160,23 +172,23 @@ new_slot (suc n) zero lt = refl
 new_slot (suc n) (suc i) lt = new_slot n i (omega arith)
 
 -- a number from the end on is no slab's
-pub slots_past : (uses : Uses) (n : ℕ) → length uses ≤ n → slots_of uses n ≡ None
-slots_past uses n le = ap (λ (o : Option (Option (List SlotUse))). option_and_then (λ slab. slab) o) (slice_get_past uses n le)
+pub slab_past : (uses : Uses) (n : ℕ) → length uses ≤ n → slab_in uses n ≡ None
+slab_past uses n le = ap (λ (o : Option (Option SlabUse)). option_and_then (λ slab. slab) o) (slice_get_past uses n le)
 
 -- the same slabs are open, with as many slots
-pub some_with_use : (uses : Uses) (n i m : ℕ) (u : SlotUse) (us : List SlotUse) → slots_of uses n ≡ Some us → is_some (slots_of (with_use uses n i u) m) ≡ is_some (slots_of uses m)
-some_with_use uses n i m u us is =
+pub some_with_use : (uses : Uses) (n i m : ℕ) (u : SlotUse) (b : SlabUse) → slab_in uses n ≡ Some b → is_some (slab_in (with_use uses n i u) m) ≡ is_some (slab_in uses m)
+some_with_use uses n i m u b is =
     ⊎_elim
-    (λ e. subst (λ (k : ℕ). is_some (slots_of (with_use uses n i u) k) ≡ is_some (slots_of uses k)) (sym e)
-    (ap (λ (o : Option (List SlotUse)). is_some o) (slots_here uses n i u us is) ∙ ap (λ (o : Option (List SlotUse)). is_some o) (sym is)))
-    (λ ne. ap (λ (o : Option (List SlotUse)). is_some o) (slots_there uses n i u us is m ne))
+    (λ e. subst (λ (k : ℕ). is_some (slab_in (with_use uses n i u) k) ≡ is_some (slab_in uses k)) (sym e)
+    (ap (λ (o : Option SlabUse). is_some o) (slab_here uses n i u b is) ∙ ap (λ (o : Option SlabUse). is_some o) (sym is)))
+    (λ ne. ap (λ (o : Option SlabUse). is_some o) (slab_elsewhere uses n i u b is m ne))
     (cases_eq m n)
 
-pub whole_with_use : (uses : Uses) (n i k : ℕ) (u : SlotUse) (us : List SlotUse) → slots_of uses n ≡ Some us → ((m : ℕ) (xs : List SlotUse) → slots_of uses m ≡ Some xs → length xs ≡ k)
-    → (m : ℕ) (xs : List SlotUse) → slots_of (with_use uses n i u) m ≡ Some xs → length xs ≡ k
-whole_with_use uses n i k u us is whole m xs e =
+pub whole_with_use : (uses : Uses) (n i k : ℕ) (u : SlotUse) (b : SlabUse) → slab_in uses n ≡ Some b → ((m : ℕ) (x : SlabUse) → slab_in uses m ≡ Some x → length x.slots ≡ k)
+    → (m : ℕ) (x : SlabUse) → slab_in (with_use uses n i u) m ≡ Some x → length x.slots ≡ k
+whole_with_use uses n i k u b is whole m x e =
     ⊎_elim
-    (λ same. let xs_is : xs ≡ slice_set us i u = same_Some xs _ (sym e ∙ ap (λ (q : ℕ). slots_of (with_use uses n i u) q) same ∙ slots_here uses n i u us is) in
-    ap (λ (l : List SlotUse). length l) xs_is ∙ length-set us i u ∙ whole n us is)
-    (λ ne. whole m xs (sym (slots_there uses n i u us is m ne) ∙ e))
+    (λ same. let x_is : x ≡ with_slot i u b = same_Some x _ (sym e ∙ ap (λ (q : ℕ). slab_in (with_use uses n i u) q) same ∙ slab_here uses n i u b is) in
+    ap (λ (x : SlabUse). length x.slots) x_is ∙ length-set b.slots i u ∙ whole n b is)
+    (λ ne. whole m x (sym (slab_elsewhere uses n i u b is m ne) ∙ e))
     (cases_eq m n)

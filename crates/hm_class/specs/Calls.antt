@@ -4,7 +4,7 @@ use Rattle.hm_model.specs.declared.entry.Entry.{Entry}
 use Rattle.hm_model.specs.declared.entry.Who.{Who}
 use Rattle.hm_model.specs.declared.entry.Call.{Call}
 use Rattle.hm_model.specs.declared.entry.Reply.{Reply}
-use Rattle.hm_model.specs.declared.entry.Reply.TheVariants.{Given, Exhausted, PagesFailed, NoSlot, Unused, DoubleFree, Freed}
+use Rattle.hm_model.specs.declared.entry.Reply.TheVariants.{Given, Overwritten, Exhausted, PagesFailed, Freed, NoSlot, Unused, DoubleFree, WrongSize, Canary, Usable, Bytes, Filled, Trap}
 use Rattle.hm_model.specs.declared.entry.Choices.{Choices}
 use Rattle.hm_sizes.specs.declared.class.ClassId.{ClassId}
 use Rattle.hm_sizes.specs.declared.config.Config.{Config}
@@ -53,9 +53,10 @@ module _ {P : Type 0} where
     pub pages_are : new.pages ≡ pages
     pub entries_are : new.entries ≡ []
 
--- the replies that do not speak of bytes
+-- ---- the replies that each call may have
 abbrev pub IsAllotReply : Reply → Type 0
 IsAllotReply (Given addr usable) = ⊤
+IsAllotReply (Overwritten addr at found) = ⊤
 IsAllotReply Exhausted = ⊤
 IsAllotReply PagesFailed = ⊤
 IsAllotReply reply = ⊥
@@ -64,5 +65,24 @@ abbrev pub IsGiveBackReply : Reply → Type 0
 IsGiveBackReply NoSlot = ⊤
 IsGiveBackReply Unused = ⊤
 IsGiveBackReply DoubleFree = ⊤
+IsGiveBackReply (WrongSize block stated) = ⊤
+IsGiveBackReply (Canary kept found) = ⊤
 IsGiveBackReply Freed = ⊤
 IsGiveBackReply reply = ⊥
+
+abbrev pub IsMeasureReply : Reply → Type 0
+IsMeasureReply NoSlot = ⊤
+IsMeasureReply Unused = ⊤
+IsMeasureReply DoubleFree = ⊤
+IsMeasureReply (Usable size) = ⊤
+IsMeasureReply reply = ⊥
+
+abbrev pub IsFetchReply : Reply → Type 0
+IsFetchReply (Bytes runs) = ⊤
+IsFetchReply (Trap addr) = ⊤
+IsFetchReply reply = ⊥
+
+abbrev pub IsFillReply : Reply → Type 0
+IsFillReply Filled = ⊤
+IsFillReply (Trap addr) = ⊤
+IsFillReply reply = ⊥

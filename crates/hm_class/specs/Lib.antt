@@ -3,4 +3,8 @@ pub mod Sources
 pub mod Region
 pub mod Calls
 pub mod Kept
+pub mod Outcomes
+pub mod Gives
 pub mod Finds
+pub mod Judgements
+pub mod Access

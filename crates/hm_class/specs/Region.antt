@@ -1,14 +1,16 @@
 -- A class region as callers see it.
-use Rattle.std.specs.Prelude.{◌≡◌, ℕ, ◌≤◌, Bool, true, false, IsTrue, List, length, Some}
+use Rattle.std.specs.Prelude.{◌≡◌, ℕ, ◌≤◌, Bool, true, IsTrue, List, length, Option, Some, None}
 use Rattle.std.specs.FinMap as map
-use Rattle.hm_outside.specs.PageRuns.{PageRuns, IsRun}
+use Rattle.hm_outside.specs.PageRuns.{PageRuns}
 use Rattle.hm_model.specs.declared.entry.Entry.{Entry}
 use Rattle.hm_sizes.specs.declared.class.ClassId.{ClassId}
 use Rattle.hm_sizes.specs.declared.config.Config.{Config}
 use Rattle.hm_sizes.specs.declared.shape.Shape.{Shape}
-use Rattle.hm_sizes.specs.Shapes.{shape_of, slab_at}
-use Rattle.hm_class_rules.specs.State.{State, is_open}
-use Rattle.hm_class_rules.specs.Rules.{Terms, IsLegal, state}
+use Rattle.hm_sizes.specs.Shapes.{shape_of, slab_at, has_bytes}
+use Rattle.hm_model.specs.Maps.{at}
+use Rattle.hm_class_rules.specs.Laws.{AllWhole, bytes_of_slab}
+use Rattle.hm_class_rules.specs.State.{State, Slab}
+use Rattle.hm_class_rules.specs.Rules.{Terms, IsLegal, state, IsLiveBlock, wrong_size, wrong_canary}
 
 pub record Region (P : Type 0) : Type 0 where
   pub config : Config
@@ -25,23 +27,40 @@ module _ {P : Type 0} where
   abbrev pub region_shape : Region P → Shape
   region_shape r = shape_of r.config r.arena r.class 4096
 
-  -- nothing is said of bytes
-  abbrev pub terms : Region P → Terms
-  terms r = record { config = r.config; shape = region_shape r; told = false }
+  -- the bytes are told where the pages tell them
+  abbrev pub terms : (P → Bool) → Region P → Terms
+  terms told r = record { config = r.config; shape = region_shape r; told = told r.pages }
 
   -- the state after the entries
-  abbrev pub region_state : Region P → State
-  region_state r = state (terms r) r.entries
+  abbrev pub region_state : (P → Bool) → Region P → State
+  region_state told r = state (terms told r) r.entries
 
--- the accessible runs are exactly the open slabs
-pub record HoldsSlabs (p : Shape) (s : State) (runs : PageRuns) : Type 0 where
-  pub each : (n : ℕ) → is_open s n ≡ true → IsRun runs (slab_at p n) p.slab
-  pub only : (q : ℕ) (bytes : List ℕ) → map.get runs q ≡ Some bytes → (n : ℕ) × (is_open s n ≡ true) × (q ≡ slab_at p n)
+-- the run that begins at an address is an open slab with its bytes
+pub record IsSlab (p : Shape) (opens : List (ℕ × Slab)) (first : ℕ) (bytes : List ℕ) : Type 0 where
+  pub own : has_bytes p ≡ true
+  pub number : ℕ
+  pub slab : Slab
+  pub first_is : first ≡ slab_at p number
+  pub slab_is : at number opens ≡ Some slab
+  pub bytes_is : bytes ≡ slab.bytes
+
+-- the accessible runs are exactly the open slabs, with their bytes; in class 0 there are none
+pub record HoldsSlabs (p : Shape) (opens : List (ℕ × Slab)) (runs : PageRuns) : Type 0 where
+  pub each : has_bytes p ≡ true → (n : ℕ) (b : Slab) → at n opens ≡ Some b → map.get runs (slab_at p n) ≡ Some b.bytes
+  pub only : (q : ℕ) (bytes : List ℕ) → map.get runs q ≡ Some bytes → IsSlab p opens q bytes
+  pub whole : AllWhole (bytes_of_slab p) opens
 
 -- the history is legal, and the pages and the room for entries are what it says
 pub record IsRegion {P : Type 0} (told : P → Bool) (runs : P → PageRuns) (faults : P → ℕ) (r : Region P) : Type 0 where
-  pub legal : IsLegal (terms r) r.entries
-  pub count : faults r.pages ≡ (region_state r).faults
-  pub slabs : IsTrue (told r.pages) → HoldsSlabs (region_shape r) (region_state r) (runs r.pages)
+  pub legal : IsLegal (terms told r) r.entries
+  pub count : faults r.pages ≡ (region_state told r).faults
+  pub slabs : IsTrue (told r.pages) → HoldsSlabs (region_shape r) (region_state told r).opens (runs r.pages)
   -- an entry for the free of each live block
-  pub room : length (region_state r).live ≤ r.spare
+  pub room : length (region_state told r).live ≤ r.spare
+
+-- the address starts a live block, the stated size is its own, and where the bytes are told its canary is unchanged
+pub record IsTakenBack {P : Type 0} (told : P → Bool) (r : Region P) (a : ℕ) (stated : Option ℕ) : Type 0 where
+  pub tells : IsTrue (told r.pages)
+  pub block : IsLiveBlock (region_shape r) (region_state told r) a
+  pub size : wrong_size (region_shape r) stated ≡ None
+  pub canary : wrong_canary (region_shape r) (region_state told r) a ≡ None

@@ -1,17 +1,23 @@
 //! A class region: what is kept of it, and its calls, each of which adds one entry to its history.
-ghost use Rattle.std.specs.Prelude.{◌≡◌, ◌<◌, ◌≤◌, IsTrue, IsOk, IfOk, OnErr, None, length};
+ghost use Rattle.std.specs.Prelude.{◌≡◌, ◌<◌, ◌≤◌, ◌^◌, IsTrue, IsOk, IfOk, OnErr, None, length};
 ghost use Rattle.std.specs.FinMap as map;
 ghost use Rattle.hm_sizes.specs.Classes.{class_size};
 ghost use Rattle.hm_sizes.specs.Configs.{IsValid};
-ghost use Rattle.hm_sizes.specs.Shapes.{IsShape, usable};
+ghost use Rattle.hm_sizes.specs.Shapes.{IsShape};
 ghost use Rattle.hm_sizes.specs.Sizes.{raised};
-ghost use Rattle.hm_class_rules.specs.Rules.{IsLiveBlock};
-ghost use Rattle.hm_class.specs.Region.{region_shape, region_state, IsRegion};
-ghost use Rattle.hm_class.specs.Calls.{entry_of, Added, KeepsName, IsBuilt, chose_new, IsAllotReply, IsGiveBackReply};
+ghost use Rattle.hm_model.specs.Runs.{expand};
+ghost use Rattle.hm_class.specs.Region.{region_shape, IsRegion, IsTakenBack};
+ghost use Rattle.hm_class.specs.Calls.{entry_of, Added, KeepsName, IsBuilt, IsAllotReply, IsGiveBackReply, IsMeasureReply, IsFetchReply, IsFillReply};
 
-use crate::next_slot::{NextSlot, find_slot};
-use crate::slabs::{Slabs, Verdict, address_of};
-use hm_model::{Call, Choices, Draws, Entry, Reply, Who};
+use crate::access::{fetch, fill, replies};
+use crate::give::serve;
+use crate::judge::{Judgement, judge, measure};
+use crate::next_slot::find_slot;
+use crate::outcome::{NO_CHOICES, released_choices};
+use crate::slab::SlotUse;
+use crate::slabs::Slabs;
+use crate::slot_bytes::clear;
+use hm_model::{Call, Choices, Draws, Entry, Reply, Runs, Who};
 use hm_outside::{NoMemory, Pages};
 use hm_sizes::{ClassId, Config, Shape, shape_of};
 use std::alloc::Global;
@@ -32,6 +38,7 @@ pub struct ClassHeap<P: Pages> {
 
 impl<P: Pages> Model for ClassHeap<P> {
     ghost use Rattle.std.specs.Prelude.{◌-◌, ◌≤◌};
+    ghost use Rattle.hm_model.specs.Runs.{expand};
     ghost use Rattle.hm_class.specs.Region.{Region};
     ghost use Rattle.hm_class.specs.Kept.{IsKept};
 
@@ -54,16 +61,6 @@ impl<P: Pages> Model for ClassHeap<P> {
 // The distance from the start of the region's address space to its first slab.
 const GAP: u64 = 4096;
 
-const NO_CHOICES: Choices = Choices {
-    canary: None,
-    opened: None,
-    released: None,
-    retired: None,
-    purged: None,
-    unparked: None,
-    guard: None,
-};
-
 const NO_DRAWS: Draws = Draws {
     used: 0,
     w0: 0,
@@ -71,63 +68,18 @@ const NO_DRAWS: Draws = Draws {
     w2: 0,
 };
 
-// An entry of an allotment. The counts of page faults are those at its start and its end.
-fn allot_entry(who: Who, asked: u64, reply: Reply, choices: Choices, before: u64, now: u64) -> Entry
-    ensures { result ≡ entry_of who (Call.Allot asked 1) reply choices before now }
+// An entry. The counts of page faults are those at the call's start and its end.
+fn entry(who: Who, call: Call, reply: Reply, choices: Choices, before: u64, now: u64) -> Entry
+    ensures { result ≡ entry_of who call reply choices before now }
 {
     Entry {
         who,
-        call: Call::Allot { asked, align: 1 },
+        call,
         reply,
         choices,
         draws: NO_DRAWS,
         faults_before: before,
         faults_after: now,
-    }
-}
-
-// An entry of a block that was given back, during which no page failed.
-fn give_back_entry(
-    who: Who,
-    addr: u64,
-    stated: Option<u64>,
-    reply: Reply,
-    choices: Choices,
-    faults: u64,
-) -> Entry
-    ensures { result ≡ entry_of who (Call.GiveBack addr stated) reply choices faults faults }
-{
-    Entry {
-        who,
-        call: Call::GiveBack { addr, stated },
-        reply,
-        choices,
-        draws: NO_DRAWS,
-        faults_before: faults,
-        faults_after: faults,
-    }
-}
-
-// The bytes of a block.
-fn usable_bytes(shape: &Shape) -> u64
-    requires { IsShape shape.now }
-    ensures { result ≡ usable shape.now }
-{
-    if shape.class.0 == 0 {
-        0
-    } else {
-        shape.slot - 8
-    }
-}
-
-// What is chosen where a slab is opened.
-fn opened_choices(number: u64) -> Choices
-    ensures { result ≡ chose_new number }
-{
-    Choices {
-        canary: Some(0),
-        opened: Some(number),
-        ..NO_CHOICES
     }
 }
 
@@ -248,74 +200,108 @@ impl<P: Pages> ClassHeap<P> {
         self.entries.reserve(self.slabs.live + 2)?;
         let before = self.pages.faults();
         let next = find_slot(&mut self.slabs, &mut self.pages, self.alloc, &self.shape)?;
+        let event = serve(&mut self.slabs, &mut self.pages, &self.shape, next);
         let now = self.pages.faults();
-        match next {
-            NextSlot::Exhausted => {
-                let reply = Reply::Exhausted;
-                self.entries
-                    .push_reserved(allot_entry(who, asked, reply, NO_CHOICES, before, now));
-                Ok(Reply::Exhausted)
-            }
-            NextSlot::PagesFailed => {
-                let reply = Reply::PagesFailed;
-                self.entries
-                    .push_reserved(allot_entry(who, asked, reply, NO_CHOICES, before, now));
-                Ok(Reply::PagesFailed)
-            }
-            NextSlot::Open(slot) => {
-                let addr = address_of(&self.shape, slot);
-                let usable = usable_bytes(&self.shape);
-                self.slabs.give(slot);
-                let reply = Reply::Given { addr, usable };
-                self.entries
-                    .push_reserved(allot_entry(who, asked, reply, NO_CHOICES, before, now));
-                Ok(Reply::Given { addr, usable })
-            }
-            NextSlot::New(slot) => {
-                let addr = address_of(&self.shape, slot);
-                let usable = usable_bytes(&self.shape);
-                self.slabs.give(slot);
-                let reply = Reply::Given { addr, usable };
-                let choices = opened_choices(slot.slab as u64);
-                self.entries
-                    .push_reserved(allot_entry(who, asked, reply, choices, before, now));
-                Ok(Reply::Given { addr, usable })
-            }
-        }
+        let call = Call::Allot { asked, align: 1 };
+        let reply = event.outcome.reply();
+        self.entries
+            .push_reserved(entry(who, call, reply, event.choices, before, now));
+        Ok(event.outcome.reply())
     }
 
     /// Takes a block back. An accepted one takes no memory.
     pub fn give_back(&mut self, who: Who, addr: u64, stated: Option<u64>) -> Result<Reply, NoMemory>
-        requires no_size { stated ≡ None }
         requires few { length self.old.entries < 1000 }
         ensures added { IfOk result (λ reply. Added P.faults self.old self.new who (Call.GiveBack addr stated) reply) }
         ensures replies { IfOk result IsGiveBackReply }
         ensures memory { OnErr result (self.new.entries ≡ self.old.entries) }
-        ensures accepted { IsLiveBlock (region_shape self.old) (region_state self.old) addr → IsOk result }
+        ensures accepted { IsTakenBack P.told self.old addr stated → IsOk result }
         ensures name { KeepsName self.old self.new }
         ensures region { IsRegion P.told P.runs P.faults self.new }
     {
         let faults = self.pages.faults();
-        match self.slabs.judge(&self.shape, addr) {
-            Verdict::Refused(refusal) => {
+        match judge(&self.slabs, &self.pages, &self.shape, addr, stated) {
+            Judgement::Refused(outcome) => {
                 self.entries.reserve(self.slabs.live + 1)?;
-                let reply = refusal.reply();
-                self.entries.push_reserved(give_back_entry(
-                    who, addr, stated, reply, NO_CHOICES, faults,
-                ));
-                Ok(refusal.reply())
-            }
-            Verdict::Live(slot) => {
-                self.slabs.take_back(slot);
-                let choices = Choices {
-                    released: Some(addr),
-                    ..NO_CHOICES
-                };
-                let reply = Reply::Freed;
+                let call = Call::GiveBack { addr, stated };
+                let reply = outcome.reply();
                 self.entries
-                    .push_reserved(give_back_entry(who, addr, stated, reply, choices, faults));
+                    .push_reserved(entry(who, call, reply, NO_CHOICES, faults, faults));
+                Ok(outcome.reply())
+            }
+            Judgement::Accepted(slot) => {
+                clear(&mut self.pages, addr, self.shape.usable() as usize);
+                self.slabs.set(slot, SlotUse::Free);
+                let call = Call::GiveBack { addr, stated };
+                let reply = Reply::Freed;
+                let choices = released_choices(addr);
+                self.entries
+                    .push_reserved(entry(who, call, reply, choices, faults, faults));
                 Ok(Reply::Freed)
             }
         }
+    }
+
+    /// The usable size of a live block.
+    pub fn measure(&mut self, who: Who, addr: u64) -> Result<Reply, NoMemory>
+        ensures added { IfOk result (λ reply. Added P.faults self.old self.new who (Call.Measure addr) reply) }
+        ensures replies { IfOk result IsMeasureReply }
+        ensures memory { OnErr result (self.new.entries ≡ self.old.entries) }
+        ensures name { KeepsName self.old self.new }
+        ensures region { IsRegion P.told P.runs P.faults self.new }
+    {
+        self.entries.reserve(self.slabs.live + 1)?;
+        let faults = self.pages.faults();
+        let outcome = measure(&self.slabs, &self.shape, addr);
+        let call = Call::Measure { addr };
+        let reply = outcome.reply();
+        self.entries
+            .push_reserved(entry(who, call, reply, NO_CHOICES, faults, faults));
+        Ok(outcome.reply())
+    }
+
+    /// The bytes of a range, or the first address of it that is not accessible.
+    pub fn fetch(&mut self, who: Who, addr: u64, len: u64) -> Result<Reply, NoMemory>
+        requires some { 1 ≤ len }
+        requires most { len ≤ 2 ^ 30 }
+        requires below { addr < 2 ^ 47 }
+        ensures added { IfOk result (λ reply. Added P.faults self.old self.new who (Call.Fetch addr len) reply) }
+        ensures replies { IfOk result IsFetchReply }
+        ensures memory { OnErr result (self.new.entries ≡ self.old.entries) }
+        ensures name { KeepsName self.old self.new }
+        ensures region { IsRegion P.told P.runs P.faults self.new }
+    {
+        self.entries.reserve(self.slabs.live + 1)?;
+        let faults = self.pages.faults();
+        let fetched = fetch(&self.slabs, &self.pages, self.alloc, &self.shape, addr, len)?;
+        let (reply, answer) = replies(self.alloc, fetched)?;
+        let call = Call::Fetch { addr, len };
+        self.entries
+            .push_reserved(entry(who, call, reply, NO_CHOICES, faults, faults));
+        Ok(answer)
+    }
+
+    /// Writes bytes from an address on, or names the first address that is not accessible and changes
+    /// nothing.
+    pub fn fill(&mut self, who: Who, addr: u64, runs: &Runs) -> Result<Reply, NoMemory>
+        requires some { 1 ≤ length (expand runs.now) }
+        requires most { length (expand runs.now) ≤ 2 ^ 30 }
+        requires below { addr < 2 ^ 47 }
+        ensures added { IfOk result (λ reply. Added P.faults self.old self.new who (Call.Fill addr runs.now) reply) }
+        ensures replies { IfOk result IsFillReply }
+        ensures memory { OnErr result (self.new.entries ≡ self.old.entries) }
+        ensures name { KeepsName self.old self.new }
+        ensures region { IsRegion P.told P.runs P.faults self.new }
+    {
+        self.entries.reserve(self.slabs.live + 1)?;
+        let runs = runs.copy()?;
+        let bytes = runs.to_vec(self.alloc)?;
+        let faults = self.pages.faults();
+        let outcome = fill(&self.slabs, &mut self.pages, &self.shape, addr, &bytes);
+        let call = Call::Fill { addr, runs };
+        let reply = outcome.reply();
+        self.entries
+            .push_reserved(entry(who, call, reply, NO_CHOICES, faults, faults));
+        Ok(outcome.reply())
     }
 }

@@ -1,11 +1,16 @@
 //! One class region: its slabs and slots, its pages, and the history of its calls.
 #![tactic(auto)]
 
+mod access;
+mod give;
 mod heap;
+mod judge;
 mod next_slot;
+mod outcome;
 #[cfg(test)]
 mod region_tests;
 mod slab;
 mod slabs;
+mod slot_bytes;
 
 pub use heap::ClassHeap;

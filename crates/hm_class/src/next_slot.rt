@@ -20,6 +20,9 @@ pub enum NextSlot {
     PagesFailed,
 }
 
+// The canary of each slab.
+pub const CANARY: u64 = 0;
+
 // The pages of a slab.
 fn slab_pages(shape: &Shape) -> u32
     requires { IsShape shape.now }
@@ -46,7 +49,7 @@ pub fn find_slot<P: Pages>(
         Source::Exhausted => Ok(NextSlot::Exhausted),
         Source::Open(slot) => Ok(NextSlot::Open(slot)),
         Source::New(number) => {
-            let slab = slabs.ready(alloc, shape.slots)?;
+            let slab = slabs.ready(alloc, shape.slots, CANARY)?;
             let slot = Slot {
                 slab: number as usize,
                 index: 0,

@@ -1,14 +1,13 @@
 //! The slabs of a region by number, and which slot serves next or stands at an address.
-ghost use Rattle.std.specs.Prelude.{◌≡◌, ◌+◌, ◌<◌, ◌≤◌, ◌^◌, Some, true, option_map, MatchOption, OnOk, IfOk, replicate, vec_len, vec_capacity};
+ghost use Rattle.std.specs.Prelude.{◌≡◌, ◌+◌, ◌<◌, ◌≤◌, ◌^◌, Some, None, true, option_map, is_some, IsTrue, MatchOption, OnOk, IfOk, replicate, vec_len, vec_capacity};
 ghost use Rattle.std.specs.List.{position};
-ghost use Rattle.hm_sizes.specs.Shapes.{IsShape, is_guard, place};
+ghost use Rattle.hm_sizes.specs.Shapes.{IsShape, place};
 ghost use Rattle.hm_class.specs.Kept.{SameSlabs};
-ghost use Rattle.hm_class.specs.Sources.{IsAvailable, NonePartly, NoneUnused, Sources, Judges, refused_reply};
-ghost use Rattle.hm_class.specs.Uses.{partly, unused, is_partly, is_unused, slots_of, use_at, first_available, with_use, with_slab};
-ghost use Rattle.hm_class.specs.declared.slab.SlotUse.TheVariants.{Never, Free, Live};
+ghost use Rattle.hm_class.specs.Sources.{IsAvailable, NonePartly, NoneUnused, Sources, Judges};
+ghost use Rattle.hm_class.specs.Uses.{partly, unused, is_partly, is_unused, slab_in, use_at, passes_at, lives, was_given, canary_at, first_available, with_use, with_slab, live_count};
+ghost use Rattle.hm_class.specs.declared.slab.SlotUse.TheVariants.{Never};
 
 use crate::slab::{Slab, SlotUse};
-use hm_model::Reply;
 use hm_sizes::{Shape, place_of};
 use std::alloc::{AllocError, Global};
 
@@ -35,18 +34,6 @@ pub enum Refusal {
     NoSlot,
     Unused,
     DoubleFree,
-}
-
-impl Refusal {
-    pub fn reply(self) -> Reply
-        ensures { result ≡ refused_reply self }
-    {
-        match self {
-            Refusal::NoSlot => Reply::NoSlot,
-            Refusal::Unused => Reply::Unused,
-            Refusal::DoubleFree => Reply::DoubleFree,
-        }
-    }
 }
 
 /// What is said of a block that is given back.
@@ -95,14 +82,6 @@ fn first_empty(slabs: &[Option<Slab>]) -> Option<usize>
     })
 }
 
-/// Whether the slab of this number is a guard.
-fn is_guard_at(shape: &Shape, slab: u64) -> bool
-    requires { shape.now.guard_interval ≤ 8 }
-    ensures { result ≡ is_guard shape.now slab }
-{
-    slab % (u64::from(shape.guard_interval) + 1) == u64::from(shape.guard_interval)
-}
-
 impl Slabs {
     /// Where the next block comes from.
     pub fn source(&self, limit: u64) -> Source
@@ -126,7 +105,7 @@ impl Slabs {
     fn partial_slot(&self) -> Option<Slot>
         ensures { MatchOption result (NonePartly self.now.slabs.items)
             (λ s. IsAvailable self.now.slabs.items s
-            × (option_map is_partly (slots_of self.now.slabs.items s.slab) ≡ Some true)) }
+            × (option_map is_partly (slab_in self.now.slabs.items s.slab) ≡ Some true)) }
     {
         let slab = first_partial(&self.slabs)?;
         let index = self.first_slot(slab)?;
@@ -137,19 +116,19 @@ impl Slabs {
     fn empty_slot(&self) -> Option<Slot>
         ensures { MatchOption result (NoneUnused self.now.slabs.items)
             (λ s. IsAvailable self.now.slabs.items s
-            × (option_map is_unused (slots_of self.now.slabs.items s.slab) ≡ Some true)) }
+            × (option_map is_unused (slab_in self.now.slabs.items s.slab) ≡ Some true)) }
     {
         let slab = first_empty(&self.slabs)?;
         let index = self.first_slot(slab)?;
         Some(Slot { slab, index })
     }
 
-    /// The first slot of a slab that is not live.
+    /// The first available slot of a slab.
     fn first_slot(&self, slab: usize) -> Option<usize>
         ensures { result ≡ first_available self.now.slabs.items slab }
     {
         match self.slabs.get(slab) {
-            Some(Some(slots)) => slots.first_free(),
+            Some(Some(slab)) => slab.first_free(),
             Some(None) | None => None,
         }
     }
@@ -176,21 +155,60 @@ impl Slabs {
             slab: slab as usize,
             index: index as usize,
         };
+        if self.is_live(slot) {
+            Verdict::Live(slot)
+        } else if self.was_given(slot) {
+            Verdict::Refused(Refusal::DoubleFree)
+        } else {
+            Verdict::Refused(Refusal::Unused)
+        }
+    }
+
+    /// Whether a slab is open.
+    pub fn is_open(&self, slab: usize) -> bool
+        ensures { result ≡ is_some (slab_in self.now.slabs.items slab) }
+    {
+        matches!(self.slabs.get(slab), Some(Some(_)))
+    }
+
+    /// The canary of a slab: 0 where it was never opened.
+    pub fn canary_of(&self, slab: usize) -> u64
+        ensures { result ≡ canary_at self.now.slabs.items slab }
+    {
+        match self.slabs.get(slab) {
+            Some(Some(slab)) => slab.canary(),
+            Some(None) | None => 0,
+        }
+    }
+
+    // Whether a slot is live.
+    fn is_live(&self, slot: Slot) -> bool
+        ensures { result ≡ passes_at lives self.now.slabs.items slot.slab slot.index }
+    {
         match self.use_of(slot) {
-            None | Some(SlotUse::Never) => Verdict::Refused(Refusal::Unused),
-            Some(SlotUse::Free) => Verdict::Refused(Refusal::DoubleFree),
-            Some(SlotUse::Live) => Verdict::Live(slot),
+            Some(found) => found.is_live(),
+            None => false,
+        }
+    }
+
+    /// Whether a slot was ever given.
+    pub fn was_given(&self, slot: Slot) -> bool
+        ensures { result ≡ passes_at was_given self.now.slabs.items slot.slab slot.index }
+    {
+        match self.use_of(slot) {
+            Some(found) => found.was_given(),
+            None => false,
         }
     }
 
     /// A slab whose slots were never given, and room for it and a guard after it.
-    pub fn ready(&mut self, alloc: Global, slots: u32) -> Result<Slab, AllocError>
+    pub fn ready(&mut self, alloc: Global, slots: u32, canary: u64) -> Result<Slab, AllocError>
         ensures same { SameSlabs self.old self.new }
-        ensures slab { IfOk result (λ slab. slab ≡ replicate slots Never) }
+        ensures slab { IfOk result (λ slab. slab ≡ (record { slots = replicate slots Never; canary = canary })) }
         ensures room { OnOk result (vec_len self.new.slabs + 2 ≤ vec_capacity self.new.slabs) }
     {
         self.slabs.reserve(2)?;
-        Slab::fresh(alloc, slots)
+        Slab::fresh(alloc, slots, canary)
     }
 
     /// Puts a slab at the next number. It takes no memory.
@@ -201,36 +219,42 @@ impl Slabs {
         ensures live { self.new.live ≡ self.old.live }
     {
         self.slabs.push_reserved(Some(slab));
-        if is_guard_at(shape, self.slabs.len() as u64) {
+        if shape.is_guard(self.slabs.len() as u64) {
             self.slabs.push_reserved(None);
         }
     }
 
-    /// A slot becomes live.
-    pub fn give(&mut self, slot: Slot)
-        requires available { IsAvailable self.old.slabs.items slot }
+    /// A slot is used otherwise.
+    pub fn set(&mut self, slot: Slot, new: SlotUse)
+        requires there { is_some (use_at self.old.slabs.items slot.slab slot.index) ≡ true }
+        requires counted { self.old.live ≡ live_count self.old.slabs.items }
         requires few { self.old.live < 2 ^ 63 }
-        ensures slabs { self.new.slabs.items ≡ with_use self.old.slabs.items slot.slab slot.index Live }
-        ensures live { self.new.live ≡ self.old.live + 1 }
+        ensures slabs { self.new.slabs.items ≡ with_use self.old.slabs.items slot.slab slot.index new }
+        ensures counted { self.new.live ≡ live_count self.new.slabs.items }
     {
-        match &mut self.slabs[slot.slab] {
-            Some(slab) => slab.give(slot.index),
-            None => unreachable!(),
-        }
-        self.live += 1;
+        let live = self.live_after(slot, new);
+        self.put(slot, new);
+        self.live = live;
     }
 
-    /// A live slot is free again.
-    pub fn take_back(&mut self, slot: Slot)
-        requires live { use_at self.old.slabs.items slot.slab slot.index ≡ Some Live }
-        requires counted { 1 ≤ self.old.live }
-        ensures slabs { self.new.slabs.items ≡ with_use self.old.slabs.items slot.slab slot.index Free }
-        ensures live { self.new.live + 1 ≡ self.old.live }
+    // How many slots are live once a slot is used otherwise.
+    fn live_after(&self, slot: Slot, new: SlotUse) -> usize
+        requires there { is_some (use_at self.now.slabs.items slot.slab slot.index) ≡ true }
+        requires counted { self.now.live ≡ live_count self.now.slabs.items }
+        requires few { self.now.live < 2 ^ 63 }
+        ensures { result ≡ live_count (with_use self.now.slabs.items slot.slab slot.index new) }
+    {
+        self.live - usize::from(self.is_live(slot)) + usize::from(new.is_live())
+    }
+
+    // Changes the use of a slot, and counts nothing.
+    fn put(&mut self, slot: Slot, new: SlotUse)
+        requires { is_some (use_at self.old.slabs.items slot.slab slot.index) ≡ true }
+        ensures slabs { self.new.slabs.items ≡ with_use self.old.slabs.items slot.slab slot.index new }
     {
         match &mut self.slabs[slot.slab] {
-            Some(slab) => slab.take_back(slot.index),
+            Some(slab) => slab.set(slot.index, new),
             None => unreachable!(),
         }
-        self.live -= 1;
     }
 }

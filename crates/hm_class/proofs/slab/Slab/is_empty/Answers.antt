@@ -14,19 +14,19 @@ apart live len ne = grind (arith, nat_tests)
 pub returns-then-self-eq0 : goal.returns-then-self-eq0
 returns-then-self-eq0 c =
     let us : List SlotUse = c.self.inside.slots.items in
-    let live : ℕ = c.self.inside.live in
+    let live : ℕ = c.self.inside.taken in
     let len : c.len.result ≡ length us = omega (arith, c.len.ensures, c.self.inside.slots.ok.0) in
     ap (λ (n : ℕ). nat_lt live n) len
     ∙ tested live (length us) c.if-self-eq0.true
     ∙ ap (λ (n : ℕ). not (nat_lt 0 n) && nat_lt n (length us)) c.self.invariant
-    ∙ sym (unused_counted us)
+    ∙ sym (unused_counted (record { slots = us; canary = c.self.inside.canary }))
     ∙ ap is_unused c.self.view_is
 
 pub returns-else-self-eq0 : goal.returns-else-self-eq0
 returns-else-self-eq0 c =
     let us : List SlotUse = c.self.inside.slots.items in
-    let live : ℕ = c.self.inside.live in
+    let live : ℕ = c.self.inside.taken in
     apart live (length us) c.if-self-eq0.false
     ∙ ap (λ (n : ℕ). not (nat_lt 0 n) && nat_lt n (length us)) c.self.invariant
-    ∙ sym (unused_counted us)
+    ∙ sym (unused_counted (record { slots = us; canary = c.self.inside.canary }))
     ∙ ap is_unused c.self.view_is

@@ -14,19 +14,19 @@ none live len e = grind (arith, nat_tests)
 pub returns-then-self-gt0 : goal.returns-then-self-gt0
 returns-then-self-gt0 c =
     let us : List SlotUse = c.self.inside.slots.items in
-    let live : ℕ = c.self.inside.live in
+    let live : ℕ = c.self.inside.taken in
     let len : c.len.result ≡ length us = omega (arith, c.len.ensures, c.self.inside.slots.ok.0) in
     ap (λ (n : ℕ). nat_lt live n) len
     ∙ some live (length us) c.if-self-gt0.true
     ∙ ap (λ (n : ℕ). nat_lt 0 n && nat_lt n (length us)) c.self.invariant
-    ∙ sym (partly_counted us)
+    ∙ sym (partly_counted (record { slots = us; canary = c.self.inside.canary }))
     ∙ ap is_partly c.self.view_is
 
 pub returns-else-self-gt0 : goal.returns-else-self-gt0
 returns-else-self-gt0 c =
     let us : List SlotUse = c.self.inside.slots.items in
-    let live : ℕ = c.self.inside.live in
+    let live : ℕ = c.self.inside.taken in
     none live (length us) c.if-self-gt0.false
     ∙ ap (λ (n : ℕ). nat_lt 0 n && nat_lt n (length us)) c.self.invariant
-    ∙ sym (partly_counted us)
+    ∙ sym (partly_counted (record { slots = us; canary = c.self.inside.canary }))
     ∙ ap is_partly c.self.view_is

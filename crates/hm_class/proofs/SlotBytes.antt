@@ -1,0 +1,51 @@
+-- The first byte that is not zero, and canaries as bytes.
+use Rattle.std.proofs.Common.{◌≡◌, ◌≢◌, ℕ, zero, suc, ◌<◌, ◌==◌, Bool, true, false, cond, not, List, [], ◌∷◌, length, get_or, Option, Some, None, sym, ◌∙◌, ap, refl, arith}
+use Rattle.std.specs.List.{position}
+use Rattle.std.specs.Int.{to_le_bytes, from_le_bytes}
+use mir.Syntax.{w64}
+use Rattle.std.proofs.lemmas.Bool.Decides.{nat_tests}
+use Rattle.std.proofs.lemmas.List.Quantifiers.{position-Some}
+use Rattle.std.proofs.lemmas.Nat.{le_bytes_8}
+use Rattle.std.proofs.lemmas.Option.{slice_get-get_or}
+use Rattle.hm_class_rules.specs.Bytes.{first_nonzero, one_later}
+use Rattle.hm_class.proofs.Found.{position_none}
+
+zero_is : (b : ℕ) → not (b == 0) ≡ false → (b == 0) ≡ true
+zero_is b e = grind (arith, nat_tests)
+
+some_is : (b : ℕ) → not (b == 0) ≡ true → (b == 0) ≡ false
+some_is b e = grind (arith, nat_tests)
+
+-- where zeros come before it
+pub first_at : (bs : List ℕ) (i : ℕ) → i < length bs → not (get_or bs i 0 == 0) ≡ true → ((k : ℕ) → k < i → not (get_or bs k 0 == 0) ≡ false) → first_nonzero bs ≡ Some (i, get_or bs i 0)
+first_at [] i lt here before = absurd (omega arith)
+first_at (b ∷ bs) zero lt here before = ap (λ (t : Bool). cond t (one_later (first_nonzero bs)) (Some (0, b))) (some_is b here)
+first_at (b ∷ bs) (suc i) lt here before =
+    ap (λ (t : Bool). cond t (one_later (first_nonzero bs)) (Some (0, b))) (zero_is b (before 0 (omega arith)))
+    ∙ ap (λ (o : Option (ℕ × ℕ)). one_later o) (first_at bs i (omega arith) here (λ k less. before (suc k) (omega arith)))
+    ∙ ap (λ (j : ℕ). Some (j, get_or bs i 0)) (omega arith)
+
+-- where all are zero
+pub first_none : (bs : List ℕ) → ((k : ℕ) → k < length bs → not (get_or bs k 0 == 0) ≡ false) → first_nonzero bs ≡ None
+first_none [] all = refl
+first_none (b ∷ bs) all =
+    ap (λ (t : Bool). cond t (one_later (first_nonzero bs)) (Some (0, b))) (zero_is b (all 0 (omega arith)))
+    ∙ ap (λ (o : Option (ℕ × ℕ)). one_later o) (first_none bs (λ k less. all (suc k) (omega arith)))
+
+by_false : (b : Bool) → (b ≡ true → ⊥) → b ≡ false
+by_false true h = absurd (h refl)
+by_false false h = refl
+
+pub first_of_none : (bs : List ℕ) → position (λ b. not (b == 0)) bs ≡ None → first_nonzero bs ≡ None
+first_of_none bs e =
+    first_none bs (λ k lt. by_false _ (λ yes. position_none (λ b. not (b == 0)) bs e k (get_or bs k 0) (slice_get-get_or bs k 0 lt) yes))
+
+pub first_of_some : (bs : List ℕ) (i : ℕ) → position (λ b. not (b == 0)) bs ≡ Some i → first_nonzero bs ≡ Some (i, get_or bs i 0)
+first_of_some bs i e = let r = position-Some (λ (b : ℕ). not (b == 0)) bs i 0 e in first_at bs i r.0 r.1 r.2
+
+-- other bytes are another number
+pub other_number : (bs : List ℕ) (canary : ℕ) → length bs ≡ 8 → ((i : ℕ) → get_or bs i 0 < 256) → bs ≢ to_le_bytes w64 canary → (from_le_bytes w64 bs == canary) ≡ false
+other_number bs canary len bytes ne = by_false _ (λ yes. ne (sym (le_bytes_8 bs canary len bytes (sym (same _ _ yes)))))
+  where
+    same : (a b : ℕ) → (a == b) ≡ true → a ≡ b
+    same a b e = grind (arith, nat_tests)

@@ -1,0 +1,35 @@
+-- What giving a slot changes.
+use Rattle.std.specs.Prelude.{◌≡◌, ℕ, ◌+◌, Bool, IsTrue, List, Some, None}
+use Rattle.std.specs.Int.{to_le_bytes}
+use mir.Syntax.{w64}
+use Rattle.hm_outside.specs.PageRuns.{PageRuns, IsHeld, Reads, Writes}
+use Rattle.hm_sizes.specs.declared.shape.Shape.{Shape}
+use Rattle.hm_sizes.specs.Shapes.{place, usable}
+use Rattle.hm_class_rules.specs.Bytes.{first_nonzero}
+use Rattle.hm_class.specs.declared.outcome.Outcome.{Outcome}
+use Rattle.hm_class.specs.declared.outcome.Outcome.TheVariants as outcome
+use Rattle.hm_class.specs.declared.slab.SlotUse.TheVariants.{Live, Condemned}
+use Rattle.hm_class.specs.declared.slabs.Slabs.{Slabs}
+use Rattle.hm_class.specs.declared.slabs.Slot.{Slot}
+use Rattle.hm_class.specs.Uses.{was_given, passes_at, canary_at, with_use}
+
+module _ {P : Type 0} (told : P → Bool) (runs : P → PageRuns) where
+  -- all usable bytes are zero; the slot becomes live, and its last 8 bytes the canary
+  pub record GivesSlot (p : Shape) (old new : Slabs) (before now : P) (s : Slot) (a size : ℕ) : Type 0 where
+    pub addr_is : a ≡ place p s.slab s.index
+    pub size_is : size ≡ usable p
+    pub clean : IsTrue (told before) → IsHeld (runs before) a size → (slice : List ℕ) × Reads (runs before) a size slice × (None ≡ first_nonzero slice)
+    pub slabs : new.slabs.items ≡ with_use old.slabs.items s.slab s.index Live
+    pub written : IsTrue (told before) → IsHeld (runs before) (a + size) 8 → Writes (runs before) (a + size) 8 (to_le_bytes w64 (canary_at old.slabs.items s.slab)) (runs now)
+
+  -- a usable byte is not zero; the slot is condemned
+  pub record CondemnsSlot (p : Shape) (old new : Slabs) (before now : P) (s : Slot) (a at found : ℕ) : Type 0 where
+    pub addr_is : a ≡ place p s.slab s.index
+    pub stained : IsTrue (told before) → IsHeld (runs before) a (usable p) → (slice : List ℕ) × Reads (runs before) a (usable p) slice × (Some (at, found) ≡ first_nonzero slice)
+    pub slabs : new.slabs.items ≡ with_use old.slabs.items s.slab s.index (Condemned (passes_at was_given old.slabs.items s.slab s.index))
+    pub same : IsTrue (told before) → runs now ≡ runs before
+
+  abbrev pub Gives : Shape → Slabs → Slabs → P → P → Slot → Outcome → Type 0
+  Gives p old new before now s (outcome.Given a size) = GivesSlot p old new before now s a size
+  Gives p old new before now s (outcome.Overwritten a at found) = CondemnsSlot p old new before now s a at found
+  Gives p old new before now s other = ⊥

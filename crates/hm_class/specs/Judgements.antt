@@ -1,0 +1,72 @@
+-- What is said of a block that is given back.
+use Rattle.std.specs.Prelude.{◌≡◌, ◌==◌, ℕ, ◌+◌, Bool, true, IsTrue, List, Option, Some, None, if◌then◌else◌}
+use Rattle.std.specs.Int.{from_le_bytes}
+use mir.Syntax.{w64}
+use Rattle.hm_outside.specs.PageRuns.{PageRuns, IsHeld, Reads}
+use Rattle.hm_sizes.specs.declared.shape.Shape.{Shape}
+use Rattle.hm_sizes.specs.Shapes.{usable, has_bytes}
+use Rattle.hm_class_rules.specs.Rules.{wrong_size}
+use Rattle.hm_class.specs.declared.judge.Judgement.{Judgement}
+use Rattle.hm_class.specs.declared.judge.Judgement.TheVariants.{Refused, Accepted}
+use Rattle.hm_class.specs.declared.outcome.Outcome.{Outcome}
+use Rattle.hm_class.specs.declared.outcome.Outcome.TheVariants as outcome
+use Rattle.hm_class.specs.declared.slabs.Refusal.{Refusal}
+use Rattle.hm_class.specs.declared.slabs.Refusal.TheVariants as refusal
+use Rattle.hm_class.specs.declared.slabs.Slabs.{Slabs}
+use Rattle.hm_class.specs.declared.slabs.Slot.{Slot}
+use Rattle.hm_class.specs.declared.slabs.Verdict.TheVariants as verdict
+use Rattle.hm_class.specs.Sources.{Refuses, Judges}
+use Rattle.hm_class.specs.Uses.{canary_at}
+
+abbrev pub refused_outcome : Refusal → Outcome
+refused_outcome refusal.NoSlot = outcome.NoSlot
+refused_outcome refusal.Unused = outcome.Unused
+refused_outcome refusal.DoubleFree = outcome.DoubleFree
+
+-- the number that 8 bytes are, where it is another
+abbrev pub other_number : List ℕ → ℕ → Option ℕ
+other_number last canary = if from_le_bytes w64 last == canary then None else Some (from_le_bytes w64 last)
+
+module _ {P : Type 0} (told : P → Bool) (runs : P → PageRuns) where
+  -- what is found where the canary stands
+  abbrev pub FindsCanary : Shape → Slabs → P → ℕ → Slot → Option ℕ → Type 0
+  FindsCanary p k pages a s found =
+      IsTrue (told pages) → IsHeld (runs pages) (a + usable p) 8
+      → (last : List ℕ) × Reads (runs pages) (a + usable p) 8 last × (found ≡ other_number last (canary_at k.slabs.items s.slab))
+
+  pub record RefusesSize (p : Shape) (k : Slabs) (a : ℕ) (stated : Option ℕ) (block other : ℕ) : Type 0 where
+    pub slot : Slot
+    pub judged : Judges p k.slabs.items a (verdict.Live slot)
+    pub size : wrong_size p stated ≡ Some (block, other)
+
+  pub record RefusesCanary (p : Shape) (k : Slabs) (pages : P) (a : ℕ) (stated : Option ℕ) (kept found : ℕ) : Type 0 where
+    pub slot : Slot
+    pub judged : Judges p k.slabs.items a (verdict.Live slot)
+    pub size : wrong_size p stated ≡ None
+    pub own : has_bytes p ≡ true
+    pub kept_is : kept ≡ canary_at k.slabs.items slot.slab
+    pub canary : FindsCanary p k pages a slot (Some found)
+
+  pub record Accepts (p : Shape) (k : Slabs) (pages : P) (a : ℕ) (stated : Option ℕ) (slot : Slot) : Type 0 where
+    pub judged : Judges p k.slabs.items a (verdict.Live slot)
+    pub size : wrong_size p stated ≡ None
+    pub canary : has_bytes p ≡ true → FindsCanary p k pages a slot None
+
+  abbrev pub Refusals : Shape → Slabs → P → ℕ → Option ℕ → Outcome → Type 0
+  Refusals p k pages a stated outcome.NoSlot = Refuses p k.slabs.items a refusal.NoSlot
+  Refusals p k pages a stated outcome.Unused = Refuses p k.slabs.items a refusal.Unused
+  Refusals p k pages a stated outcome.DoubleFree = Refuses p k.slabs.items a refusal.DoubleFree
+  Refusals p k pages a stated (outcome.WrongSize block other) = RefusesSize p k a stated block other
+  Refusals p k pages a stated (outcome.Canary kept found) = RefusesCanary p k pages a stated kept found
+  Refusals p k pages a stated other = ⊥
+
+  abbrev pub Judgements : Shape → Slabs → P → ℕ → Option ℕ → Judgement → Type 0
+  Judgements p k pages a stated (Refused o) = Refusals p k pages a stated o
+  Judgements p k pages a stated (Accepted slot) = Accepts p k pages a stated slot
+
+abbrev pub Measures : Shape → Slabs → ℕ → Outcome → Type 0
+Measures p k a outcome.NoSlot = Refuses p k.slabs.items a refusal.NoSlot
+Measures p k a outcome.Unused = Refuses p k.slabs.items a refusal.Unused
+Measures p k a outcome.DoubleFree = Refuses p k.slabs.items a refusal.DoubleFree
+Measures p k a (outcome.Usable size) = (slot : Slot) × Judges p k.slabs.items a (verdict.Live slot) × (size ≡ usable p)
+Measures p k a other = ⊥
