@@ -1,7 +1,6 @@
 -- A trace that is built is run.
-use Rattle.std.proofs.Common.{◌≡◌, ◌⊎◌, ℕ, ◌+◌, ◌<◌, ◌≤◌, Bool, true, false, cond, inl, inr, List, [], ◌++◌, length, Option, Some, None, String, Global, refl, sym, ◌∙◌, ap, subst, arith, true≢false, append-nil, length-append}
+use Rattle.std.proofs.Common.{◌≡◌, ◌⊎◌, ℕ, ◌≤◌, Bool, true, false, cond, inl, inr, List, ◌++◌, length, Option, Some, None, String, Global, sym, ◌∙◌, ap, arith, true≢false, append-nil, length-append}
 use Rattle.hm_outside.specs.PageRuns.{PageRuns}
-use Rattle.hm_outside.specs.Streams.{Taken, IsEmptied}
 use Rattle.hm_trace.specs.declared.fault.TraceFault.{TraceFault}
 use Rattle.hm_trace.specs.Faults.{text_fault}
 use Rattle.hm_trace.specs.Spelling.{spelling}
@@ -40,7 +39,7 @@ finding_or_none false status e = inl e
 
 refused : (refusal : Refusal) (words : List (String Global)) (bytes : List ℕ) (left' : Option (List ℕ)) (rose : Type 0)
     → AreRun words → length bytes ≤ 67108864 → (rose → ⊥) → IsRefused refusal words (Some bytes) left' rose → ⊥
-refused Usage words bytes left' rose are short source cause = cause are
+refused Usage words bytes left' rose are short source cause = cause.0 are
 refused ReadFault words bytes left' rose are short source cause = source cause.1
 refused TooLong words bytes left' rose are short source cause = not_past bytes left' short cause.1
 refused NotBuilt words bytes left' rose are short source cause = cause

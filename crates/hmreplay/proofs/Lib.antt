@@ -1,6 +1,7 @@
 mod Addresses
 mod Closing
 mod Completed
+mod FirstRegions
 mod Pushed
 mod Putting
 mod Taking

@@ -1,5 +1,5 @@
 -- One more step of a script.
-use Rattle.std.proofs.Common.{◌≡◌, ℕ, ◌+◌, ◌<◌, zero, suc, true, List, [], ◌∷◌, ◌++◌, length, get_or, Ok, Err, Result, refl, sym, ◌∙◌, ap, subst, arith, append_assoc, append-nil}
+use Rattle.std.proofs.Common.{◌≡◌, ℕ, ◌+◌, ◌<◌, zero, suc, Bool, true, List, [], ◌∷◌, ◌++◌, length, get_or, Ok, Err, Result, refl, sym, ◌∙◌, ap, subst, arith, append_assoc, append-nil}
 use Rattle.std.proofs.lemmas.Bool.{and_parts}
 use Rattle.std.specs.Prelude.{IfOk}
 use Rattle.std.specs.List.{list_all}
@@ -9,20 +9,15 @@ use Rattle.hm_report.specs.declared.results.StepResult.{StepResult}
 use Rattle.hm_trace.specs.declared.names.Name.{Name}
 use Rattle.hm_trace.specs.declared.step.Step.{Step}
 use Rattle.hm_trace.specs.Views.{StepView, step_view, steps_view}
-use Rattle.hmreplay.specs.Built.{is_built_step}
-use Rattle.hmreplay.specs.Scripts.{Settings, Steps, Runs, Made, ArePlain, Agree, set_by}
+use Rattle.hmreplay.specs.Scripts.{Settings, Steps, Runs, Made, Agree, set_by}
 
--- a step of built steps is built
-pub built_at : (steps : List Step) (i : ℕ) (s : Step) → list_all is_built_step (steps_view steps) ≡ true → i < length steps → s ≡ get_or steps i s → is_built_step (step_view s) ≡ true
-built_at [] i s all lt is = absurd (omega arith)
-built_at (x ∷ xs) zero s all lt is =
-    ap (λ (t : Step). is_built_step (step_view t)) is ∙ (and_parts (is_built_step (step_view x)) (list_all is_built_step (steps_view xs)) all).0
-built_at (x ∷ xs) (suc i) s all lt is =
-    built_at xs i s (and_parts (is_built_step (step_view x)) (list_all is_built_step (steps_view xs)) all).1 (omega arith) is
-
-pub plain_more : (xs ys : List Entry) → ArePlain xs → ArePlain ys → ArePlain (xs ++ ys)
-plain_more [] ys p q = q
-plain_more (x ∷ xs) ys p q = (p.0, plain_more xs ys p.1 q)
+-- what every step passes, the step at a place passes
+pub passes_at : (test : StepView → Bool) (steps : List Step) (i : ℕ) (s : Step) → list_all test (steps_view steps) ≡ true → i < length steps → s ≡ get_or steps i s → test (step_view s) ≡ true
+passes_at test [] i s all lt is = absurd (omega arith)
+passes_at test (x ∷ xs) zero s all lt is =
+    ap (λ (t : Step). test (step_view t)) is ∙ (and_parts (test (step_view x)) (list_all test (steps_view xs)) all).0
+passes_at test (x ∷ xs) (suc i) s all lt is =
+    passes_at test xs i s (and_parts (test (step_view x)) (list_all test (steps_view xs)) all).1 (omega arith) is
 
 pub pushed : (n : ℕ) (settings last : Settings) (steps : List StepView) (s : StepView) (es own : List Entry) (rs : List StepResult) (r : StepResult)
     → Runs n settings steps es rs last → Steps (n + length steps) last s own r
@@ -55,11 +50,11 @@ pushed n settings last (t ∷ steps) s es own rs r ran step =
     next : (n k : ℕ) → n + suc k ≡ (n + 1) + k
     next n k = omega arith
 
--- a free changes no name
+-- a call at an address changes no name
 pub unnamed : (r : Result StepResult NoMemory) (names : List (Name × ℕ)) (before now : List Entry) (Is : Settings → List Entry → StepResult → Type 0)
     → IfOk r (λ x. (settings : Settings) → Agree names settings → Made before now (λ own. Is settings own x))
     → IfOk r (λ x. (settings : Settings) → Agree names settings → Made before now (λ own. Is settings own x × Agree names settings))
 unnamed (Err e) names before now Is h = tt
 unnamed (Ok x) names before now Is h = λ settings agree.
     let m = h settings agree in
-    record { own = m.own; entries = m.entries; few = m.few; plain = m.plain; is = (m.is, agree) }
+    record { own = m.own; entries = m.entries; few = m.few; is = (m.is, agree) }

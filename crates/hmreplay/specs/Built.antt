@@ -1,17 +1,25 @@
 -- The traces that are built so far.
-use Rattle.std.specs.Prelude.{◌≡◌, ◌⊎◌, Bool, true, false, ◌&&◌, ◌==◌, nat_le, List, [], ◌∷◌, length, ℤ, pos}
+use Rattle.std.specs.Prelude.{◌≡◌, ◌⊎◌, suc, Bool, true, false, ◌&&◌, ◌==◌, nat_le, List, [], ◌∷◌, length, ℤ, pos, negsuc}
 use Rattle.std.specs.List.{list_all}
-use Rattle.hm_trace.specs.Views.{Named, StepView, Malloc, Free, ScriptView}
+use Rattle.hm_trace.specs.Views.{PlaceView, Named, StepView, Malloc, Free, Write, Read, Size, ScriptView}
 
--- no offset
-abbrev pub is_plain : ℤ → Bool
-is_plain (pos n) = n == 0
-is_plain offset = false
+-- at most 4,096 up or down
+abbrev pub is_near : ℤ → Bool
+is_near (pos n) = nat_le n 4096
+is_near (negsuc n) = nat_le (suc n) 4096
 
--- an allotment of a size from 89 to 104, or a free of what a name holds
+-- what a name holds, or an address near it
+abbrev pub is_built_place : PlaceView → Bool
+is_built_place (Named name offset) = is_near offset
+is_built_place place = false
+
+-- an allotment of a size from 89 to 104; or a free, a write, a read or a question for the size, at such a place
 abbrev pub is_built_step : StepView → Bool
 is_built_step (Malloc name size) = nat_le 89 size && nat_le size 104
-is_built_step (Free (Named name offset)) = is_plain offset
+is_built_step (Free place) = is_built_place place
+is_built_step (Write place len byte) = is_built_place place
+is_built_step (Read place len) = is_built_place place
+is_built_step (Size place) = is_built_place place
 is_built_step step = false
 
 -- at most 1,000 such steps of thread 1

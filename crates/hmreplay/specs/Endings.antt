@@ -35,9 +35,9 @@ line_of ReadFault = codes "fault: read" ++ 10 ∷ []
 line_of TooLong = codes "fault: too long" ++ 10 ∷ []
 line_of NotBuilt = codes "fault: not built" ++ 10 ∷ []
 
--- why a run is refused before its text is read; a trace that is not built is refused after that
+-- why a run is refused before its text is read; where the words are not accepted nothing was taken from the source, and a trace that is not built is refused after that
 abbrev pub IsRefused : Refusal → List (String Global) → Option (List ℕ) → Option (List ℕ) → Type 0 → Type 0
-IsRefused Usage words left left' rose = AreRun words → ⊥
+IsRefused Usage words left left' rose = (AreRun words → ⊥) × (left' ≡ left)
 IsRefused ReadFault words left left' rose = AreRun words × rose
 IsRefused TooLong words left left' rose = AreRun words × IsTakenPast 67108864 left left'
 IsRefused NotBuilt words left left' rose = ⊥

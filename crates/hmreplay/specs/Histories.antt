@@ -1,46 +1,25 @@
 -- What a run leaves: the history of its region, beside its pages.
-use Rattle.std.specs.Prelude.{◌≡◌, ℕ, Bool, false, IsTrue, List, [], ◌∷◌, Option, Some, None}
+use Rattle.std.specs.Prelude.{◌≡◌, ℕ, Bool, IsTrue, List, [], ◌∷◌, Option, Some, None}
 use Rattle.hm_outside.specs.PageRuns.{PageRuns}
-use Rattle.hm_sizes.specs.declared.config.Config.{Config}
-use Rattle.hm_sizes.specs.declared.shape.Shape.{Shape}
-use Rattle.hm_sizes.specs.Configs.{standard}
-use Rattle.hm_sizes.specs.Shapes.{shape_of}
-use Rattle.hm_class_rules.specs.Rules.{Terms, IsLegal, state}
+use Rattle.hm_class_rules.specs.Rules.{IsLegal, state}
 use Rattle.hm_class.specs.Region.{Region, HoldsSlabs, region_shape}
 use Rattle.hm_report.specs.declared.results.StepResult.{StepResult}
 use Rattle.hm_trace.specs.Views.{StepView}
 use Rattle.hmreplay.specs.declared.closed.History.{History}
 use Rattle.hmreplay.specs.declared.closed.Closed.{Closed}
-use Rattle.hmreplay.specs.Scripts.{Settings, Runs, ArePlain}
-
--- ---- the one region: class 7 of arena 0, without a quarantine, nothing being said of bytes
-abbrev pub config : Config
-config = record standard { array_base = 0; ring_base = 0 }
-
-abbrev pub shape : Shape
-shape = shape_of config 0 (record { 0 = 7 }) 4096
-
-abbrev pub terms : Terms
-terms = record { config = config; shape = shape; told = false }
-
--- the region as contracts see it
-pub record IsFirstRegion {P : Type 0} (r : Region P) : Type 0 where
-  pub config_is : r.config ≡ config
-  pub number_is : r.number ≡ 0
-  pub arena_is : r.arena ≡ 0
-  pub class_is : r.class ≡ record { 0 = 7 }
+use Rattle.hmreplay.specs.FirstRegion.{shape, terms}
+use Rattle.hmreplay.specs.Scripts.{Settings, Runs}
 
 -- ---- what is closed
 module _ {P : Type 0} (told : P → Bool) (runs : P → PageRuns) (faults : P → ℕ) where
-  -- the history of region 7 beside its pages: it is legal, its counts are the pages' own, their runs are its open slabs, and its entries are exactly the calls of these steps, each once, in order
+  -- the history of region 7 beside its pages: it is legal, in what it says of bytes too where these pages tell them; its counts are the pages' own; where they tell, their runs are its open slabs with their bytes; and its entries are exactly the calls of these steps, each once, in order
   pub record IsHistory (h : History) (p : P) (steps : List StepView) (results : List StepResult) : Type 0 where
     pub region : h.region.0 ≡ 7
     pub first : h.first ≡ shape.first
-    pub legal : IsLegal terms h.entries
-    pub plain : ArePlain h.entries
+    pub legal : IsLegal (terms (told p)) h.entries
     pub counted : h.faults ≡ faults p
-    pub last : h.faults ≡ (state terms h.entries).faults
-    pub slabs : IsTrue (told p) → HoldsSlabs shape (state terms h.entries) (runs p)
+    pub last : h.faults ≡ (state (terms (told p)) h.entries).faults
+    pub slabs : IsTrue (told p) → HoldsSlabs shape (state (terms (told p)) h.entries).opens (runs p)
     pub settings : Settings
     pub calls : Runs 1 [] steps h.entries results settings
 

@@ -1,32 +1,20 @@
 -- The run of a script: its calls as entries of a history, its results, and the names.
-use Rattle.std.specs.Prelude.{◌≡◌, ℕ, ◌+◌, ◌≤◌, if◌then◌else◌, List, [], ◌∷◌, ◌++◌, Option, Some, None, ⊤, length}
+use Rattle.std.specs.Prelude.{◌≡◌, ℕ, suc, ◌+◌, ◌-◌, ◌*◌, ◌<◌, ◌≤◌, if◌then◌else◌, List, [], ◌∷◌, ◌++◌, Option, Some, None, IfSome, length, ℤ, pos, negsuc}
+use Rattle.std.specs.Option.{option_map}
 use Rattle.hm_model.specs.declared.entry.Entry.{Entry}
 use Rattle.hm_model.specs.declared.entry.Who.{Who}
 use Rattle.hm_model.specs.declared.entry.Call.{Call}
-use Rattle.hm_model.specs.declared.entry.Call.TheVariants.{Allot, GiveBack}
+use Rattle.hm_model.specs.declared.entry.Call.TheVariants.{Allot, GiveBack, Measure, Fetch, Fill}
 use Rattle.hm_model.specs.declared.entry.Reply.{Reply}
-use Rattle.hm_model.specs.declared.entry.Reply.TheVariants.{Given, Exhausted, PagesFailed, NoSlot, Unused, DoubleFree, Freed}
+use Rattle.hm_model.specs.declared.entry.Reply.TheVariants.{Given}
 use Rattle.hm_model.specs.declared.answer.Answer.TheVariants as answers
+use Rattle.hm_model.specs.Runs.{same_runs}
+use Rattle.hm_sizes.specs.Shapes.{region_start}
 use Rattle.hm_report.specs.declared.results.StepResult.{StepResult}
 use Rattle.hm_trace.specs.declared.names.Name.{Name}
 use Rattle.hm_trace.specs.Names.{is_word}
-use Rattle.hm_trace.specs.Views.{name_view, Named, StepView, Malloc, Free}
-
--- ---- until bytes are kept
--- the reply speaks neither of bytes nor of a stated size
-abbrev pub IsPlain : Reply → Type 0
-IsPlain (Given addr usable) = ⊤
-IsPlain Exhausted = ⊤
-IsPlain PagesFailed = ⊤
-IsPlain NoSlot = ⊤
-IsPlain Unused = ⊤
-IsPlain DoubleFree = ⊤
-IsPlain Freed = ⊤
-IsPlain reply = ⊥
-
-abbrev pub ArePlain : List Entry → Type 0
-ArePlain [] = ⊤
-ArePlain (e ∷ entries) = IsPlain e.reply × ArePlain entries
+use Rattle.hm_trace.specs.Views.{name_view, PlaceView, Named, StepView, Malloc, Free, Write, Read, Size}
+use Rattle.hmreplay.specs.FirstRegion.{config, shape}
 
 -- ---- names
 -- what was said of names, newest first: an address, or that it is not set
@@ -48,6 +36,21 @@ abbrev pub set_by : Settings → StepView → List Entry → Settings
 set_by settings (Malloc name size) (e ∷ entries) = (name, given_by e.reply) ∷ settings
 set_by settings step entries = settings
 
+-- ---- places
+-- an address and an offset
+abbrev pub moved : ℕ → ℤ → ℕ
+moved addr (pos n) = addr + n
+moved addr (negsuc n) = addr - suc n
+
+-- the address that a name holds with the offset; no other place is built
+abbrev pub referred : Settings → PlaceView → Option ℕ
+referred settings (Named name offset) = option_map (λ addr. moved addr offset) (held_by settings name)
+referred settings place = None
+
+-- the address lies in the space of the region
+abbrev pub IsReached : ℕ → Type 0
+IsReached addr = (region_start config 0 7 ≤ addr) × (addr < region_start config 0 7 + 2 * config.class_region)
+
 -- ---- one step
 -- who makes the one call of a step of thread 1 in round 1
 abbrev pub who : ℕ → Who
@@ -64,15 +67,18 @@ abbrev pub Calls : ℕ → ℕ → Call → List Entry → StepResult → Type 0
 Calls step base call (e ∷ []) result = (e.who ≡ who step) × (e.call ≡ call) × (result ≡ answered base e.reply)
 Calls step base call entries result = ⊥
 
--- a free of the address that a name holds; where it holds none the step is skipped, and makes no call
-abbrev pub Frees : ℕ → Option ℕ → List Entry → StepResult → Type 0
-Frees step None entries result = (entries ≡ []) × (result ≡ skipped)
-Frees step (Some addr) entries result = Calls step addr (GiveBack addr None) entries result
+-- this call at the address that is referred to, which lies in the space of the region; where there is none the step is skipped, and makes no call
+abbrev pub Refers : ℕ → Option ℕ → (ℕ → Call) → List Entry → StepResult → Type 0
+Refers step None call entries result = (entries ≡ []) × (result ≡ skipped)
+Refers step (Some addr) call entries result = IsReached addr × Calls step addr (call addr) entries result
 
 -- a step with its entries and its result, under the settings before it
 abbrev pub Steps : ℕ → Settings → StepView → List Entry → StepResult → Type 0
 Steps step settings (Malloc name size) entries result = Calls step 0 (Allot size 1) entries result
-Steps step settings (Free (Named name offset)) entries result = Frees step (held_by settings name) entries result
+Steps step settings (Free place) entries result = Refers step (referred settings place) (λ addr. GiveBack addr None) entries result
+Steps step settings (Write place len byte) entries result = Refers step (referred settings place) (λ addr. Fill addr (same_runs byte len)) entries result
+Steps step settings (Read place len) entries result = Refers step (referred settings place) (λ addr. Fetch addr len) entries result
+Steps step settings (Size place) entries result = Refers step (referred settings place) (λ addr. Measure addr) entries result
 Steps step settings other entries result = ⊥
 
 -- the address that a name holds among addresses by names
@@ -84,12 +90,18 @@ address_of (e ∷ entries) name = if is_word name (name_view e.0) then Some e.1 
 abbrev pub Agree : List (Name × ℕ) → Settings → Type 0
 Agree entries settings = (name : Name) → address_of entries (name_view name) ≡ held_by settings (name_view name)
 
--- the history was lengthened by the entries of a call, if any, of which this holds; none speaks of bytes
+-- the address lies among the slabs of the region: at least the first one's, and less than their length above it
+abbrev pub IsInside : ℕ → Type 0
+IsInside addr = (shape.first ≤ addr) × (addr < shape.first + config.class_region)
+
+abbrev pub AreInside : List (Name × ℕ) → Type 0
+AreInside entries = (name : Name) → IfSome (address_of entries (name_view name)) IsInside
+
+-- the history was lengthened by the entries of a call, if any, of which this holds
 pub record Made (before now : List Entry) (Is : List Entry → Type 0) : Type 0 where
   pub own : List Entry
   pub entries : now ≡ before ++ own
   pub few : length own ≤ 1
-  pub plain : ArePlain own
   pub is : Is own
 
 -- ---- a script

@@ -15,9 +15,9 @@ IsTakenPast limit before after = (bytes : List ℕ) × Taken before after bytes 
 abbrev pub IsTakenWithin : ℕ → Option (List ℕ) → Option (List ℕ) → Type 0
 IsTakenWithin most before after = (bytes : List ℕ) × Taken before after bytes × (length bytes ≤ most)
 
--- a front of the text was put
+-- a front of the text was put, and not all of it
 abbrev pub IsFrontPut : Option (List ℕ) → Option (List ℕ) → List ℕ → Type 0
-IsFrontPut before after text = (n : ℕ) × (n ≤ length text) × Put before after (take n text)
+IsFrontPut before after text = (n : ℕ) × (n < length text) × Put before after (take n text)
 
 -- the text was put and the status is the one planned; or the status is 5, the sink's count rose and a front of the text was put
 abbrev pub IsWritten : ℕ → ℕ → Option (List ℕ) → Option (List ℕ) → Type 0 → List ℕ → Type 0

@@ -1,21 +1,43 @@
 //! Which traces are built so far, and the steps of such a trace.
 ghost use Rattle.std.specs.Prelude.{◌≡◌, true, MatchOption};
 ghost use Rattle.std.specs.List.{list_all};
-ghost use Rattle.hm_trace.specs.Views.{step_view, steps_view};
-ghost use Rattle.hmreplay.specs.Built.{is_built_step, is_built_script, is_built, HasScript, HasNoScript};
+ghost use Rattle.hm_trace.specs.Views.{place_view, step_view, steps_view};
+ghost use Rattle.hmreplay.specs.Built.{is_near, is_built_place, is_built_step, is_built_script, is_built, HasScript, HasNoScript};
 
 use hm_trace::{Place, Script, Step, Trace};
 
-// Whether it allots a block of a size from 89 to 104, or frees what a name holds.
+// Whether it is at most 4,096 up or down.
+fn is_near(offset: i64) -> bool
+    ensures { result ≡ is_near offset }
+{
+    offset.unsigned_abs() <= 4096
+}
+
+// Whether it is a name, with an offset of at most 4,096.
+fn is_built_place(place: &Place) -> bool
+    ensures { result ≡ is_built_place (place_view place.now) }
+{
+    match place {
+        Place::Named { name: _, offset } => is_near(*offset),
+        _ => false,
+    }
+}
+
+// Whether it allots a block of a size from 89 to 104; or frees, writes, reads or asks for the size at
+// such a place.
 fn is_built_step(step: &Step) -> bool
     ensures { result ≡ is_built_step (step_view step.now) }
 {
     match step {
         Step::Malloc { name: _, size } => 89 <= *size && *size <= 104,
-        Step::Free { place } => match place {
-            Place::Named { name: _, offset } => *offset == 0,
-            _ => false,
-        },
+        Step::Free { place } => is_built_place(place),
+        Step::Write {
+            place,
+            len: _,
+            byte: _,
+        } => is_built_place(place),
+        Step::Read { place, len: _ } => is_built_place(place),
+        Step::Size { place } => is_built_place(place),
         _ => false,
     }
 }

@@ -4,9 +4,11 @@ ghost use Rattle.std.specs.List.{list_all};
 ghost use Rattle.hm_sizes.specs.Configs.{IsValid};
 ghost use Rattle.hm_class.specs.Calls.{IsBuilt};
 ghost use Rattle.hm_class.specs.Region.{IsRegion};
+ghost use Rattle.hm_trace.specs.Traces.{is_step};
 ghost use Rattle.hm_trace.specs.Views.{steps_view};
 ghost use Rattle.hmreplay.specs.Built.{is_built_step};
-ghost use Rattle.hmreplay.specs.Histories.{config, Closes, IsFirstRegion, IsClosedAs};
+ghost use Rattle.hmreplay.specs.FirstRegion.{config, IsFirstRegion};
+ghost use Rattle.hmreplay.specs.Histories.{Closes, IsClosedAs};
 
 use crate::closed::{Closed, History};
 use crate::script::run_steps;
@@ -80,6 +82,7 @@ pub fn run_region<M: PageMaker>(
     steps: &[Step],
 ) -> Result<Finished<M::P>, NoMemory>
     requires built { list_all is_built_step (steps_view steps.now) ≡ true }
+    requires valid { list_all is_step (steps_view steps.now) ≡ true }
     requires few { length steps.now ≤ 1000 }
     ensures { IfOk result (λ done. Closes M.P.told M.P.runs M.P.faults (Some done.closed) (steps_view steps.now) done.items.items) }
 {

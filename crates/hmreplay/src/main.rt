@@ -8,8 +8,10 @@ mod closed;
 mod heap;
 mod laws;
 mod names;
+mod places;
 mod reading;
 mod refusal;
+mod request;
 mod run;
 mod script;
 #[cfg(test)]

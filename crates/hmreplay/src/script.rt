@@ -3,13 +3,18 @@ ghost use Rattle.std.specs.Prelude.{◌≡◌, ◌+◌, ◌<◌, ◌≤◌, List
 ghost use Rattle.std.specs.List.{list_all};
 ghost use Rattle.hm_class.specs.Calls.{KeepsName};
 ghost use Rattle.hm_class.specs.Region.{IsRegion};
-ghost use Rattle.hm_trace.specs.Views.{name_view, step_view, steps_view};
+ghost use Rattle.hm_trace.specs.Traces.{is_step};
+ghost use Rattle.hm_trace.specs.Views.{name_view, place_view, step_view, steps_view};
 ghost use Rattle.hm_trace.specs.Views.{Malloc as MallocView};
 ghost use Rattle.hm_model.specs.declared.entry.Call.TheVariants.{Allot};
-ghost use Rattle.hmreplay.specs.Built.{is_built_step};
-ghost use Rattle.hmreplay.specs.Scripts.{Settings, Agree, Steps, Frees, Calls, Runs, ArePlain, answered, skipped, given_by, held_by, set_by, who, Made};
+ghost use Rattle.hmreplay.specs.Built.{is_built_place, is_built_step};
+ghost use Rattle.hmreplay.specs.FirstRegion.{IsFirstRegion};
+ghost use Rattle.hmreplay.specs.Requests.{call_at, IsMeasured};
+ghost use Rattle.hmreplay.specs.Scripts.{Settings, Agree, AreInside, Steps, Refers, Calls, Runs, answered, skipped, given_by, referred, set_by, who, Made};
 
-use crate::names::{held, set};
+use crate::names::set;
+use crate::places::referred;
+use crate::request::{Request, ask};
 use hm_class::ClassHeap;
 use hm_model::{Answer, Reply, Who};
 use hm_outside::{NoMemory, Pages};
@@ -69,9 +74,11 @@ fn malloc<P: Pages>(
     name: Name,
     size: u64,
 ) -> Result<StepResult, NoMemory>
-    requires class { heap.old.class.0 ≡ 7 }
+    requires first { IsFirstRegion heap.old }
     requires size { size ≤ 104 }
+    requires inside { AreInside names.old.entries }
     ensures ran { IfOk result (λ r. (settings : Settings) → Agree names.old.entries settings → Made heap.old.entries heap.new.entries (λ own. Calls step 0 (Allot size 1) own r × Agree names.new.entries (set_by settings (MallocView (name_view name) size) own))) }
+    ensures inside { IfOk result (λ _. AreInside names.new.entries) }
     ensures name { KeepsName heap.old heap.new }
     ensures region { IsRegion P.told P.runs P.faults heap.new }
 {
@@ -80,22 +87,27 @@ fn malloc<P: Pages>(
     Ok(answer(0, reply))
 }
 
-// Frees what a name holds.
-fn free<P: Pages>(
+// Asks something of the region at the address that a place refers to.
+fn refer<P: Pages>(
+    alloc: Global,
     heap: &mut ClassHeap<P>,
     names: &BTreeMap<Name, u64>,
     step: u32,
-    name: &Name,
+    place: &Place,
+    request: Request,
 ) -> Result<StepResult, NoMemory>
     requires few { length heap.old.entries < 1000 }
     requires region { IsRegion P.told P.runs P.faults heap.old }
-    ensures ran { IfOk result (λ r. (settings : Settings) → Agree names.now.entries settings → Made heap.old.entries heap.new.entries (λ own. Frees step (held_by settings (name_view name.now)) own r)) }
+    requires built { is_built_place (place_view place.now) ≡ true }
+    requires measured { IsMeasured request }
+    requires inside { AreInside names.now.entries }
+    ensures ran { IfOk result (λ r. (settings : Settings) → Agree names.now.entries settings → Made heap.old.entries heap.new.entries (λ own. Refers step (referred settings (place_view place.now)) (call_at request) own r)) }
     ensures name { KeepsName heap.old heap.new }
     ensures region { IsRegion P.told P.runs P.faults heap.new }
 {
-    match held(names, name) {
+    match referred(names, place) {
         Some(addr) => {
-            let reply = heap.give_back(who_of(step), addr, None)?;
+            let reply = ask(alloc, heap, who_of(step), request, addr)?;
             Ok(answer(addr, reply))
         }
         None => Ok(skip()),
@@ -104,25 +116,38 @@ fn free<P: Pages>(
 
 // Runs one step.
 fn run_step<P: Pages>(
+    alloc: Global,
     heap: &mut ClassHeap<P>,
     names: &mut BTreeMap<Name, u64>,
     number: u32,
     step: &Step,
 ) -> Result<StepResult, NoMemory>
-    requires class { heap.old.class.0 ≡ 7 }
+    requires first { IsFirstRegion heap.old }
     requires few { length heap.old.entries < 1000 }
     requires region { IsRegion P.told P.runs P.faults heap.old }
     requires built { is_built_step (step_view step.now) ≡ true }
+    requires valid { is_step (step_view step.now) ≡ true }
+    requires inside { AreInside names.old.entries }
     ensures ran { IfOk result (λ r. (settings : Settings) → Agree names.old.entries settings → Made heap.old.entries heap.new.entries (λ own. Steps number settings (step_view step.now) own r × Agree names.new.entries (set_by settings (step_view step.now) own))) }
+    ensures inside { IfOk result (λ _. AreInside names.new.entries) }
     ensures name { KeepsName heap.old heap.new }
     ensures region { IsRegion P.told P.runs P.faults heap.new }
 {
     match step {
         Step::Malloc { name, size } => malloc(heap, names, number, *name, *size),
-        Step::Free { place } => match place {
-            Place::Named { name, offset: _ } => free(heap, names, number, name),
-            _ => unreachable!(),
-        },
+        Step::Free { place } => refer(alloc, heap, names, number, place, Request::GiveBack),
+        Step::Write { place, len, byte } => {
+            let request = Request::Fill {
+                len: *len,
+                byte: *byte,
+            };
+            refer(alloc, heap, names, number, place, request)
+        }
+        Step::Read { place, len } => {
+            let request = Request::Fetch { len: *len };
+            refer(alloc, heap, names, number, place, request)
+        }
+        Step::Size { place } => refer(alloc, heap, names, number, place, Request::Measure),
         _ => unreachable!(),
     }
 }
@@ -133,20 +158,20 @@ pub fn run_steps<P: Pages>(
     heap: &mut ClassHeap<P>,
     steps: &[Step],
 ) -> Result<Vec<StepResult>, NoMemory>
-    requires class { heap.old.class.0 ≡ 7 }
+    requires first { IsFirstRegion heap.old }
     requires fresh { heap.old.entries ≡ [] }
     requires region { IsRegion P.told P.runs P.faults heap.old }
     requires built { list_all is_built_step (steps_view steps.now) ≡ true }
+    requires valid { list_all is_step (steps_view steps.now) ≡ true }
     requires few { length steps.now ≤ 1000 }
     ensures ran { IfOk result (λ rs. (last : Settings) × Runs 1 [] (steps_view steps.now) heap.new.entries rs.items last) }
-    ensures plain { IfOk result (λ _. ArePlain heap.new.entries) }
     ensures name { KeepsName heap.old heap.new }
     ensures region { IsRegion P.told P.runs P.faults heap.new }
 {
     let mut names = BTreeMap::new(alloc);
     let mut results = Vec::new(alloc);
     for (index, step) in steps.iter().enumerate() {
-        let result = run_step(heap, &mut names, index as u32 + 1, step)?;
+        let result = run_step(alloc, heap, &mut names, index as u32 + 1, step)?;
         results.push(result)?;
     }
     Ok(results)

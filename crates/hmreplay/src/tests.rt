@@ -1,10 +1,10 @@
 //! Runs over objects in memory.
 use crate::run::{Run, replay};
-use hm_outside::{
-    FailingMaker, FailingPages, NoGate, PlainMaker, PlainPages, RegionId, VecSink, VecSource,
-};
+use hm_outside::{FailingMaker, NoGate, PageMaker, PlainMaker, RegionId, VecSink, VecSource};
 use std::alloc::Global;
+use std::sync::Wait;
 use std::test::Fail;
+use std::thread::Threads;
 
 struct Row {
     word: &'static str,
@@ -18,7 +18,7 @@ struct Row {
     status: u8,
 }
 
-const ROWS: [Row; 13] = [
+const ROWS: [Row; 9] = [
     Row {
         word: "run",
         input: "hmtrace 1\nend\n",
@@ -35,24 +35,6 @@ const ROWS: [Row; 13] = [
         room: 99,
         piece: 3,
         output: "1.1.1 given 104\n1.1.2 freed\n",
-        status: 0,
-    },
-    Row {
-        word: "run",
-        input: "hmtrace 1\nround\nthread 1\nmalloc x 100\nfree x\nfree x\nend\n",
-        source_fails: 0,
-        room: 99,
-        piece: 99,
-        output: "1.1.1 given 104\n1.1.2 freed\n1.1.3 double free\n",
-        status: 1,
-    },
-    Row {
-        word: "run",
-        input: "hmtrace 1\nround\nthread 1\nfree y\nmalloc y 89\nmalloc y 104\nfree y\nend\n",
-        source_fails: 0,
-        room: 99,
-        piece: 99,
-        output: "1.1.1 skipped\n1.1.2 given 104\n1.1.3 given 104\n1.1.4 freed\n",
         status: 0,
     },
     Row {
@@ -102,15 +84,6 @@ const ROWS: [Row; 13] = [
     },
     Row {
         word: "run",
-        input: "hmtrace 1\nround\nthread 1\nmalloc x 105\nend\n",
-        source_fails: 0,
-        room: 99,
-        piece: 3,
-        output: "fault: not built\n",
-        status: 8,
-    },
-    Row {
-        word: "run",
         input: "hmtrace 1\nround\nthread 2\nend\n",
         source_fails: 0,
         room: 99,
@@ -127,15 +100,69 @@ const ROWS: [Row; 13] = [
         output: "fault: not built\n",
         status: 8,
     },
-    Row {
-        word: "run",
-        input: "hmtrace 1\nround\nthread 1\nfree null\nend\n",
-        source_fails: 0,
-        room: 99,
-        piece: 3,
-        output: "fault: not built\n",
-        status: 8,
-    },
+];
+
+/// The steps of one thread, what is written, and the status.
+const SCRIPTS: [(&str, &str, u8); 19] = [
+    (
+        "malloc x 100\nfree x\nfree x\nsize x\n",
+        "1.1.1 given 104\n1.1.2 freed\n1.1.3 double free\n1.1.4 double free\n",
+        1,
+    ),
+    (
+        "free y\nmalloc y 89\nmalloc y 104\nfree y\n",
+        "1.1.1 skipped\n1.1.2 given 104\n1.1.3 given 104\n1.1.4 freed\n",
+        0,
+    ),
+    (
+        "write y+8 1 41\nread y 1\nsize y-8\n",
+        "1.1.1 skipped\n1.1.2 skipped\n1.1.3 skipped\n",
+        0,
+    ),
+    (
+        "malloc x 100\nfree x+8\nfree x\n",
+        "1.1.1 given 104\n1.1.2 no slot\n1.1.3 freed\n",
+        1,
+    ),
+    (
+        "malloc x 100\nwrite x+104 1 00\nfree x\n",
+        "1.1.1 given 104\n1.1.2 written\n1.1.3 freed\n",
+        0,
+    ),
+    (
+        "malloc x 100\nwrite x+104 8 41\nfree x\nfree x\n",
+        "1.1.1 given 104\n1.1.2 written\n1.1.3 canary at 0\n1.1.4 canary at 0\n",
+        1,
+    ),
+    (
+        "malloc x 100\nwrite x 1 41\nread x 2\nsize x\n",
+        "1.1.1 given 104\n1.1.2 written\n1.1.3 bytes 41*1 00*1\n1.1.4 size 104\n",
+        0,
+    ),
+    (
+        "malloc x 100\nmalloc y 100\nwrite x+112 2 ff\nread y-1 4\n",
+        "1.1.1 given 104\n1.1.2 given 104\n1.1.3 written\n1.1.4 bytes 00*1 ff*2 00*1\n",
+        0,
+    ),
+    (
+        "malloc x 100\nread x+4000 96\nread x+4000 97\nwrite x+4095 2 41\nread x+4095 1\n",
+        "1.1.1 given 104\n1.1.2 bytes 00*96\n1.1.3 trap at +96\n1.1.4 trap at +1\n1.1.5 bytes 00*1\n",
+        1,
+    ),
+    (
+        "malloc x 100\nfree x+4096\nsize x-4096\nread x-4096 1\n",
+        "1.1.1 given 104\n1.1.2 no slot\n1.1.3 no slot\n1.1.4 trap at +0\n",
+        1,
+    ),
+    ("malloc x 88\n", "fault: not built\n", 8),
+    ("malloc x 105\n", "fault: not built\n", 8),
+    ("malloc x 100\nfree x+4097\n", "fault: not built\n", 8),
+    ("malloc x 100\nread x-4097 1\n", "fault: not built\n", 8),
+    ("free null\n", "fault: not built\n", 8),
+    ("size null\n", "fault: not built\n", 8),
+    ("write @1000 1 41\n", "fault: not built\n", 8),
+    ("malloc x 100\nsfree x 100\n", "fault: not built\n", 8),
+    ("calloc x 1 100\n", "fault: not built\n", 8),
 ];
 
 fn source(alloc: Global, bytes: Vec<u8>, piece: usize, fails: u64) -> Result<VecSource, Fail> {
@@ -157,23 +184,34 @@ fn words(alloc: Global, word: &str) -> Result<Vec<String>, Fail> {
     Ok(words)
 }
 
+// Runs over a source and a sink in memory.
+fn run_over<R: Wait + Threads, M: PageMaker>(
+    rt: &R,
+    alloc: Global,
+    word: &str,
+    source: &mut VecSource,
+    sink: &mut VecSink,
+    maker: &mut M,
+) -> Result<Run<M::P>, Fail> {
+    let words = words(alloc, word)?;
+    Ok(replay(rt, alloc, &words, source, sink, maker, &NoGate))
+}
+
 #[test]
 fn statuses_and_output(rt: HostRuntime) -> Result<(), Fail> {
     let alloc = rt.alloc();
     for row in &ROWS {
-        let words = words(alloc, row.word)?;
         let bytes = Vec::from_slice(alloc, row.input.as_bytes())?;
         let mut source = source(alloc, bytes, 8, row.source_fails)?;
         let mut sink = VecSink::build(alloc, row.room, row.piece, Vec::new(alloc))?;
-        let run: Run<PlainPages> = replay(
+        let run = run_over(
             &rt,
             alloc,
-            &words,
+            row.word,
             &mut source,
             &mut sink,
             &mut PlainMaker,
-            &NoGate,
-        );
+        )?;
         assert_eq!(rt; run.status, row.status, "{}", row.input);
         assert_eq!(rt;
             sink.held.as_slice(),
@@ -186,21 +224,27 @@ fn statuses_and_output(rt: HostRuntime) -> Result<(), Fail> {
 }
 
 #[test]
+fn scripts(rt: HostRuntime) -> Result<(), Fail> {
+    let alloc = rt.alloc();
+    for (steps, output, status) in SCRIPTS {
+        let text = format!(in alloc; "hmtrace 1\nround\nthread 1\n{steps}end\n")?;
+        let bytes = Vec::from_slice(alloc, text.as_bytes())?;
+        let mut source = source(alloc, bytes, 65_536, 0)?;
+        let mut sink = VecSink::build(alloc, 999, 999, Vec::new(alloc))?;
+        let run = run_over(&rt, alloc, "run", &mut source, &mut sink, &mut PlainMaker)?;
+        assert_eq!(rt; run.status, status, "{steps}");
+        assert_eq!(rt; sink.held.as_slice(), output.as_bytes(), "{steps}");
+    }
+    Ok(())
+}
+
+#[test]
 fn too_long(rt: HostRuntime) -> Result<(), Fail> {
     let alloc = rt.alloc();
-    let words = words(alloc, "run")?;
     let bytes = vec![in alloc; 0x23u8; 67_108_865]?;
     let mut source = source(alloc, bytes, 65_536, 0)?;
     let mut sink = VecSink::build(alloc, 99, 99, Vec::new(alloc))?;
-    let run: Run<PlainPages> = replay(
-        &rt,
-        alloc,
-        &words,
-        &mut source,
-        &mut sink,
-        &mut PlainMaker,
-        &NoGate,
-    );
+    let run = run_over(&rt, alloc, "run", &mut source, &mut sink, &mut PlainMaker)?;
     assert_eq!(rt; run.status, 7);
     assert_eq!(rt; sink.held.as_slice(), b"fault: too long\n".as_slice());
     Ok(())
@@ -209,7 +253,6 @@ fn too_long(rt: HostRuntime) -> Result<(), Fail> {
 #[test]
 fn failed_page(rt: HostRuntime) -> Result<(), Fail> {
     let alloc = rt.alloc();
-    let words = words(alloc, "run")?;
     let text = "hmtrace 1\nround\nthread 1\nmalloc x 100\nmalloc y 100\nend\n";
     let mut source = source(alloc, Vec::from_slice(alloc, text.as_bytes())?, 8, 0)?;
     let mut sink = VecSink::build(alloc, 99, 99, Vec::new(alloc))?;
@@ -219,15 +262,7 @@ fn failed_page(rt: HostRuntime) -> Result<(), Fail> {
         region: RegionId(7),
         fail_calls,
     };
-    let run: Run<FailingPages> = replay(
-        &rt,
-        alloc,
-        &words,
-        &mut source,
-        &mut sink,
-        &mut maker,
-        &NoGate,
-    );
+    let run = run_over(&rt, alloc, "run", &mut source, &mut sink, &mut maker)?;
     assert_eq!(rt; run.status, 0);
     assert_eq!(rt;
         sink.held.as_slice(),
@@ -263,18 +298,9 @@ fn long_script(alloc: Global, steps: u32) -> Result<Vec<u8>, Fail> {
 fn thousand_steps(rt: HostRuntime) -> Result<(), Fail> {
     let alloc = rt.alloc();
     for (steps, status, entries) in [(1_000, 0, 1_000), (1_001, 8, 0)] {
-        let words = words(alloc, "run")?;
         let mut source = source(alloc, long_script(alloc, steps)?, 65_536, 0)?;
         let mut sink = VecSink::build(alloc, 65_536, 65_536, Vec::new(alloc))?;
-        let run: Run<PlainPages> = replay(
-            &rt,
-            alloc,
-            &words,
-            &mut source,
-            &mut sink,
-            &mut PlainMaker,
-            &NoGate,
-        );
+        let run = run_over(&rt, alloc, "run", &mut source, &mut sink, &mut PlainMaker)?;
         assert_eq!(rt; run.status, status);
         if let Some(closed) = run.closed {
             for history in closed.histories.items() {

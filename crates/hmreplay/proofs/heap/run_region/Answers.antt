@@ -1,4 +1,5 @@
-use Rattle.hmreplay.proofs.Closing.{kept, closing}
+use Rattle.hmreplay.proofs.Closing.{closing}
+use Rattle.hmreplay.proofs.FirstRegions.{kept}
 use Rattle.hm_trace.specs.Views.{steps_view}
 use Rattle.hmreplay.proofs.heap.run_region.Goals as goal
 
@@ -8,4 +9,4 @@ returns g c =
     let runs = g.M.P.Pages.runs in
     let faults = g.M.P.Pages.faults in
     closing told runs faults c.run_steps.new.heap _ _ (steps_view c.args.steps.now) c.in_ok-items.items.items
-    (kept told runs faults _ _ c.in_ok-items.ensures.name c.in_ok-heap.ensures.first) c.in_ok-items.ensures.region c.in_ok-items.ensures.plain c.in_ok-items.ensures.ran c.in_ok-closed.ensures
+    (kept _ _ c.in_ok-items.ensures.name c.in_ok-heap.ensures.first) c.in_ok-items.ensures.region c.in_ok-items.ensures.ran c.in_ok-closed.ensures

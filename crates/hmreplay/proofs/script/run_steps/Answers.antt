@@ -4,13 +4,23 @@ use Rattle.hm_model.specs.declared.entry.Entry.{Entry}
 use Rattle.hm_report.specs.declared.results.StepResult.{StepResult}
 use Rattle.hm_trace.specs.declared.step.Step.{Step}
 use Rattle.hm_trace.specs.Views.{StepView, step_view, steps_view}
-use Rattle.hmreplay.specs.Scripts.{Steps, Runs, ArePlain, set_by}
-use Rattle.hmreplay.proofs.Pushed.{built_at, plain_more, pushed}
+use Rattle.hm_trace.specs.Traces.{is_step}
+use Rattle.hmreplay.specs.Built.{is_built_step}
+use Rattle.hmreplay.specs.Scripts.{Steps, Runs, set_by}
+use Rattle.hmreplay.proofs.FirstRegions.{kept}
+use Rattle.hmreplay.proofs.Pushed.{passes_at, pushed}
 use Rattle.hmreplay.proofs.script.run_steps.Goals as goal
+
+pub run_step-requires-clause-first : goal.run_step-requires-clause-first
+run_step-requires-clause-first g c = λ lifetimes known. kept _ _ c.loop-index.invariant.name c.requires.first
 
 pub run_step-requires-clause-built : goal.run_step-requires-clause-built
 run_step-requires-clause-built g c = λ lifetimes known.
-    built_at c.args.steps.now c.loop-index.index c.index-steps-index.result c.requires.built (omega arith) c.index-steps-index.is
+    passes_at is_built_step c.args.steps.now c.loop-index.index c.index-steps-index.result c.requires.built (omega arith) c.index-steps-index.is
+
+pub run_step-requires-clause-valid : goal.run_step-requires-clause-valid
+run_step-requires-clause-valid g c = λ lifetimes known.
+    passes_at is_step c.args.steps.now c.loop-index.index c.index-steps-index.result c.requires.valid (omega arith) c.index-steps-index.is
 
 pub loop-index-preserved : goal.loop-index-preserved
 loop-index-preserved g c =
@@ -35,7 +45,7 @@ loop-index-preserved g c =
             (subst (λ (v : List StepView). Runs 1 [] v (c.loop-index.heap.entries ++ made.own) (c.loop-index.results.items ++ c.in_ok-result.result ∷ []) (set_by last (step_view s) made.own)) (sym taken) ran)),
         made.is.1,
       );
-      plain = subst (λ (es : List Entry). ArePlain es) (sym made.entries) (plain_more c.loop-index.heap.entries made.own old.plain made.plain);
+      inside = c.in_ok-result.ensures.inside;
       few = omega (arith, old.few, made.few, ap (λ (es : List Entry). length es) made.entries, length-append c.loop-index.heap.entries made.own);
       region = c.run_step.ensures.region;
       name = record {

@@ -1,0 +1,76 @@
+-- The one region: it keeps its name, and what it gives lies inside.
+use Rattle.std.proofs.Common.{◌≡◌, ℕ, ◌+◌, ◌*◌, ◌<◌, ◌≤◌, nat_lt, not, ◌&&◌, ◌==◌, Bool, List, [], ◌∷◌, ◌++◌, ◌∙◌, ap, subst, arith}
+use Rattle.std.specs.Prelude.{IfSome}
+use Rattle.std.proofs.lemmas.Bool.{and_parts}
+use Rattle.std.proofs.lemmas.Bool.Decides.{nat_tests}
+use Rattle.hm_outside.specs.PageRuns.{PageRuns}
+use Rattle.hm_model.specs.declared.entry.Entry.{Entry}
+use Rattle.hm_model.specs.declared.entry.Who.{Who}
+use Rattle.hm_model.specs.declared.entry.Choices.{Choices}
+use Rattle.hm_model.specs.declared.entry.Call.TheVariants.{Allot}
+use Rattle.hm_model.specs.declared.entry.Reply.{Reply}
+use Rattle.hm_model.specs.declared.entry.Reply.TheVariants.{Given}
+use Rattle.hm_model.specs.Machine.{Legal_split}
+use Rattle.hm_sizes.specs.declared.class.ClassId.{ClassId}
+use Rattle.hm_sizes.specs.declared.config.Config.{Config}
+use Rattle.hm_sizes.specs.declared.shape.Shape.{Shape}
+use Rattle.hm_sizes.specs.Shapes.{shape_of, slab_of, slot_of, place, is_guard, IsPlace}
+use Rattle.hm_class_rules.specs.State.{State, start}
+use Rattle.hm_class_rules.specs.Steps.{step}
+use Rattle.hm_class_rules.specs.Rules.{Terms, Allows, Allowed, IsLegal, state}
+use Rattle.hm_class.specs.Region.{Region, IsRegion, region_shape, terms as region_terms}
+use Rattle.hm_class.specs.Calls.{Added, KeepsName, entry_of}
+use Rattle.hmreplay.specs.FirstRegion.{config, shape, IsFirstRegion}
+use Rattle.hmreplay.specs.Scripts.{IsInside, given_by}
+
+-- the bounds of a slot's place
+within : (a n i : ℕ) → n < 8388608 → i < 36 → 1580547969024 + n * 4096 + i * 112 ≡ a → (1580547969024 ≤ a) × (a < 1580547969024 + 34359738368)
+within a n i below slot is = (omega arith, omega arith)
+
+-- a place of the region lies inside
+pub place_inside : (a : ℕ) → IsPlace shape a → IsInside a
+place_inside a is =
+    let n = slab_of shape a in
+    let i = slot_of shape a in
+    let one = and_parts (nat_lt n shape.limit) (not (is_guard shape n) && (nat_lt i shape.slots && (place shape n i == a))) is in
+    let two = and_parts (not (is_guard shape n)) (nat_lt i shape.slots && (place shape n i == a)) one.1 in
+    let three = and_parts (nat_lt i shape.slots) (place shape n i == a) two.1 in
+    within a n i (grind (arith, nat_tests, one.0)) (grind (arith, nat_tests, three.0)) (grind (arith, nat_tests, three.1))
+
+abbrev made : Config → ℕ → ClassId → Shape
+made c arena class = shape_of c arena class 4096
+
+-- what an allotment gives is a place
+given_place : (t : Terms) (s : State) (before now : ℕ) (c : Choices) (size : ℕ) (reply : Reply) → Allows t s before now c (Allot size 1) reply → IfSome (given_by reply) (IsPlace t.shape)
+given_place t s before now c size (Given a usable) h = h.0.place
+given_place t s before now c size reply h = tt
+
+inside_of : (reply : Reply) → IfSome (given_by reply) (IsPlace shape) → IfSome (given_by reply) IsInside
+inside_of (Given a usable) h = place_inside a h
+inside_of reply h = tt
+
+module _ {P : Type 0} where
+  -- a region keeps its name
+  pub kept : (old new : Region P) → KeepsName old new → IsFirstRegion old → IsFirstRegion new
+  kept old new keeps is = record {
+    config_is = keeps.config ∙ is.config_is;
+    number_is = keeps.number ∙ is.number_is;
+    arena_is = keeps.arena ∙ is.arena_is;
+    class_is = keeps.class ∙ is.class_is;
+  }
+
+  pub shapes_are : (r : Region P) → IsFirstRegion r → region_shape r ≡ shape
+  shapes_are r is =
+      ap (λ (c : Config). made c r.arena r.class) is.config_is ∙ ap (λ (a : ℕ). made config a r.class) is.arena_is ∙ ap (λ (k : ClassId). made config 0 k) is.class_is
+
+  -- what was given last lies inside
+  pub given_inside : (told : P → Bool) (runs : P → PageRuns) (faults : P → ℕ) (old new : Region P) (who : Who) (size : ℕ) (reply : Reply)
+      → IsFirstRegion new → IsRegion told runs faults new → Added faults old new who (Allot size 1) reply → IfSome (given_by reply) IsInside
+  given_inside told runs faults old new who size reply is region added =
+      let t : Terms = region_terms told new in
+      let e : Entry = entry_of who (Allot size 1) reply added.choices (faults old.pages) (faults new.pages) in
+      let legal : IsLegal t (old.entries ++ e ∷ []) = subst (λ (es : List Entry). IsLegal t es) added.entries region.legal in
+      let last : Allowed t (state t old.entries) e = (Legal_split (step t.shape) (Allowed t) start old.entries (e ∷ []) legal).1.0 in
+      inside_of reply
+      (subst (λ (p : Shape). IfSome (given_by reply) (IsPlace p)) (shapes_are new is)
+      (given_place t (state t old.entries) e.faults_before e.faults_after e.choices size reply last.allows))
