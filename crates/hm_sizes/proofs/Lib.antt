@@ -4,3 +4,4 @@ pub mod Shaped
 pub mod Digits
 pub mod Requests
 pub mod Guards
+pub mod LargeSizes

@@ -1,12 +1,12 @@
 -- Laws of sizes, shapes and places.
-use Rattle.std.specs.Prelude.{◌≡◌, ◌≢◌, ℕ, ◌+◌, ◌*◌, ◌^◌, ◌<◌, ◌≤◌, ◌↔◌, ◌⊎◌}
+use Rattle.std.specs.Prelude.{◌≡◌, ◌≢◌, ℕ, ◌+◌, ◌*◌, ◌%◌, ◌^◌, ◌<◌, ◌≤◌, ◌↔◌, ◌⊎◌}
 use Rattle.hm_sizes.specs.declared.config.Config.{Config}
 use Rattle.hm_sizes.specs.declared.class.ClassId.{ClassId}
 use Rattle.hm_sizes.specs.declared.class.Kind.{Kind}
 use Rattle.hm_sizes.specs.declared.class.Kind.TheVariants.{Small, Large, TooLarge}
 use Rattle.hm_sizes.specs.declared.shape.Shape.{Shape}
 use Rattle.hm_sizes.specs.Classes.{class_count, class_size}
-use Rattle.hm_sizes.specs.Sizes.{block_size, IsKindOf}
+use Rattle.hm_sizes.specs.Sizes.{block_size, large_size, IsKindOf}
 use Rattle.hm_sizes.specs.Configs.{IsValid}
 use Rattle.hm_sizes.specs.Shapes.{region_start, shape_of, slab_at, slab_of, slot_of, after, IsShape, IsGuard, IsPlace, IsPlaceOf}
 
@@ -24,6 +24,17 @@ size_given asked TooLarge = asked
 -- the size of a request's block is that of the kind to which it goes
 abbrev pub SizesAgree : Type 0
 SizesAgree = (asked : ℕ) (kind : Kind) → IsKindOf asked kind → block_size asked ≡ size_given asked kind
+
+-- the size of a large block for this raised size
+pub record IsLargeSize (raised size : ℕ) : Type 0 where
+  pub some : 1 ≤ size
+  pub holds : raised ≤ size
+  pub pages : size % 4096 ≡ 0
+  pub most : size ≤ 2 ^ 30
+
+-- large blocks are whole pages, and none is above the greatest request
+abbrev pub LargeSizes : Type 0
+LargeSizes = (raised : ℕ) → raised ≤ 2 ^ 30 → IsLargeSize raised (large_size raised)
 
 -- ---- places
 -- the test of an address finds exactly the places

@@ -66,7 +66,7 @@ fn class_size(class: ClassId) -> u64
 }
 
 /// A request's size with room for a canary.
-fn raised(asked: u64) -> u64
+pub fn raised(asked: u64) -> u64
     ensures { result ≡ raised asked }
 {
     if (1..=GREATEST_RAISED).contains(&asked) {

@@ -1,5 +1,6 @@
 //! Laws of sizes, shapes and places. Each function does nothing: its contract is the law.
 ghost use Rattle.hm_sizes.specs.Laws.{
+  LargeSizes,
   ReadsPlaces,
   RegionsApart,
   RegionsBelow,
@@ -14,6 +15,11 @@ ghost use Rattle.hm_sizes.specs.Laws.{
 pub fn size_laws()
     ensures ascend { SizesAscend }
     ensures agree { SizesAgree }
+{}
+
+/// The size of a large block holds the request, is whole pages, and is not above the greatest request.
+pub fn large_laws()
+    ensures { LargeSizes }
 {}
 
 /// The test of an address finds exactly the places, each of which has one slab and one slot.

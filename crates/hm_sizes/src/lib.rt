@@ -10,10 +10,11 @@ mod laws;
 mod shape;
 mod table;
 
-pub use class::{ClassId, Kind, block_size, class_of};
+pub use class::{ClassId, Kind, block_size, class_of, raised};
 pub use config::Config;
 pub use home::Home;
-pub use laws::{guard_law, place_laws, region_laws, size_laws};
+pub use large::large_size;
+pub use laws::{guard_law, large_laws, place_laws, region_laws, size_laws};
 pub use shape::{Shape, place_of, shape_of};
 
 #[cfg(test)]

@@ -1,0 +1,367 @@
+-- What is kept once an entry is added.
+use Rattle.std.proofs.Common.{◌≡◌, ℕ, suc, ◌+◌, ◌-◌, ◌*◌, ◌/◌, ◌%◌, ◌^◌, ◌<◌, ◌≤◌, Bool, true, false, cond, IsTrue, List, [], ◌∷◌, ◌++◌, Option, Some, None, is_some, option_map, sym, ◌∙◌, ap, subst, refl, arith}
+use Rattle.std.specs.Bool.{MatchBool}
+use Rattle.std.specs.FinMap as map
+use Rattle.hm_model.specs.declared.entry.Entry.{Entry}
+use Rattle.hm_model.specs.declared.entry.Who.{Who}
+use Rattle.hm_model.specs.declared.entry.Call.{Call}
+use Rattle.hm_model.specs.declared.entry.Call.TheVariants as call
+use Rattle.hm_model.specs.declared.entry.Reply.{Reply}
+use Rattle.hm_model.specs.declared.entry.Reply.TheVariants as reply
+use Rattle.hm_model.specs.declared.entry.Choices.{Choices}
+use Rattle.hm_model.specs.declared.entry.Draws.{Draws}
+use Rattle.hm_model.specs.Entries.{AreDraws}
+use Rattle.hm_model.specs.Machine.{run, Legal_push, run_push}
+use Rattle.hm_model.specs.Maps.{at, removed}
+use Rattle.hm_outside.specs.PageRuns.{PageRuns, IsRun}
+use Rattle.hm_quarantine.specs.LookingBack.{released}
+use Rattle.hm_sizes.specs.declared.config.Config.{Config}
+use Rattle.hm_sizes.specs.Configs.{IsValid}
+use Rattle.hm_large.specs.declared.store.KeptBlock.{KeptBlock}
+use Rattle.hm_large.specs.declared.store.Store.{Store}
+use Rattle.hm_large.specs.declared.allot.Attempt.{Attempt}
+use Rattle.hm_large.specs.declared.allot.Outcome.{Outcome}
+use Rattle.hm_large.specs.declared.allot.Outcome.TheVariants as outcome
+use Rattle.hm_large.specs.declared.release.Freeing.{Freeing}
+use Rattle.hm_large.specs.declared.judge.Refusal.{Refusal}
+use Rattle.hm_large.specs.declared.judge.Refusal.TheVariants as refusal
+use Rattle.hm_large.specs.declared.judge.Verdict.TheVariants as verdict
+use Rattle.hm_large.specs.Blocks.{Block, Blocks, new_block, size_for, guard_of, is_quarantined, marked}
+use Rattle.hm_large.specs.State.{State, start, step, moved, takes_back, releases, free_of, array_length, ring_length}
+use Rattle.hm_large.specs.Rules.{Terms, Allowed, Allows, Asks, IsAlignment, state, chose, chose_none, chose_guard, wrong_size, Releases, AllowsFreed}
+use Rattle.hm_large.specs.Draws.{Drawn, EntryDraws, FreeDraws, stream_after, word_after, no_words, one_word}
+use Rattle.hm_large.specs.Laws.{IsSound}
+use Rattle.hm_large.specs.Region.{Region, HoldsBlocks, IsRegion}
+use Rattle.hm_large.specs.Calls.{entry_of, Added}
+use Rattle.hm_large.specs.Kept.{kept_of, Shows, IsKept}
+use Rattle.hm_large.specs.Stored.{Allots, Ends, Declines, Frees, Judges, StandsLive, refused_reply, attempt_reply, free_draws, measured_reply, words_with}
+use Rattle.hm_large.proofs.BlockLists.{placed_at}
+use Rattle.hm_large.proofs.Legal.{sound}
+use Rattle.hm_large.proofs.Tables.{holds_given, holds_removed, holds_marked}
+
+-- ---- one more entry
+-- the state does not depend on what is allowed
+pub run_same : (A B : State → Entry → Type 0) (s : State) (es : List Entry) → run step A s es ≡ run step B s es
+run_same A B s [] = refl
+run_same A B s (e ∷ es) = run_same A B (step s e) es
+
+abbrev pub terms_of : Config → Bool → Terms
+terms_of c told = record { config = c; told = told }
+
+pub kept_push : (told : Bool) (runs after : PageRuns) (faults now : ℕ) (c : Config) (n : ℕ) (es : List Entry) (k new : Store) (e : Entry) → IsKept told runs faults c n es k
+    → (let s = state (terms_of c told) es in Allowed (terms_of c told) s e × Drawn n s e × (IsTrue told → HoldsBlocks (step s e).live after) × Shows c n (step s e) new) → now ≡ e.faults_after
+    → IsKept told after now c n (es ++ e ∷ []) new
+kept_push told runs after faults now c n es k new e h facts count =
+    let t = terms_of c told in
+    let s : State = state t es in
+    let pushed : state t (es ++ e ∷ []) ≡ step s e = run_push step (Allowed t) start es e in
+    let same : run step (Drawn n) start es ≡ s = run_same (Drawn n) (Allowed t) start es in
+    record {
+      valid = h.valid;
+      legal = Legal_push step (Allowed t) start es e h.legal facts.0;
+      drawn = Legal_push step (Drawn n) start es e h.drawn (subst (λ (z : State). Drawn n z e) (sym same) facts.1);
+      count = count ∙ sym (ap (λ (z : State). z.faults) pushed);
+      pages = λ yes. subst (λ (z : State). HoldsBlocks z.live after) (sym pushed) (facts.2 yes);
+      shows = subst (λ (z : State). Shows c n z new) (sym pushed) facts.3;
+    }
+
+-- the words and the count of faults are put in
+pub shows_step : (c : Config) (n : ℕ) (s : State) (k : Store) (words faults : ℕ) → Shows c n s k → s.words ≡ words → Shows c n (record s { words = words; faults = faults }) k
+shows_step c n s k words faults h e = record {
+  blocks = h.blocks;
+  space = h.space;
+  out = h.out;
+  quarantine = h.quarantine;
+  words = h.words ∙ ap (stream_after n) e;
+  owed_is = h.owed_is;
+  held_are = h.held_are;
+  places = h.places;
+  new = h.new;
+}
+
+one_drawn : (word : ℕ) → AreDraws (one_word word)
+one_drawn word = record { first = λ lt. absurd (omega arith); second = λ lt. refl; third = λ lt. refl }
+
+pub none_drawn : AreDraws no_words
+none_drawn = record { first = λ lt. refl; second = λ lt. refl; third = λ lt. refl }
+
+-- the state after the entries is sound
+pub kept_sound : (told : Bool) (runs : PageRuns) (faults : ℕ) (c : Config) (n : ℕ) (es : List Entry) (k : Store) → IsKept told runs faults c n es k → IsSound c (state (terms_of c told) es)
+kept_sound told runs faults c n es k h = sound (terms_of c told) es h.legal
+
+-- ---- allotting
+module _ {P : Type 0} (told : P → Bool) (runs : P → PageRuns) (faults : P → ℕ) (c : Config) (n : ℕ) (es : List Entry) (k new : Store) (old now : P) where
+  -- nothing was changed
+  pub kept_declined : IsKept (told old) (runs old) (faults old) c n es k → told now ≡ told old → Declines told runs faults c n (state (terms_of c (told old)) es) new old now
+      → IsKept (told now) (runs now) (faults now) c n es new
+  kept_declined h same d =
+      subst (λ (b : Bool). IsKept b (runs now) (faults now) c n es new) (sym same) (record {
+        valid = h.valid;
+        legal = h.legal;
+        drawn = h.drawn;
+        count = d.count ∙ h.count;
+        pages = λ yes a. ap (λ (r : PageRuns). map.get r a) (d.runs_are yes) ∙ h.pages yes a;
+        shows = d.shows;
+      })
+
+  allotted_as : (o : Outcome) (who : Who) (asked align word guard : ℕ) → asked ≤ 2 ^ 30 → IsAlignment align → IsKept (told old) (runs old) (faults old) c n es k
+      → (let s = state (terms_of c (told old)) es in (word ≡ word_after n s.words) × (guard ≡ guard_of (size_for asked) word) × Ends told runs faults c n s asked align new old now guard o)
+      → IsKept (told old) (runs now) (faults now) c n (es ++ entry_of who (call.Allot asked align) (attempt_reply asked o) (chose_guard guard) (one_word word) (faults old) (faults now) ∷ []) new
+  allotted_as (outcome.Given addr) who asked align word guard most is h ends =
+      let t = terms_of c (told old) in
+      let s : State = state t es in
+      let e = entry_of who (call.Allot asked align) (reply.Given addr (size_for asked)) (chose_guard guard) (one_word word) (faults old) (faults now) in
+      let drawn : Drawn n s e = (ap one_word ends.0, ap Some (ends.1 ∙ ap (guard_of (size_for asked)) ends.0)) in
+      let allowed : Allowed t s e = record { draws = one_drawn word; asks = (most, is); follows = h.count; later = ends.2.3; allows = ((ends.2.0, refl), refl) } in
+      kept_push (told old) (runs old) (runs now) (faults old) (faults now) c n es k new e h (
+        allowed,
+        drawn,
+        (λ yes a. ap (λ (r : PageRuns). map.get r a) (ends.2.2 yes) ∙ holds_given s.live (runs old) addr (new_block asked guard) (h.pages yes) a),
+        shows_step c n (record s { live = (addr, new_block asked guard) ∷ s.live; words = suc s.words }) new (1 + s.words) (faults now) ends.2.1 (omega arith),
+      )
+      refl
+  allotted_as outcome.NoSpace who asked align word guard most is h ends =
+      let t = terms_of c (told old) in
+      let s : State = state t es in
+      let e = entry_of who (call.Allot asked align) reply.NoSpace (chose_guard guard) (one_word word) (faults old) (faults now) in
+      let drawn : Drawn n s e = (ap one_word ends.0, ap Some (ends.1 ∙ ap (guard_of (size_for asked)) ends.0)) in
+      let allowed : Allowed t s e = record { draws = one_drawn word; asks = (most, is); follows = h.count; later = omega (arith, ends.2.3); allows = (ends.2.0, refl) } in
+      kept_push (told old) (runs old) (runs now) (faults old) (faults now) c n es k new e h
+      (allowed, drawn, (λ yes a. ap (λ (r : PageRuns). map.get r a) (ends.2.2 yes) ∙ h.pages yes a), shows_step c n (record s { words = suc s.words }) new (1 + s.words) (faults now) ends.2.1 (omega arith))
+      refl
+  allotted_as outcome.PagesFailed who asked align word guard most is h ends =
+      let t = terms_of c (told old) in
+      let s : State = state t es in
+      let e = entry_of who (call.Allot asked align) reply.PagesFailed (chose_guard guard) (one_word word) (faults old) (faults now) in
+      let drawn : Drawn n s e = (ap one_word ends.0, ap Some (ends.1 ∙ ap (guard_of (size_for asked)) ends.0)) in
+      let allowed : Allowed t s e = record { draws = one_drawn word; asks = (most, is); follows = h.count; later = omega (arith, ends.2.3); allows = ((ends.2.0, ends.2.3), refl) } in
+      kept_push (told old) (runs old) (runs now) (faults old) (faults now) c n es k new e h
+      (allowed, drawn, (λ yes a. ap (λ (r : PageRuns). map.get r a) (ends.2.2 yes) ∙ h.pages yes a), shows_step c n (record s { words = suc s.words }) new (1 + s.words) (faults now) ends.2.1 (omega arith))
+      refl
+
+  pub kept_allotted : (attempt : Attempt) (who : Who) (asked align : ℕ) → asked ≤ 2 ^ 30 → IsAlignment align → IsKept (told old) (runs old) (faults old) c n es k → told now ≡ told old
+      → Allots told runs faults c n (state (terms_of c (told old)) es) asked align new old now attempt
+      → IsKept (told now) (runs now) (faults now) c n (es ++ entry_of who (call.Allot asked align) (attempt_reply asked attempt.outcome) (chose_guard attempt.guard) (one_word attempt.word) (faults old) (faults now) ∷ []) new
+  kept_allotted attempt who asked align most is h same allots =
+      subst (λ (b : Bool). IsKept b (runs now) (faults now) c n (es ++ entry_of who (call.Allot asked align) (attempt_reply asked attempt.outcome) (chose_guard attempt.guard) (one_word attempt.word) (faults old) (faults now) ∷ []) new) (sym same)
+      (allotted_as attempt.outcome who asked align attempt.word attempt.guard most is h (allots.word, allots.guard, allots.ends))
+
+-- ---- what callers see
+pub region_of : {P : Type 0} (told : P → Bool) (runs : P → PageRuns) (faults : P → ℕ) (r : Region P) (k : Store) → IsKept (told r.pages) (runs r.pages) (faults r.pages) r.config r.number r.entries k → k.owed ≤ r.spare
+    → IsRegion told runs faults r
+region_of told runs faults r k h room = record { legal = h.legal; drawn = h.drawn; count = h.count; pages = h.pages; room = omega (arith, h.shows.owed_is, room) }
+
+-- the entries with one more, once room was made
+pub appended : (new room old : List Entry) (x e : Entry) → new ≡ room ++ x ∷ [] → room ≡ old → x ≡ e → new ≡ old ++ e ∷ []
+appended new room old x e pushed same is = pushed ∙ (ap (λ (l : List Entry). l ++ x ∷ []) same ∙ ap (λ (y : Entry). old ++ y ∷ []) is)
+
+-- the entry that was added
+pub added_of : {P : Type 0} (faults : P → ℕ) (old new view : Region P) (who : Who) (c : Call) (answer : Reply) (choices : Choices) (draws : Draws) → view ≡ old
+    → new.entries ≡ view.entries ++ entry_of who c answer choices draws (faults view.pages) (faults new.pages) ∷ [] → Added faults old new who c answer
+added_of faults old new view who c answer choices draws same all = subst (λ (r : Region _). Added faults r new who c answer) same (record { choices = choices; draws = draws; entries = all })
+
+-- nothing has happened yet
+pub kept_built : (told : Bool) (runs : PageRuns) (faults : ℕ) (c : Config) (n : ℕ) (es : List Entry) (k : Store) → IsValid c → (IsTrue told → runs ≡ map.empty) → faults ≡ 0 → es ≡ [] → Shows c n start k
+    → IsKept told runs faults c n es k
+kept_built told runs faults c n es k valid nothing count none shows =
+    subst (λ (l : List Entry). IsKept told runs faults c n l k) (sym none) (record {
+      valid = valid;
+      legal = tt;
+      drawn = tt;
+      count = count;
+      pages = λ yes a. ap (λ (r : PageRuns). map.get r a) (nothing yes) ∙ map.get-empty _ a;
+      shows = shows;
+    })
+
+-- ---- calls that change nothing
+module _ (told : Bool) (runs : PageRuns) (faults : ℕ) (c : Config) (n : ℕ) (es : List Entry) (k : Store) where
+  pub kept_plain : (e : Entry) → IsKept told runs faults c n es k → e.draws ≡ no_words → e.faults_before ≡ faults → e.faults_after ≡ faults
+      → (let s = state (terms_of c told) es in Asks e.call × Allows (terms_of c told) s e e.call e.reply × EntryDraws n s e e.call e.reply × (moved e e.call e.reply s ≡ s))
+      → IsKept told runs faults c n (es ++ e ∷ []) k
+  kept_plain e h none before after facts =
+      let t = terms_of c told in
+      let s : State = state t es in
+      let allowed : Allowed t s e = record { draws = subst AreDraws (sym none) none_drawn; asks = facts.0; follows = before ∙ h.count; later = omega (arith, before, after); allows = facts.1 } in
+      let words : s.words ≡ e.draws.used + s.words = omega (arith, ap (λ (d : Draws). d.used) none) in
+      kept_push told runs runs faults faults c n es k k e h (
+        allowed,
+        facts.2,
+        (λ yes. subst (λ (z : State). HoldsBlocks z.live runs) (sym facts.3) (h.pages yes)),
+        subst (λ (z : State). Shows c n (record z { words = e.draws.used + s.words; faults = e.faults_after }) k) (sym facts.3) (shows_step c n s k (e.draws.used + s.words) e.faults_after h.shows words),
+      )
+      (sym after)
+
+  -- a block that is not taken back
+  pub kept_refused : (refusal : Refusal) (who : Who) (a : ℕ) (stated : Option ℕ) → IsKept told runs faults c n es k → Judges (state (terms_of c told) es) a stated (verdict.Refused refusal)
+      → IsKept told runs faults c n (es ++ entry_of who (call.GiveBack a stated) (refused_reply refusal) chose_none no_words faults faults ∷ []) k
+  kept_refused refusal.NotLive who a stated h judged =
+      kept_plain (entry_of who (call.GiveBack a stated) reply.NotLive chose_none no_words faults faults) h refl refl refl (tt, (ap is_some judged, refl), refl, refl)
+  kept_refused (refusal.WrongSize block other) who a stated h judged =
+      kept_plain (entry_of who (call.GiveBack a stated) (reply.WrongSize block other) chose_none no_words faults faults) h refl refl refl (tt, (judged, refl), refl, refl)
+
+  -- a measurement
+  pub kept_measured : (who : Who) (a : ℕ) (block : Option KeptBlock) → IsKept told runs faults c n es k → block ≡ option_map (kept_of false) (at a (state (terms_of c told) es).live)
+      → IsKept told runs faults c n (es ++ entry_of who (call.Measure a) (measured_reply block) chose_none no_words faults faults ∷ []) k
+  kept_measured who a block h is = by_block block (at a (state (terms_of c told) es).live) refl is
+    where
+      none_some : (x : KeptBlock) → None ≡ Some x → ⊥
+      none_some x e = cc
+
+      some_same : (x y : KeptBlock) → Some x ≡ Some y → x ≡ y
+      some_same x y e = cc
+
+      by_block : (block : Option KeptBlock) (o : Option Block) → at a (state (terms_of c told) es).live ≡ o → block ≡ option_map (kept_of false) o
+          → IsKept told runs faults c n (es ++ entry_of who (call.Measure a) (measured_reply block) chose_none no_words faults faults ∷ []) k
+      by_block None None e is = kept_plain (entry_of who (call.Measure a) reply.NotLive chose_none no_words faults faults) h refl refl refl (tt, (ap is_some e, refl), refl, refl)
+      by_block (Some b) (Some x) e is =
+          kept_plain (entry_of who (call.Measure a) (reply.Usable b.size) chose_none no_words faults faults) h refl refl refl
+          (tt, (ap (option_map (λ (y : Block). y.size)) e ∙ ap (λ (y : KeptBlock). Some y.size) (sym (some_same b (kept_of false x) is)), refl), refl, refl)
+      by_block None (Some x) e is = absurd (none_some (kept_of false x) is)
+      by_block (Some b) None e is = absurd (none_some b (sym is))
+
+-- ---- blocks that are taken back
+-- a greater block's word is not looked at
+taken_alike : (s : State) (a v w : ℕ) (x : Block) → is_quarantined x ≡ false → takes_back a v (Some x) s ≡ takes_back a w (Some x) s
+taken_alike s a v w x great =
+    let small : ℕ → State = λ word. record s { live = removed a s.live; held = (a, x) ∷ s.held; frees = free_of a word ∷ s.frees } in
+    let left : State = record s { live = removed a s.live } in
+    ap (λ t. cond t (small v) left) great ∙ sym (ap (λ t. cond t (small w) left) great)
+
+live_taken : (s : State) (a w : ℕ) (x : Block) (r : Option ℕ) → (releases r (takes_back a w (Some x) s)).live ≡ removed a s.live
+live_taken s a w x r = out r (is_quarantined x)
+  where
+    out : (r : Option ℕ) (t : Bool) → (releases r (cond t (record s { live = removed a s.live; held = (a, x) ∷ s.held; frees = free_of a w ∷ s.frees }) (record s { live = removed a s.live }))).live ≡ removed a s.live
+    out None true = refl
+    out None false = refl
+    out (Some b) true = refl
+    out (Some b) false = refl
+
+words_taken : (s : State) (a w : ℕ) (o : Option Block) (r : Option ℕ) → (releases r (takes_back a w o s)).words ≡ s.words
+words_taken s a w None None = refl
+words_taken s a w None (Some b) = refl
+words_taken s a w (Some x) r = out r (is_quarantined x)
+  where
+    out : (r : Option ℕ) (t : Bool) → (releases r (cond t (record s { live = removed a s.live; held = (a, x) ∷ s.held; frees = free_of a w ∷ s.frees }) (record s { live = removed a s.live }))).words ≡ s.words
+    out None true = refl
+    out None false = refl
+    out (Some b) true = refl
+    out (Some b) false = refl
+
+module _ (told : Bool) (runs after : PageRuns) (faults now : ℕ) (c : Config) (n : ℕ) (es : List Entry) (k new : Store) (who : Who) (a : ℕ) (stated : Option ℕ) (x : Block) where
+  -- a page failed
+  pub kept_failed : IsKept told runs faults c n es k → (let s = state (terms_of c told) es in (at a s.live ≡ Some x) × (wrong_size (at a s.live) stated ≡ None) × Shows c n (record s { live = marked a s.live }) new)
+      → faults < now → (IsTrue told → after ≡ runs) → IsKept told after now c n (es ++ entry_of who (call.GiveBack a stated) reply.PagesFailed chose_none no_words faults now ∷ []) new
+  kept_failed h facts rose same =
+      let t = terms_of c told in
+      let s : State = state t es in
+      let e = entry_of who (call.GiveBack a stated) reply.PagesFailed chose_none no_words faults now in
+      let allowed : Allowed t s e = record { draws = none_drawn; asks = tt; follows = h.count; later = omega arith; allows = (ap is_some facts.0, facts.1, rose, refl) } in
+      kept_push told runs after faults now c n es k new e h
+      (allowed, refl, (λ yes q. ap (λ (r : PageRuns). map.get r q) (same yes) ∙ holds_marked s.live runs a (h.pages yes) q), shows_step c n (record s { live = marked a s.live }) new (0 + s.words) now facts.2 (omega arith))
+      refl
+
+  -- the block was taken back
+  pub kept_freed : (freeing : Freeing) → IsKept told runs faults c n es k → (let s = state (terms_of c told) es in (at a s.live ≡ Some x) × (wrong_size (at a s.live) stated ≡ None) × Frees c n s a x new freeing)
+      → faults ≤ now → (IsTrue told → after ≡ map.remove runs a)
+      → IsKept told after now c n (es ++ entry_of who (call.GiveBack a stated) reply.Freed (chose freeing.released None) (free_draws freeing.word) faults now ∷ []) new
+  kept_freed freeing h facts later gone =
+      let t = terms_of c told in
+      let s : State = state t es in
+      let w : ℕ = word_after n s.words in
+      let e = entry_of who (call.GiveBack a stated) reply.Freed (chose freeing.released None) (free_draws freeing.word) faults now in
+      let f = facts.2 in
+      let same : takes_back a (free_draws freeing.word).w0 (at a s.live) s ≡ takes_back a w (Some x) s =
+      ap (λ (o : Option Block). takes_back a (free_draws freeing.word).w0 o s) facts.0 ∙ by_word freeing s (is_quarantined x) refl f.words in
+      let allows : AllowsFreed s (free_draws freeing.word).w0 (chose freeing.released None) a stated = record {
+        live = ap is_some facts.0;
+        size = facts.1;
+        release = subst (λ (z : State). Releases (at a s.live) z freeing.released) (sym same) (subst (λ (o : Option Block). Releases o (takes_back a w (Some x) s) freeing.released) (sym facts.0) f.allowed);
+        choices = refl;
+      } in
+      let allowed : Allowed t s e = record { draws = are_draws freeing.word; asks = tt; follows = h.count; later = later; allows = allows } in
+      let drawn : Drawn n s e = subst (FreeDraws n s a e) (sym facts.0) (draws_by freeing s (is_quarantined x) f.words) in
+      let moved_is : moved e (call.GiveBack a stated) reply.Freed s ≡ releases freeing.released (takes_back a w (Some x) s) = ap (releases freeing.released) same in
+      let live_is : (moved e (call.GiveBack a stated) reply.Freed s).live ≡ removed a s.live = ap (λ (z : State). z.live) moved_is ∙ live_taken s a w x freeing.released in
+      let words_is : words_with freeing.word s.words ≡ (free_draws freeing.word).used + s.words = counted freeing.word s.words in
+      kept_push told runs after faults now c n es k new e h (
+        allowed,
+        drawn,
+        (λ yes. subst (λ (l : Blocks). HoldsBlocks l after) (sym live_is) (λ q. ap (λ (r : PageRuns). map.get r q) (gone yes) ∙ holds_removed s.live runs a (h.pages yes) q)),
+        subst (λ (z : State). Shows c n (record z { words = (free_draws freeing.word).used + s.words; faults = now }) new) (sym moved_is)
+            (shows_step c n (record (releases freeing.released (takes_back a w (Some x) s)) { words = words_with freeing.word s.words }) new ((free_draws freeing.word).used + s.words) now f.shows words_is),
+      )
+      refl
+    where
+      are_draws : (o : Option ℕ) → AreDraws (free_draws o)
+      are_draws None = none_drawn
+      are_draws (Some word) = one_drawn word
+
+      counted : (o : Option ℕ) (m : ℕ) → words_with o m ≡ (free_draws o).used + m
+      counted None m = omega arith
+      counted (Some word) m = omega arith
+
+      some_word : (o : Option ℕ) (w : ℕ) → o ≡ Some w → free_draws o ≡ one_word w
+      some_word o w e = ap free_draws e
+
+      by_word : (freeing : Freeing) (s : State) (v : Bool) → is_quarantined x ≡ v
+          → MatchBool v ((freeing.word ≡ Some (word_after n s.words)) × (freeing.released ≡ released array_length ring_length s.frees (free_of a (word_after n s.words)))) ((freeing.word ≡ None) × (freeing.released ≡ None))
+          → takes_back a (free_draws freeing.word).w0 (Some x) s ≡ takes_back a (word_after n s.words) (Some x) s
+      by_word freeing s true e m = ap (λ (d : Draws). takes_back a d.w0 (Some x) s) (some_word freeing.word (word_after n s.words) m.0)
+      by_word freeing s false e m = taken_alike s a (free_draws freeing.word).w0 (word_after n s.words) x e
+
+      draws_by : (freeing : Freeing) (s : State) (v : Bool)
+          → MatchBool v ((freeing.word ≡ Some (word_after n s.words)) × (freeing.released ≡ released array_length ring_length s.frees (free_of a (word_after n s.words)))) ((freeing.word ≡ None) × (freeing.released ≡ None))
+          → MatchBool v ((free_draws freeing.word ≡ one_word (word_after n s.words)) × (freeing.released ≡ released array_length ring_length s.frees (free_of a (word_after n s.words)))) (free_draws freeing.word ≡ no_words)
+      draws_by freeing s true m = (ap free_draws m.0, m.1)
+      draws_by freeing s false m = ap free_draws m.0
+
+-- ---- a block that is taken back is live
+module _ (told : Bool) (runs : PageRuns) (faults : ℕ) (c : Config) (n : ℕ) (es : List Entry) (k : Store) (a : ℕ) (stated : Option ℕ) where
+  pub stands_live : (b : KeptBlock) → IsKept told runs faults c n es k → Judges (state (terms_of c told) es) a stated (verdict.Live b) → StandsLive k a b
+  stands_live b h judged = record {
+    config = c;
+    number = n;
+    s = state (terms_of c told) es;
+    block = judged.0;
+    valid = h.valid;
+    sound = kept_sound told runs faults c n es k h;
+    shows = h.shows;
+    live = judged.1;
+    is = judged.2;
+  }
+
+  -- its size is that of its run
+  pub size_of_run : (b : KeptBlock) → IsKept told runs faults c n es k → Judges (state (terms_of c told) es) a stated (verdict.Live b) → (b.size % 4096 ≡ 0) × (b.size ≤ 2 ^ 30)
+  size_of_run b h judged =
+      let placed = placed_at c a judged.0 (state (terms_of c told) es).live (kept_sound told runs faults c n es k h).live judged.1 in
+      let same : b.size ≡ judged.0.size = ap (λ (x : KeptBlock). x.size) judged.2 in
+      (subst (λ (m : ℕ). m % 4096 ≡ 0) (sym same) placed.pages, omega (arith, same, placed.most))
+
+  pub is_own_run : (b : KeptBlock) → IsKept told runs faults c n es k → Judges (state (terms_of c told) es) a stated (verdict.Live b) → IsTrue told → IsRun runs a (4096 * (b.size / 4096))
+  is_own_run b h judged tells =
+      let placed = placed_at c a judged.0 (state (terms_of c told) es).live (kept_sound told runs faults c n es k h).live judged.1 in
+      let same : b.size ≡ judged.0.size = ap (λ (x : KeptBlock). x.size) judged.2 in
+      (judged.0.bytes, h.pages tells a ∙ ap (option_map (λ (y : Block). y.bytes)) judged.1, omega (arith, placed.whole, same, (size_of_run b h judged).0))
+
+-- a live block of the right size is not refused
+pub not_refused : (r : Refusal) (s : State) (a : ℕ) (stated : Option ℕ) (b : Block) → Judges s a stated (verdict.Refused r) → at a s.live ≡ Some b → wrong_size (Some b) stated ≡ None → ⊥
+not_refused refusal.NotLive s a stated b judged e fits = none_block b (sym judged ∙ e)
+  where
+    none_block : (b : Block) → None ≡ Some b → ⊥
+    none_block b e = cc
+not_refused (refusal.WrongSize block other) s a stated b judged e fits = none_pair (block, other) (sym fits ∙ (sym (ap (λ (o : Option Block). wrong_size o stated) e) ∙ judged))
+  where
+    none_pair : (p : ℕ × ℕ) → None ≡ Some p → ⊥
+    none_pair p e = cc
+
+-- nor does an unfailed one want room
+pub unfailed : (s : State) (a : ℕ) (stated : Option ℕ) (k : KeptBlock) (b : Block) → Judges s a stated (verdict.Live k) → at a s.live ≡ Some b → b.failed ≡ false → k.failed ≡ false
+unfailed s a stated k b judged e fresh = ap (λ (x : KeptBlock). x.failed) judged.2 ∙ (ap (λ (x : Block). x.failed) (one_block judged.0 b (sym judged.1 ∙ e)) ∙ fresh)
+  where
+    one_block : (x y : Block) → Some x ≡ Some y → x ≡ y
+    one_block x y e = cc
+
+-- the room that is left once the entry of a free is added
+pub room_left : (failed : Bool) (owed_before owed_after len cap room : ℕ) → owed_after + cond failed 0 1 ≡ owed_before → owed_before ≤ cap - len → cap ≤ room → (failed ≡ true → len + owed_before + 1 ≤ room) → owed_after ≤ room - (len + 1)
+room_left true owed_before owed_after len cap room e had more kept = omega (arith, kept refl)
+room_left false owed_before owed_after len cap room e had more kept = omega arith

@@ -1,0 +1,13 @@
+pub mod BlockLists
+pub mod Legal
+pub mod Delay
+pub mod Places
+pub mod Tables
+pub mod Shown
+pub mod Allotted
+pub mod Released
+pub mod Entries
+pub mod Accessed
+pub mod Writing
+pub mod Reached
+pub mod Zeros

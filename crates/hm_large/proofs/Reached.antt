@@ -1,0 +1,222 @@
+-- What is kept once bytes are read or written.
+use Rattle.std.proofs.Common.{◌≡◌, ◌⊎◌, inl, inr, ⊎_elim, ℕ, ◌+◌, ◌-◌, ◌^◌, ◌<◌, ◌≤◌, ◌==◌, Bool, true, false, cond, not, IsTrue, List, [], ◌∷◌, ◌++◌, map, length, take, drop, Option, Some, None, is_some, option_map, unwrap_or, sym, ◌∙◌, ap, subst, refl, arith}
+use Rattle.std.specs.FinMap as finite
+use Rattle.std.specs.FinMap.{get-insert}
+use Rattle.std.proofs.lemmas.Bool.{cases_eq, cases_lt}
+use Rattle.std.proofs.lemmas.Cmp.{nat_cmp_total}
+use Rattle.hm_model.specs.declared.entry.Entry.{Entry}
+use Rattle.hm_model.specs.declared.entry.Who.{Who}
+use Rattle.hm_model.specs.declared.entry.Call.{Call}
+use Rattle.hm_model.specs.declared.entry.Call.TheVariants as call
+use Rattle.hm_model.specs.declared.entry.Reply.{Reply}
+use Rattle.hm_model.specs.declared.entry.Reply.TheVariants as reply
+use Rattle.hm_model.specs.Machine.{run_keeps}
+use Rattle.hm_model.specs.Maps.{at, removed}
+use Rattle.hm_model.specs.Overlaid.{overlaid}
+use Rattle.hm_model.specs.Runs.{expand}
+use Rattle.hm_model.proofs.Lists.{same_eq, other_eq, eq_same}
+use Rattle.hm_model.proofs.Overlaid.{overlaid_apart, overlaid_written}
+use Rattle.hm_outside.specs.PageRuns.{PageRuns, Reads, Writes, InNone, IsHeld, written}
+use Rattle.hm_sizes.specs.declared.config.Config.{Config}
+use Rattle.hm_large.specs.declared.store.Store.{Store}
+use Rattle.hm_large.specs.Blocks.{Block, Blocks, covers, covered, is_quarantined, is_owed, first_trap, bytes_read, overlay, written_over, mark}
+use Rattle.hm_large.specs.State.{State, start, step, moved, takes_back, releases, free_of}
+use Rattle.hm_large.specs.Rules.{Allowed, state, chose_none}
+use Rattle.hm_large.specs.Draws.{Drawn, EntryDraws, no_words}
+use Rattle.hm_large.specs.Laws.{IsSound}
+use Rattle.hm_large.specs.Region.{HoldsBlocks}
+use Rattle.hm_large.specs.Calls.{entry_of}
+use Rattle.hm_large.specs.Kept.{kept_or, Shows, IsKept, AreGuarded}
+use Rattle.hm_large.specs.Stored.{HeldByNone}
+use Rattle.hm_large.proofs.BlockLists.{placed_at, covers_own, how_many_same, length_same}
+use Rattle.hm_large.proofs.Places.{spans_from}
+use Rattle.hm_large.proofs.Tables.{map_test}
+use Rattle.hm_large.proofs.Accessed.{bytes_there, byte_there, no_trap, two_covered}
+use Rattle.hm_large.proofs.Legal.{live_once}
+use Rattle.hm_large.proofs.Entries.{terms_of, run_same, kept_sound, kept_plain, kept_push, shows_step, none_drawn}
+
+-- ---- each live block has a guard
+guarded_removed : (a : ℕ) (m : Blocks) → AreGuarded m → AreGuarded (removed a m)
+guarded_removed a [] h = tt
+guarded_removed a (y ∷ m) h = elim (y.0 == a) as (λ t. AreGuarded (cond (not t) (y ∷ removed a m) (removed a m))) [ true ↦ guarded_removed a m h.1 | false ↦ (h.0, guarded_removed a m h.1) ]
+
+guarded_same : (f : ℕ × Block → ℕ × Block) → ((e : ℕ × Block) → (f e).1.guard ≡ e.1.guard) → (m : Blocks) → AreGuarded m → AreGuarded (map f m)
+guarded_same f same [] h = tt
+guarded_same f same (y ∷ m) h = (omega (arith, same y, h.0), guarded_same f same m h.1)
+
+guarded_freed : (s : State) (a word : ℕ) (o : Option Block) (r : Option ℕ) → AreGuarded s.live → AreGuarded (releases r (takes_back a word o s)).live
+guarded_freed s a word None None h = h
+guarded_freed s a word None (Some b) h = h
+guarded_freed s a word (Some x) r h = out r (is_quarantined x)
+  where
+    out : (r : Option ℕ) (t : Bool) → AreGuarded (releases r (cond t (record s { live = removed a s.live; held = (a, x) ∷ s.held; frees = free_of a word ∷ s.frees }) (record s { live = removed a s.live }))).live
+    out None true = guarded_removed a s.live h
+    out None false = guarded_removed a s.live h
+    out (Some b) true = guarded_removed a s.live h
+    out (Some b) false = guarded_removed a s.live h
+
+guarded_moved : (n : ℕ) (s : State) (e : Entry) (c : Call) (r : Reply) → AreGuarded s.live → EntryDraws n s e c r → AreGuarded (moved e c r s).live
+guarded_moved n s e (call.Allot asked align) (reply.Given a size) h draws = (omega (arith, ap (λ (o : Option ℕ). unwrap_or o 0) draws.1), h)
+guarded_moved n s e (call.GiveBack a stated) reply.PagesFailed h draws = guarded_same (mark a) (λ e. refl) s.live h
+guarded_moved n s e (call.GiveBack a stated) reply.Freed h draws = guarded_freed s a e.draws.w0 (at a s.live) e.choices.released h
+guarded_moved n s e (call.Fill a runs) reply.Filled h draws = guarded_same (overlay a (expand runs)) (λ e. refl) s.live h
+guarded_moved n s e c r h draws = h
+
+pub kept_guarded : (told : Bool) (runs : PageRuns) (faults : ℕ) (c : Config) (n : ℕ) (es : List Entry) (k : Store) → IsKept told runs faults c n es k → AreGuarded (state (terms_of c told) es).live
+kept_guarded told runs faults c n es k h =
+    subst (λ (s : State). AreGuarded s.live) (run_same (Drawn n) (Allowed (terms_of c told)) start es)
+    (run_keeps step (Drawn n) (λ s. AreGuarded s.live) (λ s e g draws. guarded_moved n s e e.call e.reply g draws) start es tt h.drawn)
+
+-- ---- reading
+-- a run that is there is that of a block
+run_of : (live : Blocks) (runs : PageRuns) (a : ℕ) (bytes : List ℕ) → HoldsBlocks live runs → finite.get runs a ≡ Some bytes → (x : Block) × (at a live ≡ Some x) × (x.bytes ≡ bytes)
+run_of live runs a bytes holds is = by_block (at a live) refl (sym (holds a) ∙ is)
+  where
+    none_some : None ≡ Some bytes → ⊥
+    none_some e = cc
+
+    same_bytes : (b : List ℕ) → Some b ≡ Some bytes → b ≡ bytes
+    same_bytes b e = cc
+
+    by_block : (o : Option Block) → at a live ≡ o → option_map (λ (b : Block). b.bytes) (at a live) ≡ Some bytes → (x : Block) × (at a live ≡ Some x) × (x.bytes ≡ bytes)
+    by_block None e f = absurd (none_some (sym (ap (option_map (λ (b : Block). b.bytes)) e) ∙ f))
+    by_block (Some x) e f = (x, e, same_bytes x.bytes (sym (ap (option_map (λ (b : Block). b.bytes)) e) ∙ f))
+
+-- what the pages read is what the blocks have
+pub reads_blocks : (c : Config) (s : State) (runs : PageRuns) (a len : ℕ) (w : List ℕ) → IsSound c s → HoldsBlocks s.live runs → Reads runs a len w → (first_trap s.live a len ≡ None) × (w ≡ bytes_read s.live a len)
+reads_blocks c s runs a len w sound holds r =
+    let x = run_of s.live runs r.first r.bytes holds r.is_run in
+    let size : length r.bytes ≡ x.0.size = ap length (sym x.2) ∙ (placed_at c r.first x.0 s.live sound.live x.1).whole in
+    let once = λ (k : ℕ). (let o : covered k s.live ≤ 1 = omega (arith, sound.once k) in o) in (
+      no_trap s.live a len (λ k l h. ap is_some (byte_there c s.live r.first k x.0 sound.live (once k) x.1 (omega (arith, r.lies.from)) (omega (arith, r.lies.to, size)))),
+      r.value ∙ (ap (λ (b : List ℕ). take len (drop (a - r.first) b)) (sym x.2) ∙ sym (bytes_there c s.live r.first a len x.0 sound.live once x.1 r.lies.from (omega (arith, r.lies.to, size)))),
+    )
+
+-- where the pages have no such run, no block has the range
+pub held_by_none : (c : Config) (s : State) (runs : PageRuns) (q len : ℕ) → IsSound c s → HoldsBlocks s.live runs → 1 ≤ len → (IsHeld runs q len → ⊥) → HeldByNone s.live q len
+held_by_none c s runs q len sound holds some none a x e low high =
+    none (a, x.bytes, holds a ∙ ap (option_map (λ (b : Block). b.bytes)) e, record { some = some; from = low; to = omega (arith, high, (placed_at c a x s.live sound.live e).whole) })
+
+pub in_none_held : (runs : PageRuns) (q len : ℕ) → InNone runs q len → IsHeld runs q len → ⊥
+in_none_held runs q len none h = none h.0 h.1 h.2 h.3
+
+-- ---- writing
+at_overlaid : (q a : ℕ) (w : List ℕ) (m : Blocks) → at q (written_over a w m) ≡ option_map (λ (b : Block). (overlay a w (q, b)).1) (at q m)
+at_overlaid q a w [] = refl
+at_overlaid q a w (y ∷ m) =
+    elim (y.0 == q) as (λ t. (y.0 == q) ≡ t → cond t (Some (overlay a w y).1) (at q (written_over a w m)) ≡ option_map (λ (b : Block). (overlay a w (q, b)).1) (cond t (Some y.1) (at q m))) [
+      | true ↦ λ is. (let e : y.0 ≡ q = eq_same y.0 q is in ap (λ k. Some (overlay a w (k, y.1)).1) e)
+      | false ↦ λ is. at_overlaid q a w m
+    ] refl
+
+-- what the pages have once it is written is what the blocks have
+pub writes_blocks : (c : Config) (s : State) (runs after : PageRuns) (a : ℕ) (w : List ℕ) → IsSound c s → HoldsBlocks s.live runs → Writes runs a (length w) w after → HoldsBlocks (written_over a w s.live) after
+writes_blocks c s runs after a w sound holds h q =
+    ap (λ (r : PageRuns). finite.get r q) h.value
+    ∙ (get-insert nat_cmp_total runs h.first (written h.bytes (a - h.first) w) q
+    ∙ (ap (λ (t : Bool). cond t (Some (written h.bytes (a - h.first) w)) (finite.get runs q)) (map_test q h.first)
+    ∙ (⊎_elim here there (cases_eq h.first q) ∙ sym (ap (option_map (λ (b : Block). b.bytes)) (at_overlaid q a w s.live)))))
+  where
+    x : (x : Block) × (at h.first s.live ≡ Some x) × (x.bytes ≡ h.bytes)
+    x = run_of s.live runs h.first h.bytes holds h.is_run
+
+    size : length h.bytes ≡ x.0.size
+    size = ap length (sym x.2) ∙ (placed_at c h.first x.0 s.live sound.live x.1).whole
+
+    here : h.first ≡ q → cond (h.first == q) (Some (written h.bytes (a - h.first) w)) (finite.get runs q) ≡ option_map (λ (b : Block). b.bytes) (option_map (λ (b : Block). (overlay a w (q, b)).1) (at q s.live))
+    here e =
+        let there : at q s.live ≡ Some x.0 = subst (λ (k : ℕ). at k s.live ≡ Some x.0) e x.1 in
+        let back : h.first + (a - h.first) ≡ a = omega (arith, h.lies.from) in
+        let value : written h.bytes (a - h.first) w ≡ overlaid a w q x.0.bytes =
+        sym (overlaid_written (a - h.first) h.first w h.bytes (omega (arith, h.lies.from, h.lies.to)))
+        ∙ (ap (λ k. overlaid k w h.first h.bytes) back ∙ (ap (λ k. overlaid a w k h.bytes) e ∙ ap (overlaid a w q) (sym x.2))) in
+        ap (λ (t : Bool). cond t (Some (written h.bytes (a - h.first) w)) (finite.get runs q)) (same_eq h.first q e)
+        ∙ (ap Some value ∙ sym (ap (λ (o : Option Block). option_map (λ (b : Block). b.bytes) (option_map (λ (b : Block). (overlay a w (q, b)).1) o)) there))
+
+    apart : (y : Block) → (h.first ≡ q → ⊥) → at q s.live ≡ Some y → (q + length y.bytes ≤ a) ⊎ (a + length w ≤ q)
+    apart y ne e =
+        let whole = (placed_at c q y s.live sound.live e).whole in
+        ⊎_elim (λ (lt : q < a). ⊎_elim (λ (inside : a < q + length y.bytes). absurd (omega (arith, first_twice inside lt))) inl (cases_lt a (q + length y.bytes)))
+        (λ (ge : a ≤ q). ⊎_elim (λ (inside : q < a + length w). absurd (omega (arith, second_twice inside ge))) inr (cases_lt q (a + length w)))
+        (cases_lt q a)
+      where
+        first_twice : a < q + length y.bytes → q < a → 1 ≤ 0
+        first_twice inside lt =
+            omega (
+              arith,
+              two_covered h.first q a x.0 y s.live x.1 e ne (spans_from h.first x.0.size x.0.guard a (omega (arith, h.lies.from)) (omega (arith, h.lies.some, h.lies.to, size)))
+                  (spans_from q y.size y.guard a (omega arith) (omega (arith, (placed_at c q y s.live sound.live e).whole))) (live_once c s h.first sound),
+              sound.once a,
+            )
+
+        second_twice : q < a + length w → a ≤ q → 1 ≤ 0
+        second_twice inside ge =
+            omega (
+              arith,
+              two_covered h.first q q x.0 y s.live x.1 e ne (spans_from h.first x.0.size x.0.guard q (omega (arith, h.lies.from)) (omega (arith, h.lies.to, size)))
+                  (covers_own c (q, y) (placed_at c q y s.live sound.live e)) (live_once c s h.first sound),
+              sound.once q,
+            )
+
+    stays : (o : Option Block) → at q s.live ≡ o → (h.first ≡ q → ⊥) → option_map (λ (b : Block). b.bytes) o ≡ option_map (λ (b : Block). b.bytes) (option_map (λ (b : Block). (overlay a w (q, b)).1) o)
+    stays None e ne = refl
+    stays (Some y) e ne = ap Some (sym (overlaid_apart a w q y.bytes (apart y ne e)))
+
+    there : (h.first ≡ q → ⊥) → cond (h.first == q) (Some (written h.bytes (a - h.first) w)) (finite.get runs q) ≡ option_map (λ (b : Block). b.bytes) (option_map (λ (b : Block). (overlay a w (q, b)).1) (at q s.live))
+    there ne = ap (λ (t : Bool). cond t (Some (written h.bytes (a - h.first) w)) (finite.get runs q)) (other_eq h.first q ne) ∙ (holds q ∙ stays (at q s.live) refl ne)
+
+at_kept : (q a : ℕ) (w : List ℕ) (live held : Option Block) → kept_or (option_map (λ (b : Block). (overlay a w (q, b)).1) live) held ≡ kept_or live held
+at_kept q a w None held = refl
+at_kept q a w (Some b) held = refl
+
+shows_written : (c : Config) (n : ℕ) (s : State) (k : Store) (a : ℕ) (w : List ℕ) → Shows c n s k → Shows c n (record s { live = written_over a w s.live }) k
+shows_written c n s k a w h = record {
+  blocks = λ q. h.blocks q ∙ sym (ap (λ (o : Option Block). kept_or o (at q s.held)) (at_overlaid q a w s.live) ∙ at_kept q a w (at q s.live) (at q s.held));
+  space = λ q. (let same = how_many_same (covers q) (overlay a w) (λ e. refl) s.live in ((λ f. (((h.space q).0 f).0, omega (arith, ((h.space q).0 f).1, same))), (λ o. (h.space q).1 (o.0, omega (arith, o.1, same)))));
+  out = omega (arith, h.out, length_same (overlay a w) s.live);
+  quarantine = h.quarantine;
+  words = h.words;
+  owed_is = h.owed_is ∙ sym (how_many_same is_owed (overlay a w) (λ e. refl) s.live);
+  held_are = h.held_are;
+  places = h.places;
+  new = h.new;
+}
+
+-- ---- entries
+module _ (told : Bool) (runs : PageRuns) (faults : ℕ) (c : Config) (n : ℕ) (es : List Entry) (k : Store) (who : Who) (a : ℕ) where
+  pub kept_fetched : (len : ℕ) (found : List (ℕ × ℕ)) → 1 ≤ len → len ≤ 2 ^ 30 → a < 2 ^ 47 → IsKept told runs faults c n es k → length (expand found) ≡ len → (IsTrue told → Reads runs a len (expand found))
+      → IsKept told runs faults c n (es ++ entry_of who (call.Fetch a len) (reply.Bytes found) chose_none no_words faults faults ∷ []) k
+  kept_fetched len found some most low h count reads =
+      kept_plain told runs faults c n es k (entry_of who (call.Fetch a len) (reply.Bytes found) chose_none no_words faults faults) h refl refl refl
+      ((some, most, low), (count, (λ tells. reads_blocks c (state (terms_of c told) es) runs a len (expand found) (kept_sound told runs faults c n es k h) (h.pages tells) (reads tells)), refl), refl, refl)
+
+  pub kept_untold : (len trap : ℕ) → 1 ≤ len → len ≤ 2 ^ 30 → a < 2 ^ 47 → IsKept told runs faults c n es k → (IsTrue told → first_trap (state (terms_of c told) es).live a len ≡ Some trap)
+      → IsKept told runs faults c n (es ++ entry_of who (call.Fetch a len) (reply.Trap trap) chose_none no_words faults faults ∷ []) k
+  kept_untold len trap some most low h is =
+      kept_plain told runs faults c n es k (entry_of who (call.Fetch a len) (reply.Trap trap) chose_none no_words faults faults) h refl refl refl ((some, most, low), (is, refl), refl, refl)
+
+  pub kept_trapped : (found : List (ℕ × ℕ)) (trap : ℕ) → 1 ≤ length (expand found) → length (expand found) ≤ 2 ^ 30 → a < 2 ^ 47 → IsKept told runs faults c n es k
+      → (IsTrue told → first_trap (state (terms_of c told) es).live a (length (expand found)) ≡ Some trap)
+      → IsKept told runs faults c n (es ++ entry_of who (call.Fill a found) (reply.Trap trap) chose_none no_words faults faults ∷ []) k
+  kept_trapped found trap some most low h is =
+      kept_plain told runs faults c n es k (entry_of who (call.Fill a found) (reply.Trap trap) chose_none no_words faults faults) h refl refl refl ((some, most, low), (is, refl), refl, refl)
+
+  pub kept_filled : (after : PageRuns) (found : List (ℕ × ℕ)) → 1 ≤ length (expand found) → length (expand found) ≤ 2 ^ 30 → a < 2 ^ 47 → IsKept told runs faults c n es k
+      → (IsTrue told → Writes runs a (length (expand found)) (expand found) after)
+      → IsKept told after faults c n (es ++ entry_of who (call.Fill a found) reply.Filled chose_none no_words faults faults ∷ []) k
+  kept_filled after found some most low h writes =
+      let t = terms_of c told in
+      let s : State = state t es in
+      let e = entry_of who (call.Fill a found) reply.Filled chose_none no_words faults faults in
+      let sound = kept_sound told runs faults c n es k h in
+      let reads = λ (tells : IsTrue told). (let w = writes tells in (let r : Reads runs a (length (expand found)) (take (length (expand found)) (drop (a - w.first) w.bytes)) = record { first = w.first; bytes = w.bytes; is_run = w.is_run; lies = w.lies; value = refl } in r)) in
+      let allowed : Allowed t s e = record {
+        draws = none_drawn;
+        asks = (some, most, low);
+        follows = h.count;
+        later = omega arith;
+        allows = ((λ tells. (reads_blocks c s runs a (length (expand found)) _ sound (h.pages tells) (reads tells)).0), refl);
+      } in
+      kept_push told runs after faults faults c n es k k e h
+      (allowed, refl, (λ tells. writes_blocks c s runs after a (expand found) sound (h.pages tells) (writes tells)), shows_step c n (record s { live = written_over a (expand found) s.live }) k (0 + s.words) faults (shows_written c n s k a (expand found) h.shows) (omega arith))
+      refl

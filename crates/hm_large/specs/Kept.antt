@@ -1,0 +1,63 @@
+-- What the large region keeps between two calls.
+use Rattle.std.specs.Prelude.{◌≡◌, ℕ, ◌+◌, ◌≤◌, ◌↔◌, Bool, true, false, IsTrue, List, [], ◌∷◌, length, Option, Some, None, ⊤}
+use Rattle.std.specs.Ordering.{nat_cmp}
+use Rattle.std.specs.BTreeMap as tree
+use Rattle.hm_model.specs.declared.entry.Entry.{Entry}
+use Rattle.hm_model.specs.Maps.{at, keys}
+use Rattle.hm_outside.specs.PageRuns.{PageRuns}
+use Rattle.hm_quarantine.specs.Delay.{held, AreNew}
+use Rattle.hm_quarantine.specs.LookingBack.{ArePlaces, kept_after}
+use Rattle.hm_sizes.specs.declared.config.Config.{Config}
+use Rattle.hm_sizes.specs.Configs.{IsValid}
+use Rattle.hm_space.specs.Space.{IsFree}
+use Rattle.hm_large.specs.declared.store.KeptBlock.{KeptBlock}
+use Rattle.hm_large.specs.declared.store.Store.{Store}
+use Rattle.hm_large.specs.Blocks.{Block, Blocks, owed}
+use Rattle.hm_large.specs.State.{State, array_length, ring_length}
+use Rattle.hm_large.specs.Rules.{IsLegal, state, in_space, taken}
+use Rattle.hm_large.specs.Draws.{IsDrawn, stream_after}
+use Rattle.hm_large.specs.Region.{HoldsBlocks}
+
+-- what is kept of a block
+abbrev pub kept_of : Bool → Block → KeptBlock
+kept_of held b = record { size = b.size; guard = b.guard; held = held; failed = b.failed }
+
+abbrev pub kept_or : Option Block → Option Block → Option KeptBlock
+kept_or (Some b) held = Some (kept_of false b)
+kept_or None (Some b) = Some (kept_of true b)
+kept_or None None = None
+
+-- what is kept of the live block at a, or of the one in quarantine
+abbrev pub kept_at : State → ℕ → Option KeptBlock
+kept_at s a = kept_or (at a s.live) (at a s.held)
+
+-- q is in the large space, and in no block or guard
+abbrev pub IsOpen : Config → State → ℕ → Type 0
+IsOpen c s q = (in_space c q ≡ true) × (taken s q ≡ 0)
+
+-- each block has a guard
+abbrev pub AreGuarded : Blocks → Type 0
+AreGuarded [] = ⊤
+AreGuarded (e ∷ blocks) = (1 ≤ e.1.guard) × AreGuarded blocks
+
+-- the table, the free ranges, the quarantine and the stream say what the state says
+pub record Shows (c : Config) (number : ℕ) (s : State) (k : Store) : Type 0 where
+  pub blocks : (a : ℕ) → tree.get nat_cmp k.blocks a ≡ kept_at s a
+  pub space : (q : ℕ) → IsFree k.space q ↔ IsOpen c s q
+  pub out : k.space.out ≡ length s.live + length s.held
+  pub quarantine : k.quarantine ≡ kept_after array_length ring_length s.frees
+  pub words : k.words ≡ stream_after number s.words
+  pub owed_is : k.owed ≡ owed s.live
+  -- the blocks in quarantine are those that looking back through the frees finds there
+  pub held_are : keys s.held ≡ held array_length ring_length s.frees
+  pub places : ArePlaces array_length s.frees
+  pub new : AreNew array_length ring_length s.frees
+
+-- the history is legal and drawn, and the pages and the store are what it says
+pub record IsKept (told : Bool) (runs : PageRuns) (faults : ℕ) (c : Config) (number : ℕ) (es : List Entry) (k : Store) : Type 0 where
+  pub valid : IsValid c
+  pub legal : IsLegal (record { config = c; told = told }) es
+  pub drawn : IsDrawn number es
+  pub count : faults ≡ (state (record { config = c; told = told }) es).faults
+  pub pages : IsTrue told → HoldsBlocks (state (record { config = c; told = told }) es).live runs
+  pub shows : Shows c number (state (record { config = c; told = told }) es) k

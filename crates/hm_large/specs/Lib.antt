@@ -1,0 +1,10 @@
+pub mod Blocks
+pub mod State
+pub mod Rules
+pub mod Draws
+pub mod Laws
+pub mod Region
+pub mod Calls
+pub mod Kept
+pub mod Stored
+pub mod Zeroed

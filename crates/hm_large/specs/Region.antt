@@ -1,0 +1,41 @@
+-- The large region as callers see it.
+use Rattle.std.specs.Prelude.{◌≡◌, ℕ, ◌≤◌, Bool, IsTrue, List, option_map}
+use Rattle.std.specs.FinMap as map
+use Rattle.hm_outside.specs.PageRuns.{PageRuns}
+use Rattle.hm_model.specs.declared.entry.Entry.{Entry}
+use Rattle.hm_model.specs.Maps.{at}
+use Rattle.hm_sizes.specs.declared.config.Config.{Config}
+use Rattle.hm_large.specs.Blocks.{Block, Blocks, owed}
+use Rattle.hm_large.specs.State.{State}
+use Rattle.hm_large.specs.Rules.{Terms, IsLegal, state}
+use Rattle.hm_large.specs.Draws.{IsDrawn}
+
+pub record Region (P : Type 0) : Type 0 where
+  pub config : Config
+  -- the number of the run, from which its words follow
+  pub number : ℕ
+  pub entries : List Entry
+  -- the room for entries
+  pub spare : ℕ
+  pub pages : P
+
+-- the accessible runs are exactly the live blocks, with their bytes
+abbrev pub HoldsBlocks : Blocks → PageRuns → Type 0
+HoldsBlocks live runs = (a : ℕ) → map.get runs a ≡ option_map (λ (b : Block). b.bytes) (at a live)
+
+module _ {P : Type 0} (told : P → Bool) where
+  abbrev pub terms : Region P → Terms
+  terms r = record { config = r.config; told = told r.pages }
+
+  -- the state after the entries
+  abbrev pub region_state : Region P → State
+  region_state r = state (terms r) r.entries
+
+-- the history is legal and drawn, and the pages and the room for entries are what it says
+pub record IsRegion {P : Type 0} (told : P → Bool) (runs : P → PageRuns) (faults : P → ℕ) (r : Region P) : Type 0 where
+  pub legal : IsLegal (terms told r) r.entries
+  pub drawn : IsDrawn r.number r.entries
+  pub count : faults r.pages ≡ (region_state told r).faults
+  pub pages : IsTrue (told r.pages) → HoldsBlocks (region_state told r).live (runs r.pages)
+  -- an entry for the free of each live block of which no free failed
+  pub room : owed (region_state told r).live ≤ r.spare

@@ -1,0 +1,135 @@
+-- Which entries of the large region are allowed, and which histories are legal.
+use Rattle.std.specs.Prelude.{◌≡◌, ℕ, ◌+◌, ◌*◌, ◌%◌, ◌<◌, ◌≤◌, ◌^◌, ◌==◌, nat_lt, nat_le, ◌&&◌, max, Bool, true, false, if◌then◌else◌, IsTrue, List, length, take, Option, Some, None, unwrap_or, option_map, ⊤}
+use Rattle.std.specs.Bool.{MatchBool}
+use Rattle.hm_model.specs.declared.entry.Entry.{Entry}
+use Rattle.hm_model.specs.declared.entry.Call.{Call}
+use Rattle.hm_model.specs.declared.entry.Call.TheVariants.{Allot, GiveBack, Measure, Fetch, Fill}
+use Rattle.hm_model.specs.declared.entry.Reply.{Reply}
+use Rattle.hm_model.specs.declared.entry.Reply.TheVariants.{Given, NoSpace, PagesFailed, Freed, WrongSize, NotLive, Usable, Bytes, Filled, Trap}
+use Rattle.hm_model.specs.declared.entry.Choices.{Choices}
+use Rattle.hm_model.specs.Entries.{AreDraws}
+use Rattle.hm_model.specs.Machine.{run, Legal}
+use Rattle.hm_model.specs.Maps.{at, has, among, removed}
+use Rattle.hm_model.specs.Runs.{expand}
+use Rattle.hm_quarantine.specs.Delay.{delay, slots_of}
+use Rattle.hm_sizes.specs.Sizes.{block_size}
+use Rattle.hm_sizes.specs.declared.config.Config.{Config}
+use Rattle.hm_large.specs.Blocks.{Block, size_for, is_quarantined, spans, covered, first_trap, bytes_read}
+use Rattle.hm_large.specs.State.{State, start, step, takes_back, array_length, ring_length}
+
+-- the large region: its configuration, and whether its pages tell their bytes
+pub record Terms : Type 0 where
+  pub config : Config
+  pub told : Bool
+
+-- ---- choices
+abbrev pub chose : Option ℕ → Option ℕ → Choices
+chose released guard = record { canary = None; opened = None; released = released; retired = None; purged = None; unparked = None; guard = guard }
+
+abbrev pub chose_none : Choices
+chose_none = chose None None
+
+abbrev pub chose_guard : ℕ → Choices
+chose_guard guard = chose None (Some guard)
+
+-- ---- allotting
+-- the large space
+abbrev pub space_start : ℕ
+space_start = 2 ^ 46
+
+abbrev pub in_space : Config → ℕ → Bool
+in_space c q = nat_le space_start q && nat_lt q (space_start + c.large_space)
+
+-- how many live blocks and blocks in quarantine, with their guards, have the address q
+abbrev pub taken : State → ℕ → ℕ
+taken s q = covered q s.live + covered q s.held
+
+-- a block of this size with this guard may stand at a
+pub record IsCandidate (c : Config) (s : State) (align size guard a : ℕ) : Type 0 where
+  pub aligned : a % max align 4096 ≡ 0
+  pub from : space_start + 4096 * guard ≤ a
+  pub to : a + size + 4096 * guard ≤ space_start + c.large_space
+  pub free : (q : ℕ) → spans a size guard q ≡ true → taken s q ≡ 0
+
+-- a is the lowest candidate
+pub record IsLeastCandidate (c : Config) (s : State) (align size guard a : ℕ) : Type 0 where
+  pub fits : IsCandidate c s align size guard a
+  pub least : (other : ℕ) → IsCandidate c s align size guard other → a ≤ other
+
+abbrev pub AllowsGiven : Terms → State → ℕ → ℕ → ℕ → ℕ → ℕ → Type 0
+AllowsGiven t s guard asked align a usable = IsLeastCandidate t.config s align (size_for asked) guard a × (usable ≡ size_for asked)
+
+abbrev pub AllowsNoSpace : Terms → State → ℕ → ℕ → ℕ → Type 0
+AllowsNoSpace t s guard asked align = (a : ℕ) → IsCandidate t.config s align (size_for asked) guard a → ⊥
+
+abbrev pub AllowsPagesFailed : Terms → State → ℕ → ℕ → ℕ → ℕ → ℕ → Type 0
+AllowsPagesFailed t s before now guard asked align = ((a : ℕ) × IsCandidate t.config s align (size_for asked) guard a) × (before < now)
+
+-- ---- giving back
+-- the block's size and that of the stated size, where they differ
+abbrev pub wrong_size : Option Block → Option ℕ → Option (ℕ × ℕ)
+wrong_size None stated = None
+wrong_size (Some b) None = None
+wrong_size (Some b) (Some size) = if block_size size == b.size then None else Some (b.size, block_size size)
+
+-- what may be released, s being the state with the freed block in quarantine
+abbrev pub ReleasesFrom : State → Option ℕ → Type 0
+ReleasesFrom s None = length s.held ≤ array_length + ring_length
+ReleasesFrom s (Some b) = (has b s.held ≡ true) × (among b (take (delay array_length ring_length) (slots_of s.frees)) ≡ false) × (length (removed b s.held) ≤ array_length + ring_length)
+
+-- a block that does not go into quarantine releases none
+abbrev pub Releases : Option Block → State → Option ℕ → Type 0
+Releases None s released = ⊥
+Releases (Some b) s released = MatchBool (is_quarantined b) (ReleasesFrom s released) (released ≡ None)
+
+pub record AllowsFreed (s : State) (word : ℕ) (c : Choices) (a : ℕ) (stated : Option ℕ) : Type 0 where
+  pub live : has a s.live ≡ true
+  pub size : wrong_size (at a s.live) stated ≡ None
+  pub release : Releases (at a s.live) (takes_back a word (at a s.live) s) c.released
+  pub choices : c ≡ chose c.released None
+
+-- ---- what each call asks of its arguments
+-- a power of two up to 2 ^ 21
+abbrev pub IsAlignment : ℕ → Type 0
+IsAlignment align = (k : ℕ) × (k ≤ 21) × (align ≡ 2 ^ k)
+
+abbrev pub IsRange : ℕ → ℕ → Type 0
+IsRange a len = (1 ≤ len) × (len ≤ 2 ^ 30) × (a < 2 ^ 47)
+
+abbrev pub Asks : Call → Type 0
+Asks (Allot asked align) = (asked ≤ 2 ^ 30) × IsAlignment align
+Asks (Fetch a len) = IsRange a len
+Asks (Fill a runs) = IsRange a (length (expand runs))
+Asks call = ⊤
+
+-- ---- each call with each of its replies
+abbrev pub Allows : Terms → State → Entry → Call → Reply → Type 0
+Allows t s e (Allot asked align) (Given a usable) = AllowsGiven t s (unwrap_or e.choices.guard 0) asked align a usable × (e.choices ≡ chose_guard (unwrap_or e.choices.guard 0))
+Allows t s e (Allot asked align) NoSpace = AllowsNoSpace t s (unwrap_or e.choices.guard 0) asked align × (e.choices ≡ chose_guard (unwrap_or e.choices.guard 0))
+Allows t s e (Allot asked align) PagesFailed =
+    AllowsPagesFailed t s e.faults_before e.faults_after (unwrap_or e.choices.guard 0) asked align × (e.choices ≡ chose_guard (unwrap_or e.choices.guard 0))
+Allows t s e (GiveBack a stated) NotLive = (has a s.live ≡ false) × (e.choices ≡ chose_none)
+Allows t s e (GiveBack a stated) (WrongSize block other) = (wrong_size (at a s.live) stated ≡ Some (block, other)) × (e.choices ≡ chose_none)
+Allows t s e (GiveBack a stated) PagesFailed = (has a s.live ≡ true) × (wrong_size (at a s.live) stated ≡ None) × (e.faults_before < e.faults_after) × (e.choices ≡ chose_none)
+Allows t s e (GiveBack a stated) Freed = AllowsFreed s e.draws.w0 e.choices a stated
+Allows t s e (Measure a) NotLive = (has a s.live ≡ false) × (e.choices ≡ chose_none)
+Allows t s e (Measure a) (Usable size) = (option_map (λ (b : Block). b.size) (at a s.live) ≡ Some size) × (e.choices ≡ chose_none)
+Allows t s e (Fetch a len) (Bytes runs) =
+    (length (expand runs) ≡ len) × (IsTrue t.told → (first_trap s.live a len ≡ None) × (expand runs ≡ bytes_read s.live a len)) × (e.choices ≡ chose_none)
+Allows t s e (Fetch a len) (Trap q) = (IsTrue t.told → first_trap s.live a len ≡ Some q) × (e.choices ≡ chose_none)
+Allows t s e (Fill a runs) Filled = (IsTrue t.told → first_trap s.live a (length (expand runs)) ≡ None) × (e.choices ≡ chose_none)
+Allows t s e (Fill a runs) (Trap q) = (IsTrue t.told → first_trap s.live a (length (expand runs)) ≡ Some q) × (e.choices ≡ chose_none)
+Allows t s e call reply = ⊥
+
+pub record Allowed (t : Terms) (s : State) (e : Entry) : Type 0 where
+  pub draws : AreDraws e.draws
+  pub asks : Asks e.call
+  pub follows : e.faults_before ≡ s.faults
+  pub later : e.faults_before ≤ e.faults_after
+  pub allows : Allows t s e e.call e.reply
+
+abbrev pub state : Terms → List Entry → State
+state t entries = run step (Allowed t) start entries
+
+abbrev pub IsLegal : Terms → List Entry → Type 0
+IsLegal t entries = Legal step (Allowed t) start entries

@@ -1,0 +1,141 @@
+-- What allotting and giving back change in the store.
+use Rattle.std.specs.Prelude.{◌≡◌, ℕ, zero, suc, ◌+◌, ◌*◌, ◌-◌, ◌^◌, ◌<◌, ◌≤◌, Bool, false, IsTrue, ◌∷◌, Option, Some, None}
+use Rattle.std.specs.FinMap as map
+use Rattle.hm_outside.specs.PageRuns.{PageRuns, zeros}
+use Rattle.std.specs.Bool.{MatchBool}
+use Rattle.hm_model.specs.Maps.{at}
+use Rattle.hm_quarantine.specs.LookingBack.{released}
+use Rattle.hm_space.specs.Space.{FreeSpace, MeetsNoFree, GivesRange}
+use Rattle.hm_sizes.specs.Configs.{IsValid}
+use Rattle.hm_sizes.specs.declared.config.Config.{Config}
+use Rattle.hm_large.specs.declared.store.KeptBlock.{KeptBlock}
+use Rattle.hm_large.specs.declared.store.Store.{Store}
+use Rattle.hm_model.specs.declared.entry.Reply.{Reply}
+use Rattle.hm_model.specs.declared.entry.Reply.TheVariants as reply
+use Rattle.hm_model.specs.declared.entry.Draws.{Draws}
+use Rattle.hm_large.specs.declared.judge.Refusal.{Refusal}
+use Rattle.hm_large.specs.declared.judge.Refusal.TheVariants as refusal
+use Rattle.hm_large.specs.declared.judge.Verdict.{Verdict}
+use Rattle.hm_large.specs.declared.judge.Verdict.TheVariants as verdict
+use Rattle.hm_large.specs.declared.release.Freeing.{Freeing}
+use Rattle.hm_large.specs.declared.allot.Attempt.{Attempt}
+use Rattle.hm_large.specs.declared.allot.Outcome.{Outcome}
+use Rattle.hm_large.specs.declared.allot.Outcome.TheVariants as outcome
+use Rattle.hm_large.specs.Blocks.{Block, Blocks, size_for, new_block, guard_of, is_quarantined, byte_at}
+use Rattle.hm_large.specs.State.{State, takes_back, releases, free_of, array_length, ring_length}
+use Rattle.hm_large.specs.Rules.{IsCandidate, IsLeastCandidate, Releases, wrong_size}
+use Rattle.hm_large.specs.Draws.{word_after, no_words, one_word}
+use Rattle.hm_large.specs.Laws.{IsSound}
+use Rattle.hm_large.specs.Region.{HoldsBlocks}
+use Rattle.hm_large.specs.Kept.{kept_of, Shows}
+
+-- how many words were drawn once this one was
+abbrev pub words_with : Option ℕ → ℕ → ℕ
+words_with None words = words
+words_with (Some word) words = suc words
+
+module _ {P : Type 0} (told : P → Bool) (runs : P → PageRuns) (faults : P → ℕ) where
+  -- the runs are as before
+  abbrev pub SameRuns : P → P → Type 0
+  SameRuns before now = IsTrue (told before) → runs now ≡ runs before
+
+  abbrev pub Ends : Config → ℕ → State → ℕ → ℕ → Store → P → P → ℕ → Outcome → Type 0
+  Ends c number s asked align new before now guard (outcome.Given addr) =
+      IsLeastCandidate c s align (size_for asked) guard addr
+      × Shows c number (record s { live = (addr, new_block asked guard) ∷ s.live; words = suc s.words }) new
+      × (IsTrue (told before) → runs now ≡ map.insert (runs before) addr (zeros (size_for asked)))
+      × (faults before ≤ faults now)
+  Ends c number s asked align new before now guard outcome.NoSpace =
+      ((a : ℕ) → IsCandidate c s align (size_for asked) guard a → ⊥) × Shows c number (record s { words = suc s.words }) new × SameRuns before now × (faults now ≡ faults before)
+  Ends c number s asked align new before now guard outcome.PagesFailed =
+      ((a : ℕ) × IsCandidate c s align (size_for asked) guard a) × Shows c number (record s { words = suc s.words }) new × SameRuns before now × (faults before < faults now)
+
+  -- the next word was drawn, and the guard by it
+  pub record Allots (c : Config) (number : ℕ) (s : State) (asked align : ℕ) (new : Store) (before now : P) (attempt : Attempt) : Type 0 where
+    pub word : attempt.word ≡ word_after number s.words
+    pub guard : attempt.guard ≡ guard_of (size_for asked) attempt.word
+    pub ends : Ends c number s asked align new before now attempt.guard attempt.outcome
+
+  -- nothing was changed, but for room
+  pub record Declines (c : Config) (number : ℕ) (s : State) (new : Store) (before now : P) : Type 0 where
+    pub shows : Shows c number s new
+    pub runs_are : SameRuns before now
+    pub count : faults now ≡ faults before
+
+-- there is a state that the pages and the store show
+pub record Stands (told : Bool) (runs : PageRuns) (k : Store) : Type 0 where
+  pub config : Config
+  pub number : ℕ
+  pub s : State
+  pub valid : IsValid config
+  pub sound : IsSound config s
+  pub shows : Shows config number s k
+  pub holds : IsTrue told → HoldsBlocks s.live runs
+
+-- the range of a block, with its guards, can be put back
+pub record GoesBack (space : FreeSpace) (a : ℕ) (b : KeptBlock) : Type 0 where
+  pub some : 1 ≤ b.size
+  pub most : b.size ≤ 2 ^ 30
+  pub guard : b.guard ≤ 2 ^ 32
+  pub front : 4096 * b.guard ≤ a
+  pub below : a + b.size + 4096 * b.guard < 2 ^ 64
+  pub apart : MeetsNoFree space (a - 4096 * b.guard) (b.size + 2 * (4096 * b.guard))
+  pub out : 1 ≤ space.out
+
+-- the range of a block was put back
+pub record GaveBack (old new : FreeSpace) (a : ℕ) (b : KeptBlock) : Type 0 where
+  pub ranges : GivesRange old new (a - 4096 * b.guard) (b.size + 2 * (4096 * b.guard))
+  pub out_less : new.out + 1 ≡ old.out
+
+-- the block at a is live in a state that the store shows
+pub record StandsLive (k : Store) (a : ℕ) (b : KeptBlock) : Type 0 where
+  pub config : Config
+  pub number : ℕ
+  pub s : State
+  pub block : Block
+  pub valid : IsValid config
+  pub sound : IsSound config s
+  pub shows : Shows config number s k
+  pub live : at a s.live ≡ Some block
+  pub is : b ≡ kept_of false block
+
+-- what freeing the block at a leaves
+pub record Frees (c : Config) (number : ℕ) (s : State) (a : ℕ) (x : Block) (new : Store) (freeing : Freeing) : Type 0 where
+  pub words : MatchBool (is_quarantined x)
+      ((freeing.word ≡ Some (word_after number s.words)) × (freeing.released ≡ released array_length ring_length s.frees (free_of a (word_after number s.words))))
+      ((freeing.word ≡ None) × (freeing.released ≡ None))
+  pub allowed : Releases (Some x) (takes_back a (word_after number s.words) (Some x) s) freeing.released
+  pub shows : Shows c number (record (releases freeing.released (takes_back a (word_after number s.words) (Some x) s)) { words = words_with freeing.word s.words }) new
+
+-- what is said of a block that is given back
+abbrev pub Judges : State → ℕ → Option ℕ → Verdict → Type 0
+Judges s a stated (verdict.Refused refusal.NotLive) = at a s.live ≡ None
+Judges s a stated (verdict.Refused (refusal.WrongSize block other)) = wrong_size (at a s.live) stated ≡ Some (block, other)
+Judges s a stated (verdict.Live k) = (x : Block) × (at a s.live ≡ Some x) × (k ≡ kept_of false x) × (wrong_size (at a s.live) stated ≡ None)
+
+abbrev pub refused_reply : Refusal → Reply
+refused_reply refusal.NotLive = reply.NotLive
+refused_reply (refusal.WrongSize block stated) = reply.WrongSize block stated
+
+-- the reply to an attempt
+abbrev pub attempt_reply : ℕ → Outcome → Reply
+attempt_reply asked (outcome.Given addr) = reply.Given addr (size_for asked)
+attempt_reply asked outcome.NoSpace = reply.NoSpace
+attempt_reply asked outcome.PagesFailed = reply.PagesFailed
+
+abbrev pub free_draws : Option ℕ → Draws
+free_draws None = no_words
+free_draws (Some word) = one_word word
+
+abbrev pub measured_reply : Option KeptBlock → Reply
+measured_reply None = reply.NotLive
+measured_reply (Some k) = reply.Usable k.size
+
+-- no live block has all of these addresses
+abbrev pub HeldByNone : Blocks → ℕ → ℕ → Type 0
+HeldByNone live q len = (a : ℕ) (x : Block) → at a live ≡ Some x → a ≤ q → q + len ≤ a + x.size → ⊥
+
+-- a live block has so many bytes from q on: none has q where there are none
+abbrev pub IsLeft : Blocks → ℕ → ℕ → Type 0
+IsLeft live q zero = byte_at live q ≡ None
+IsLeft live q (suc left) = (a : ℕ) × (x : Block) × (at a live ≡ Some x) × (a ≤ q) × (q + suc left ≡ a + x.size)

@@ -1,0 +1,172 @@
+//! Allotting a large block: its guard is drawn, the lowest place that fits is found, and its pages are made
+//! accessible.
+ghost use Rattle.std.specs.Prelude.{◌≡◌, ◌+◌, ◌-◌, ◌*◌, ◌%◌, ◌^◌, ◌<◌, ◌≤◌, ℕ, IsTrue, Bool, false, IfOk, OnOk, OnErr, Some, None, vec_len};
+ghost use Rattle.std.specs.FinMap as map;
+ghost use Rattle.std.specs.Ordering.{nat_cmp};
+ghost use Rattle.std.specs.BTreeMap as tree;
+ghost use Rattle.hm_choice.specs.Stream.{next_word, after_word};
+ghost use Rattle.hm_outside.specs.PageRuns.{MeetsNone, zeros};
+ghost use Rattle.hm_outside.specs.Causes.{HasRefusalCause};
+ghost use Rattle.hm_space.specs.Space.{IsFreeRange, TakesRange};
+ghost use Rattle.hm_sizes.specs.Configs.{IsValid};
+ghost use Rattle.hm_sizes.specs.declared.config.Config.{Config};
+ghost use Rattle.hm_large.specs.Blocks.{size_for, guard_of};
+ghost use Rattle.hm_large.specs.State.{State};
+ghost use Rattle.hm_large.specs.Rules.{IsAlignment};
+ghost use Rattle.hm_large.specs.Laws.{IsSound};
+ghost use Rattle.hm_large.specs.Region.{HoldsBlocks};
+ghost use Rattle.hm_large.specs.Kept.{Shows};
+ghost use Rattle.hm_large.specs.Stored.{Allots, Declines, Stands};
+ghost use Rattle.hm_large.specs.declared.store.KeptBlock.{KeptBlock};
+
+use crate::store::{KeptBlock, PAGE, Store, span};
+use hm_outside::{NoMemory, PageRefusal, Pages};
+use hm_sizes::{large_size, raised};
+use std::collections::BTreeMap;
+
+/// What came of allotting.
+#[derive(Clone, Copy, Debug, Drop)]
+pub enum Outcome {
+    /// A block was given at this address.
+    Given(u64),
+    NoSpace,
+    PagesFailed,
+}
+
+/// The word that was drawn, the pages of the guard, and what came of it.
+#[derive(Clone, Copy, Debug, Drop)]
+pub struct Attempt {
+    pub word: u32,
+    pub guard: u64,
+    pub outcome: Outcome,
+}
+
+// The size of the block for a request.
+pub fn size_of_block(asked: u64) -> u64
+    requires { asked ≤ 2 ^ 30 }
+    ensures value { result ≡ size_for asked }
+    ensures some { 1 ≤ result }
+    ensures pages { result % 4096 ≡ 0 }
+    ensures most { result ≤ 2 ^ 30 }
+{
+    large_size(raised(asked))
+}
+
+// Draws the pages of a guard.
+fn draw_guard(store: &mut Store, size: u64) -> (u32, u64)
+    requires { size ≤ 2 ^ 30 }
+    ensures word { result.0 ≡ next_word store.old.words }
+    ensures guard { result.1 ≡ guard_of size result.0 }
+    ensures most { result.1 ≤ 131072 }
+    ensures store { store.new ≡ record store.old { words = after_word store.old.words } }
+{
+    let most = (size / (2 * PAGE)).max(1);
+    let (word, more) = store.words.draw(most as u32);
+    (word, 1 + u64::from(more))
+}
+
+// Puts a block into the table and makes its pages accessible. Where that fails the table stays as it was.
+fn open<P: Pages>(
+    blocks: &mut BTreeMap<u64, KeptBlock>,
+    pages: &mut P,
+    addr: u64,
+    block: KeptBlock,
+) -> Result<(), PageRefusal>
+    requires fresh { tree.get nat_cmp blocks.old addr ≡ None }
+    requires aligned { addr % 4096 ≡ 0 }
+    requires whole { block.size % 4096 ≡ 0 }
+    requires some { 1 ≤ block.size }
+    requires most { block.size ≤ 2 ^ 30 }
+    requires below { addr + block.size ≤ 2 ^ 47 }
+    requires apart { IsTrue (P.told pages.old) → MeetsNone (P.runs pages.old) addr block.size }
+    ensures put { OnOk result (tree.Updates nat_cmp blocks.old blocks.new addr (Some block)) }
+    ensures stays { OnErr result ((a : ℕ) → tree.get nat_cmp blocks.new a ≡ tree.get nat_cmp blocks.old a) }
+    ensures told { P.told pages.new ≡ P.told pages.old }
+    ensures made { OnOk result (IsTrue (P.told pages.old) → P.runs pages.new ≡ map.insert (P.runs pages.old) addr (zeros block.size)) }
+    ensures unchanged { OnErr result (IsTrue (P.told pages.old) → P.runs pages.new ≡ P.runs pages.old) }
+    ensures cause { HasRefusalCause (P.faults pages.old) (P.faults pages.new) result }
+{
+    if blocks.insert(addr, block).is_err() {
+        return Err(PageRefusal::NoMemory);
+    }
+    let opened = pages.make_accessible(addr, (block.size / PAGE) as u32);
+    if opened.is_err() {
+        let _block = blocks.remove(&addr);
+    }
+    opened
+}
+
+// Takes the range of a block, with its guards, out of those that are free.
+fn take_range(store: &mut Store, addr: u64, size: u64, guard: u64)
+    requires some { 1 ≤ size }
+    requires most { size ≤ 2 ^ 30 }
+    requires guard { guard ≤ 2 ^ 32 }
+    requires front { 4096 * guard ≤ addr }
+    requires free { IsFreeRange store.old.space (addr - 4096 * guard) (size + 2 * (4096 * guard)) }
+    requires room { store.old.space.out + 2 ≤ store.old.space.spare }
+    requires few { store.old.owed < 2 ^ 63 }
+    ensures taken { TakesRange store.old.space store.new.space (addr - 4096 * guard) (size + 2 * (4096 * guard)) }
+    ensures out { store.new.space.out ≡ store.old.space.out + 1 }
+    ensures owed { store.new.owed ≡ store.old.owed + 1 }
+    ensures blocks { store.new.blocks ≡ store.old.blocks }
+    ensures quarantine { store.new.quarantine ≡ store.old.quarantine }
+    ensures words { store.new.words ≡ store.old.words }
+{
+    store.space.take(addr - PAGE * guard, span(size, guard));
+    store.owed += 1;
+}
+
+/// Allots a large block. Its word is put back where the pages find no memory.
+pub fn allot<P: Pages>(
+    store: &mut Store,
+    pages: &mut P,
+    asked: u64,
+    align: u64,
+) -> Result<Attempt, NoMemory>
+    requires asked { asked ≤ 2 ^ 30 }
+    requires align { IsAlignment align }
+    requires few { store.old.owed < 2 ^ 63 }
+    requires stands { Stands (P.told pages.old) (P.runs pages.old) store.old }
+    ensures told { P.told pages.new ≡ P.told pages.old }
+    ensures owed { store.new.owed ≤ store.old.owed + 1 }
+    ensures allots { IfOk result (λ attempt. (c : Config) (number : ℕ) (s : State) → IsSound c s → Shows c number s store.old
+        → Allots P.told P.runs P.faults c number s asked align store.new pages.old pages.new attempt) }
+    ensures declines { OnErr result ((c : Config) (number : ℕ) (s : State) → Shows c number s store.old
+        → Declines P.told P.runs P.faults c number s store.new pages.old pages.new) }
+{
+    store.space.reserve_two()?;
+    let size = size_of_block(asked);
+    let (word, guard) = draw_guard(store, size);
+    let Some(addr) = store.fit(size, guard, align) else {
+        return Ok(Attempt {
+            word,
+            guard,
+            outcome: Outcome::NoSpace,
+        });
+    };
+    let block = KeptBlock {
+        size,
+        guard,
+        held: false,
+        failed: false,
+    };
+    match open(&mut store.blocks, pages, addr, block) {
+        Ok(()) => {
+            take_range(store, addr, size, guard);
+            Ok(Attempt {
+                word,
+                guard,
+                outcome: Outcome::Given(addr),
+            })
+        }
+        Err(PageRefusal::Failed) => Ok(Attempt {
+            word,
+            guard,
+            outcome: Outcome::PagesFailed,
+        }),
+        Err(PageRefusal::NoMemory) => {
+            store.words.back();
+            Err(NoMemory)
+        }
+    }
+}

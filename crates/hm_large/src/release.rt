@@ -1,0 +1,116 @@
+//! Taking a large block back: one below 32 MiB goes into quarantine, and what leaves that gives its range
+//! back; a greater one gives its range back at once.
+ghost use Rattle.std.specs.Prelude.{◌≡◌, ◌+◌, ◌-◌, ◌*◌, ◌^◌, ◌<◌, ◌≤◌, ℕ, true, false, if◌then◌else◌, IfSome, IsSome, Some, None};
+ghost use Rattle.std.specs.Ordering.{nat_cmp};
+ghost use Rattle.std.specs.BTreeMap as tree;
+ghost use Rattle.hm_choice.specs.Stream.{next_word, after_word, drawn};
+ghost use Rattle.hm_model.specs.Maps.{at};
+ghost use Rattle.hm_quarantine.specs.Quarantine.{let_go, kept_with};
+ghost use Rattle.hm_sizes.specs.declared.config.Config.{Config};
+ghost use Rattle.hm_sizes.specs.Configs.{IsValid};
+ghost use Rattle.hm_large.specs.Blocks.{Block, marked};
+ghost use Rattle.hm_large.specs.State.{State};
+ghost use Rattle.hm_large.specs.Laws.{IsSound};
+ghost use Rattle.hm_large.specs.Kept.{Shows, kept_of};
+ghost use Rattle.hm_large.specs.Stored.{GoesBack, GaveBack, StandsLive, Frees};
+ghost use Rattle.hm_large.specs.declared.store.KeptBlock.{KeptBlock};
+
+use crate::store::{ARRAY_LENGTH, KeptBlock, PAGE, Store, span};
+
+// A freed block below this size stays in quarantine.
+const QUARANTINED_BELOW: u64 = 1 << 25;
+
+/// What a free chose: the block that left the quarantine, and the word that was drawn.
+#[derive(Clone, Copy, Debug, Drop)]
+pub struct Freeing {
+    pub released: Option<u64>,
+    pub word: Option<u32>,
+}
+
+// Takes a block out of the table, and puts its range, with its guards, back among those that are free.
+fn put_back(store: &mut Store, addr: u64)
+    requires { IfSome (tree.get nat_cmp store.old.blocks addr) (GoesBack store.old.space addr) }
+    ensures blocks { tree.UpdatesBy nat_cmp (nat_cmp addr) store.old.blocks store.new.blocks None }
+    ensures space { IfSome (tree.get nat_cmp store.old.blocks addr) (GaveBack store.old.space store.new.space addr) }
+    ensures quarantine { store.new.quarantine ≡ store.old.quarantine }
+    ensures words { store.new.words ≡ store.old.words }
+    ensures owed { store.new.owed ≡ store.old.owed }
+{
+    if let Some(block) = store.blocks.remove(&addr) {
+        store
+            .space
+            .put_back(addr - PAGE * block.guard, span(block.size, block.guard));
+    }
+}
+
+// No entry is kept any more for the free of a block, if one was.
+fn uncount(store: &mut Store, failed: bool)
+    requires { failed ≡ false → 1 ≤ store.old.owed }
+    ensures others { store.new ≡ record store.old { owed = store.old.owed - (if failed then 0 else 1) } }
+    ensures owed { store.new.owed + (if failed then 0 else 1) ≡ store.old.owed }
+{
+    if !failed {
+        store.owed -= 1;
+    }
+}
+
+// Changes what the table has of a block. It takes no memory, since the block stands there.
+fn replace(store: &mut Store, addr: u64, block: KeptBlock)
+    requires { IsSome (tree.get nat_cmp store.old.blocks addr) }
+    ensures blocks { tree.Updates nat_cmp store.old.blocks store.new.blocks addr (Some block) }
+    ensures others { store.new ≡ record store.old { blocks = store.new.blocks } }
+{
+    let _before = store.blocks.insert(addr, block);
+}
+
+/// Takes a live block back, its pages being dropped already.
+pub fn release(store: &mut Store, addr: u64, block: KeptBlock) -> Freeing
+    requires { StandsLive store.old addr block }
+    ensures frees { (c : Config) (number : ℕ) (s : State) (x : Block) → IsValid c → IsSound c s → Shows c number s store.old → at addr s.live ≡ Some x
+        → Frees c number s addr x store.new result }
+    ensures owed { store.new.owed + (if block.failed then 0 else 1) ≡ store.old.owed }
+{
+    uncount(store, block.failed);
+    if block.size >= QUARANTINED_BELOW {
+        put_back(store, addr);
+        return Freeing {
+            released: None,
+            word: None,
+        };
+    }
+    let (word, place) = store.words.draw(ARRAY_LENGTH);
+    let held = KeptBlock {
+        held: true,
+        ..block
+    };
+    replace(store, addr, held);
+    match store.quarantine.pass(addr, place) {
+        Some(left) => {
+            put_back(store, left);
+            Freeing {
+                released: Some(left),
+                word: Some(word),
+            }
+        }
+        None => Freeing {
+            released: None,
+            word: Some(word),
+        },
+    }
+}
+
+/// Keeps a live block of which a page failed as it was to be taken back. The entry kept for its free is
+/// used up.
+pub fn mark_failed(store: &mut Store, addr: u64, block: KeptBlock)
+    requires { StandsLive store.old addr block }
+    ensures shows { (c : Config) (number : ℕ) (s : State) (x : Block) → IsSound c s → Shows c number s store.old → at addr s.live ≡ Some x
+        → Shows c number (record s { live = marked addr s.live }) store.new }
+    ensures owed { store.new.owed + (if block.failed then 0 else 1) ≡ store.old.owed }
+{
+    uncount(store, block.failed);
+    let failed = KeptBlock {
+        failed: true,
+        ..block
+    };
+    replace(store, addr, failed);
+}
