@@ -18,7 +18,7 @@ use Rattle.hm_class_rules.specs.Laws.{bytes_of_slab}
 use Rattle.hm_class.specs.Access.{is_accessible, trap_in}
 use Rattle.hm_class.specs.Kept.{Shows}
 use Rattle.hm_class.specs.Region.{HoldsSlabs}
-use Rattle.hm_class.specs.Uses.{Uses, slab_in}
+use Rattle.hm_class.specs.Uses.{Uses, open_at}
 use Rattle.hm_class.proofs.Entered.{has_overlaid}
 use Rattle.hm_class.proofs.Paged.{on_some, all_bytes, held_in, byte_in, bytes_in, slab_is, reads_bytes, holds_write}
 use Rattle.hm_class.proofs.Places.{slab_some}
@@ -47,12 +47,12 @@ not_above a f le = grind (arith, nat_tests)
 pub record IsInside (p : Shape) (uses : Uses) (q : ℕ) : Type 0 where
   pub own : has_bytes p ≡ true
   pub from : p.first ≤ q
-  pub open_slab : is_some (slab_in uses (slab_of p q)) ≡ true
+  pub open_slab : open_at uses (slab_of p q) ≡ true
 
 pub inside : (p : Shape) (uses : Uses) (q : ℕ) → is_accessible p uses q ≡ true → IsInside p uses q
 inside p uses q e =
-    let a = parts (has_bytes p) (not (nat_lt q p.first) && is_some (slab_in uses (slab_of p q))) e in
-    let b = parts (not (nat_lt q p.first)) (is_some (slab_in uses (slab_of p q))) a.1 in
+    let a = parts (has_bytes p) (not (nat_lt q p.first) && open_at uses (slab_of p q)) e in
+    let b = parts (not (nat_lt q p.first)) (open_at uses (slab_of p q)) a.1 in
     record { own = a.0; from = above q p.first (from_not (nat_lt q p.first) b.0); open_slab = b.1 }
   where
     parts : (a b : Bool) → (a && b) ≡ true → (a ≡ true) × (b ≡ true)
@@ -68,9 +68,9 @@ pub accessible_on : (p : Shape) (uses : Uses) (a q : ℕ) → IsShape p → is_a
 accessible_on p uses a q shape e le lt =
     let i = inside p uses a e in
     let slab : slab_of p q ≡ slab_of p a = same_slab p a q shape i.from le lt in
-    ap (λ (b : Bool). b && (not (nat_lt q p.first) && is_some (slab_in uses (slab_of p q)))) i.own
-    ∙ ap (λ (b : Bool). not b && is_some (slab_in uses (slab_of p q))) (not_above q p.first (omega (arith, i.from)))
-    ∙ ap (λ (n : ℕ). is_some (slab_in uses n)) slab ∙ i.open_slab
+    ap (λ (b : Bool). b && (not (nat_lt q p.first) && open_at uses (slab_of p q))) i.own
+    ∙ ap (λ (b : Bool). not b && open_at uses (slab_of p q)) (not_above q p.first (omega (arith, i.from)))
+    ∙ ap (λ (n : ℕ). open_at uses n) slab ∙ i.open_slab
 
 trap_skip : (p : Shape) (uses : Uses) (a k n : ℕ) → ((j : ℕ) → j < k → is_accessible p uses (a + j) ≡ true) → trap_in p uses a n ≡ trap_in p uses (a + k) (n - k)
 trap_skip p uses a zero n on = ap (λ (q : ℕ). trap_in p uses q n) (omega arith) ∙ ap (λ (m : ℕ). trap_in p uses (a + 0) m) (omega arith)
@@ -150,12 +150,12 @@ byte_told p uses s runs q shape shows h = of_class (has_bytes p) refl
     of_class true own =
         before (nat_lt q p.first)
         ∙ ap (λ (b : Bool). not (nat_lt q p.first) && b) (of_open (at (slab_of p q) s.opens) refl own ∙ shows.opens (slab_of p q))
-        ∙ sym (ap (λ (b : Bool). b && (not (nat_lt q p.first) && is_some (slab_in uses (slab_of p q)))) own)
+        ∙ sym (ap (λ (b : Bool). b && (not (nat_lt q p.first) && open_at uses (slab_of p q))) own)
     of_class false own =
         before (nat_lt q p.first)
         ∙ ap (λ (b : Bool). not (nat_lt q p.first) && b) (of_none (at (slab_of p q) s.opens) refl own)
         ∙ none_and (nat_lt q p.first)
-        ∙ sym (ap (λ (b : Bool). b && (not (nat_lt q p.first) && is_some (slab_in uses (slab_of p q)))) own)
+        ∙ sym (ap (λ (b : Bool). b && (not (nat_lt q p.first) && open_at uses (slab_of p q))) own)
 
 pub trap_told : (p : Shape) (uses : Uses) (s : State) (runs : PageRuns) (a n : ℕ) → IsShape p → Shows p uses s → HoldsSlabs p s.opens runs → first_trap p s a n ≡ trap_in p uses a n
 trap_told p uses s runs a zero shape shows h = refl

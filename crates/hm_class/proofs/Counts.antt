@@ -4,7 +4,7 @@ use Rattle.std.proofs.lemmas.Bool.Decides.{nat_tests}
 use Rattle.std.proofs.lemmas.List.Sums.{count_by-le-length, sum_by-set, sum_by-cons}
 use Rattle.std.proofs.lemmas.Option.{slice_get_within, get_or_from_slice_get, none-some, same_Some}
 use Rattle.hm_class.specs.declared.slab.SlotUse.{SlotUse}
-use Rattle.hm_class.specs.declared.slab.SlotUse.TheVariants.{Never, Free, Live, Condemned}
+use Rattle.hm_class.specs.declared.slab.SlotUse.TheVariants.{Never, Free, Live, Held, Condemned}
 use Rattle.hm_class.specs.Uses.{SlabUse, occupied, has_occupied, has_available, is_partly, is_unused}
 
 abbrev pub weight : (SlotUse → Bool) → SlotUse → ℕ
@@ -29,6 +29,7 @@ pub occupied_counted : (us : List SlotUse) → has_occupied us ≡ nat_lt 0 (cou
 occupied_counted [] = refl
 occupied_counted (Live ∷ us) = some (count_by occupied us) _ (count_more Live us)
 occupied_counted (Condemned g ∷ us) = some (count_by occupied us) _ (count_more (Condemned g) us)
+occupied_counted (Held ∷ us) = some (count_by occupied us) _ (count_more Held us)
 occupied_counted (Free ∷ us) = occupied_counted us ∙ none (count_by occupied us) _ (count_more Free us)
 occupied_counted (Never ∷ us) = occupied_counted us ∙ none (count_by occupied us) _ (count_more Never us)
 
@@ -36,6 +37,7 @@ pub available_counted : (us : List SlotUse) → has_available us ≡ nat_lt (cou
 available_counted [] = refl
 available_counted (Live ∷ us) = available_counted us ∙ both_more (count_by occupied us) _ (length us) (count_more Live us)
 available_counted (Condemned g ∷ us) = available_counted us ∙ both_more (count_by occupied us) _ (length us) (count_more (Condemned g) us)
+available_counted (Held ∷ us) = available_counted us ∙ both_more (count_by occupied us) _ (length us) (count_more Held us)
 available_counted (Free ∷ us) = within (count_by occupied us) _ (length us) (count_more Free us) (count_by-le-length occupied us)
 available_counted (Never ∷ us) = within (count_by occupied us) _ (length us) (count_more Never us) (count_by-le-length occupied us)
 

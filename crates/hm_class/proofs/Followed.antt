@@ -1,34 +1,28 @@
--- How the slots, the pages and the counts follow the state, step by step.
-use Rattle.std.proofs.Common.{◌≡◌, ◌≢◌, ◌⊎◌, inl, inr, ⊎_elim, ℕ, ◌+◌, ◌*◌, ◌<◌, ◌≤◌, Bool, true, false, IsTrue, cond, not, ◌||◌, List, [], ◌∷◌, length, slice_get, replicate, Option, Some, None, is_some, unwrap_or, sym, ◌∙◌, ap, subst, refl, arith, true≢false}
-use Rattle.std.specs.FinMap as map
+-- How the slots follow the state, step by step.
+use Rattle.std.proofs.Common.{◌≡◌, ◌≢◌, ◌⊎◌, inl, inr, ⊎_elim, ℕ, ◌+◌, ◌<◌, ◌≤◌, ◌==◌, Bool, true, false, cond, not, ◌||◌, List, [], ◌∷◌, ◌++◌, length, slice_get, replicate, Option, Some, None, is_some, count_by, sym, ◌∙◌, ap, subst, refl, arith, true≢false}
+use Rattle.std.specs.List.{list_any}
 use Rattle.std.specs.Option.{option_and_then, option_map_or}
 use Rattle.std.specs.Int.{to_le_bytes}
 use mir.Syntax.{w64}
 use Rattle.std.proofs.lemmas.Bool.{cases_eq}
-use Rattle.std.proofs.lemmas.List.{length-replicate}
-use Rattle.std.proofs.lemmas.Nat.{rows}
-use Rattle.std.proofs.lemmas.Option.{same_Some}
-use Rattle.hm_outside.specs.PageRuns.{PageRuns, zeros}
+use Rattle.std.proofs.lemmas.List.{length-replicate, length-set}
+use Rattle.std.proofs.lemmas.Option.{same_Some, none-some}
+use Rattle.hm_outside.specs.PageRuns.{zeros}
 use Rattle.hm_sizes.specs.declared.shape.Shape.{Shape}
-use Rattle.hm_sizes.specs.Shapes.{IsShape, place, slab_at, after, usable, has_bytes}
-use Rattle.hm_model.specs.Maps.{among, at, has, put, without}
+use Rattle.hm_sizes.specs.Shapes.{IsShape, place, after, usable}
+use Rattle.hm_model.specs.Maps.{among, at, has, put, removed, without}
 use Rattle.hm_model.proofs.Lists.{same_eq, other_eq}
 use Rattle.hm_class_rules.specs.State.{State, Slab, is_open, is_live}
-use Rattle.hm_class_rules.specs.Steps.{new_slab, opened, taken_new, gives, condemns, takes_back, releases}
+use Rattle.hm_class_rules.specs.Steps.{new_slab, opened, taken_new, gives, condemns, takes_back, releases, retires, unparks}
 use Rattle.hm_class_rules.specs.Bytes.{kept_canary, write}
+use Rattle.hm_class_rules.proofs.Fronts.{among_filter}
 use Rattle.hm_class.specs.declared.slab.SlotUse.{SlotUse}
-use Rattle.hm_class.specs.declared.slab.SlotUse.TheVariants.{Never, Free, Live, Condemned}
-use Rattle.hm_class.specs.declared.slabs.Slabs.{Slabs}
-use Rattle.hm_class.specs.Uses.{Uses, SlabUse, lives, is_condemned, was_given, occupied, slab_in, use_at, passes_at, with_use, with_slab, live_count, occupied_count}
-use Rattle.hm_class.specs.Sources.{NonePartly, NoneUnused}
-use Rattle.hm_class.specs.Region.{HoldsSlabs}
-use Rattle.hm_class.specs.Kept.{Shows, Follows}
-use Rattle.hm_class.proofs.Counts.{weight}
-use Rattle.hm_class.proofs.Entered.{has_removed_same, has_removed_other, has_put_same, has_put_other, at_put_same, at_put_other, length_removed, length_taken, removed_none, has_overlaid, length_overlaid, canary_overlaid}
+use Rattle.hm_class.specs.declared.slab.SlotUse.TheVariants.{Never, Free, Live, Held, Condemned}
+use Rattle.hm_class.specs.Uses.{Uses, SlabUse, lives, is_condemned, is_held, was_given, occupied, slab_in, open_at, canary_at, use_at, passes_at, changed, with_use, with_open, with_shut, with_slab, with_slot, opened_slab, shut_slab, fresh_slab, taken_uses}
+use Rattle.hm_class.specs.Kept.{Shows}
+use Rattle.hm_class.proofs.Entered.{has_removed_same, has_removed_other, has_put_same, has_put_other, at_put_same, at_put_other, at_removed, has_overlaid, canary_overlaid}
 use Rattle.hm_class.proofs.Places.{place_same}
-use Rattle.hm_class.proofs.Used.{found, counted, use_here, use_there, use_beside, some_with_use, whole_with_use, length_with_use, canary_with_use, open_with_use, slab_new, slab_old, length_with_slab, count_with_slab, open_with_slab, none_new, new_slot, slab_past}
-use Rattle.hm_class.proofs.Shown.{full_count}
-use Rattle.hm_class.proofs.Paged.{holds_opened}
+use Rattle.hm_class.proofs.Used.{use_here, use_there, use_beside, length_changed, each_slab, slab_new, slab_old, length_with_slab, new_slot, slab_past}
 
 -- ---- the count of faults
 pub shows_count : (p : Shape) (uses : Uses) (s : State) (faults : ℕ) → Shows p uses s → Shows p uses (record s { faults = faults })
@@ -37,49 +31,34 @@ shows_count p uses s faults h = record {
   slots = h.slots;
   canary = h.canary;
   live = h.live;
+  held = h.held;
   condemned = h.condemned;
   given = h.given;
-  next = h.next;
-  count = h.count;
-  held = h.held;
+  parked = h.parked;
   shut = h.shut;
+  next = h.next;
 }
 
-pub follows_count : (told : Bool) (runs : PageRuns) (p : Shape) (s : State) (k : Slabs) (entries faults : ℕ) → Follows told runs p s k entries → Follows told runs p (record s { faults = faults }) k entries
-follows_count told runs p s k entries faults h = record {
-  slabs = h.slabs;
-  shows = shows_count p k.slabs.items s faults h.shows;
-  counted = h.counted;
-  live_all = h.live_all;
-  occupied_few = h.occupied_few;
-  opens_few = h.opens_few;
-}
+-- ---- a slab changes
+module _ (uses : Uses) (n : ℕ) (f : SlabUse → SlabUse) (b : SlabUse) (is : slab_in uses n ≡ Some b) where
+  -- the same slabs are there
+  pub some_changed : (m : ℕ) → is_some (slab_in (changed uses n f) m) ≡ is_some (slab_in uses m)
+  some_changed = each_slab uses n f b is (λ m o. is_some o ≡ is_some (slab_in uses m)) (ap (λ (o : Option SlabUse). is_some o) (sym is)) (λ m ne. refl)
 
--- ---- nothing moved
-pub follows_later : (told : Bool) (runs : PageRuns) (p : Shape) (s : State) (k : Slabs) (entries : ℕ) → Follows told runs p s k entries → Follows told runs p s k (entries + 1)
-follows_later told runs p s k entries h = record {
-  slabs = h.slabs;
-  shows = h.shows;
-  counted = h.counted;
-  live_all = h.live_all;
-  occupied_few = omega (arith, h.occupied_few);
-  opens_few = omega (arith, h.opens_few);
-}
+  -- a number of each slab that stays
+  pub told_changed : {X : Type 0} (tell : SlabUse → X) (none : X) → tell (f b) ≡ tell b → (m : ℕ) → option_map_or tell (slab_in (changed uses n f) m) none ≡ option_map_or tell (slab_in uses m) none
+  told_changed tell none same = each_slab uses n f b is (λ m o. option_map_or tell o none ≡ option_map_or tell (slab_in uses m) none)
+      (same ∙ ap (λ (o : Option SlabUse). option_map_or tell o none) (sym is)) (λ m ne. refl)
 
-pub follows_moved : (told told' : Bool) (runs runs' : PageRuns) (p : Shape) (s : State) (k k' : Slabs) (entries : ℕ) → told' ≡ told → (IsTrue told → runs' ≡ runs) → k'.slabs.items ≡ k.slabs.items → k'.live ≡ k.live
-    → Follows told runs p s k entries → Follows told' runs' p s k' entries
-follows_moved told told' runs runs' p s k k' entries tells same items live h = record {
-  slabs = λ t. (let t' = subst (λ (b : Bool). IsTrue b) tells t in subst (λ (r : PageRuns). HoldsSlabs p s.opens r) (sym (same t')) (h.slabs t'));
-  shows = subst (λ (u : Uses). Shows p u s) (sym items) h.shows;
-  counted = live ∙ h.counted ∙ ap live_count (sym items);
-  live_all = omega (arith, h.live_all, live);
-  occupied_few = omega (arith, h.occupied_few, ap occupied_count items);
-  opens_few = h.opens_few;
-}
+  pub whole_changed : (k : ℕ) → length (f b).slots ≡ length b.slots → ((m : ℕ) (x : SlabUse) → slab_in uses m ≡ Some x → length x.slots ≡ k)
+      → (m : ℕ) (x : SlabUse) → slab_in (changed uses n f) m ≡ Some x → length x.slots ≡ k
+  whole_changed k same whole = each_slab uses n f b is (λ m o. (x : SlabUse) → o ≡ Some x → length x.slots ≡ k)
+      (λ x e. ap (λ (y : SlabUse). length y.slots) (sym (same_Some (f b) x e)) ∙ same ∙ whole n b is) (λ m ne. whole m)
 
-pub follows_same : (told told' : Bool) (runs runs' : PageRuns) (p : Shape) (s : State) (k k' : Slabs) (entries : ℕ) → told' ≡ told → (IsTrue told → runs' ≡ runs) → k'.slabs.items ≡ k.slabs.items → k'.live ≡ k.live
-    → Follows told runs p s k entries → Follows told' runs' p s k' (entries + 1)
-follows_same told told' runs runs' p s k k' entries tells same items live h = follows_later told' runs' p s k' entries (follows_moved told told' runs runs' p s k k' entries tells same items live h)
+  -- where its slots stay all do
+  pub uses_kept : (f b).slots ≡ b.slots → (m j : ℕ) → use_at (changed uses n f) m j ≡ use_at uses m j
+  uses_kept same m j = each_slab uses n f b is (λ m o. option_and_then (λ (b : SlabUse). slice_get b.slots j) o ≡ use_at uses m j)
+      (ap (λ (l : List SlotUse). slice_get l j) same ∙ ap (λ (o : Option SlabUse). option_and_then (λ (b : SlabUse). slice_get b.slots j) o) (sym is)) (λ m ne. refl) m
 
 -- ---- one slot changes
 -- a place is that slot, or another that is used as before
@@ -94,19 +73,20 @@ changes p uses n i u b shape is lt m j lt' =
     (λ ne. inr ((λ e. ne (sym (place_same p n i m j shape lt lt' e).0)), use_there uses n i u b is m j ne))
     (cases_eq m n)
 
--- what changes where slot i of slab n, at address a, is used so
+-- what changes where the slot at address a is used so
 pub record IsChanged (a : ℕ) (u : SlotUse) (s s' : State) : Type 0 where
   pub opens : (n : ℕ) → is_open s' n ≡ is_open s n
   pub canary : (n : ℕ) → option_map_or (λ (b : Slab). b.canary) (at n s'.opens) 0 ≡ option_map_or (λ (b : Slab). b.canary) (at n s.opens) 0
-  pub count : length s'.opens ≡ length s.opens
   pub live_here : is_live s' a ≡ lives u
   pub live_there : (q : ℕ) → a ≢ q → is_live s' q ≡ is_live s q
+  pub held_here : among a s'.held ≡ is_held u
+  pub held_there : (q : ℕ) → a ≢ q → among q s'.held ≡ among q s.held
   pub condemned_here : among a s'.condemned ≡ is_condemned u
   pub condemned_there : (q : ℕ) → a ≢ q → among q s'.condemned ≡ among q s.condemned
   pub given_here : among a s'.given ≡ was_given u
   pub given_there : (q : ℕ) → a ≢ q → among q s'.given ≡ among q s.given
   pub next : s'.next ≡ s.next
-  pub held : s'.held ≡ []
+  pub parked : s'.parked ≡ s.parked
   pub shut : s'.shut ≡ s.shut
 
 -- what is said of places, where it is said of the one that changed and of the others
@@ -123,234 +103,295 @@ each_place p uses n i u b test says said shape is lt whole here there old m j lt
     (λ other. there (place p m j) other.0 ∙ old m j lt' ∙ ap (λ (o : Option SlotUse). option_map_or test o false) (sym other.1))
     (changes p uses n i u b shape is lt m j lt')
 
-shows_changed : (p : Shape) (uses : Uses) (s s' : State) (n i : ℕ) (u : SlotUse) (b : SlabUse) → IsShape p → slab_in uses n ≡ Some b → i < p.slots → Shows p uses s → IsChanged (place p n i) u s s' → Shows p (with_use uses n i u) s'
+pub shows_changed : (p : Shape) (uses : Uses) (s s' : State) (n i : ℕ) (u : SlotUse) (b : SlabUse) → IsShape p → slab_in uses n ≡ Some b → i < p.slots → Shows p uses s → IsChanged (place p n i) u s s' → Shows p (with_use uses n i u) s'
 shows_changed p uses s s' n i u b shape is lt h c =
     let whole = h.slots n b is in
+    let f : SlabUse → SlabUse = with_slot i u in
     record {
-      opens = λ m. c.opens m ∙ h.opens m ∙ sym (some_with_use uses n i m u b is);
-      slots = whole_with_use uses n i p.slots u b is h.slots;
-      canary = λ m. c.canary m ∙ h.canary m ∙ sym (canary_with_use uses n i u b is m);
+      opens = λ m. c.opens m ∙ h.opens m ∙ sym (told_changed uses n f b is (λ (b : SlabUse). b.opened) false refl m);
+      slots = whole_changed uses n f b is p.slots (length-set b.slots i u) h.slots;
+      canary = λ m. c.canary m ∙ h.canary m ∙ sym (told_changed uses n f b is (λ (b : SlabUse). b.canary) 0 refl m);
       live = each_place p uses n i u b lives (λ q. is_live s' q) (λ q. is_live s q) shape is lt whole c.live_here c.live_there h.live;
+      held = each_place p uses n i u b is_held (λ q. among q s'.held) (λ q. among q s.held) shape is lt whole c.held_here c.held_there h.held;
       condemned = each_place p uses n i u b is_condemned (λ q. among q s'.condemned) (λ q. among q s.condemned) shape is lt whole c.condemned_here c.condemned_there h.condemned;
       given = each_place p uses n i u b was_given (λ q. among q s'.given) (λ q. among q s.given) shape is lt whole c.given_here c.given_there h.given;
-      next = c.next ∙ h.next ∙ sym (length_with_use uses n i u b is);
-      count = c.count ∙ h.count ∙ sym (open_with_use uses n i u b is);
-      held = c.held;
-      shut = c.shut ∙ h.shut;
+      parked = λ m e. some_changed uses n f b is m ∙ h.parked m (ap (λ (l : List ℕ). among m l) (sym c.parked) ∙ e);
+      shut = λ m e. some_changed uses n f b is m ∙ h.shut m (ap (λ (l : List ℕ). among m l) (sym c.shut) ∙ e);
+      next = c.next ∙ h.next ∙ sym (length_changed uses n f b is);
     }
 
--- the pages and the counts with one slot used otherwise
-follows_changed : (told : Bool) (runs : PageRuns) (p : Shape) (s s' : State) (k k' : Slabs) (entries n i : ℕ) (u v : SlotUse) → IsShape p → i < p.slots → use_at k.slabs.items n i ≡ Some v
-    → k'.slabs.items ≡ with_use k.slabs.items n i u → k'.live ≡ live_count k'.slabs.items → weight occupied u ≤ weight occupied v + 1 → length s'.live + weight lives v ≤ length s.live + weight lives u
-    → (IsTrue told → HoldsSlabs p s'.opens runs) → IsChanged (place p n i) u s s' → Shows p k.slabs.items s → length s.live ≤ k.live → k.live ≡ live_count k.slabs.items → occupied_count k.slabs.items ≤ entries → p.slots * length s.opens ≤ entries + p.slots
-    → Follows told runs p s' k' (entries + 1)
-follows_changed told runs p s s' k k' entries n i u v shape lt was items live more fewer slabs c shows live_all old few opens_few =
-    let f = found k.slabs.items n i v was in record {
-      slabs = slabs;
-      shows = subst (λ (x : Uses). Shows p x s') (sym items) (shows_changed p k.slabs.items s s' n i u f.slab shape f.is_slab lt shows c);
-      counted = live;
-      live_all = omega (arith, live, ap live_count items, counted lives k.slabs.items n i u v was, live_all, old, fewer);
-      occupied_few = omega (arith, ap occupied_count items, counted occupied k.slabs.items n i u v was, few, more);
-      opens_few = longer p.slots (length s.opens) _ entries c.count opens_few;
-    }
-  where
-    longer : (k l l' e : ℕ) → l' ≡ l → k * l ≤ e + k → k * l' ≤ (e + 1) + k
-    longer k l l' e is le = subst (λ (x : ℕ). k * x ≤ (e + 1) + k) (sym is) (omega (arith, le))
+-- ---- the slot of an address
+among_new : (a : ℕ) (xs : List ℕ) → among a (a ∷ xs) ≡ true
+among_new a xs = ap (λ (b : Bool). b || among a xs) (same_eq a a refl)
 
--- ---- a slot is given
-available_is : (u : SlotUse) → occupied u ≡ false → (lives u ≡ false) × (is_condemned u ≡ false)
-available_is Never e = (refl, refl)
-available_is Free e = (refl, refl)
+among_old : (a q : ℕ) (xs : List ℕ) → a ≢ q → among q (a ∷ xs) ≡ among q xs
+among_old a q xs ne = ap (λ (b : Bool). b || among q xs) (other_eq a q ne)
+
+pub available_is : (u : SlotUse) → occupied u ≡ false → (lives u ≡ false) × (is_held u ≡ false) × (is_condemned u ≡ false)
+available_is Never e = (refl, refl, refl)
+available_is Free e = (refl, refl, refl)
 available_is Live e = absurd (true≢false e)
+available_is Held e = absurd (true≢false e)
 available_is (Condemned g) e = absurd (true≢false e)
 
-gives_changed : (p : Shape) (s : State) (a asked : ℕ) → s.held ≡ [] → among a s.condemned ≡ false → IsChanged a Live s (gives p a asked s)
+-- what is said of a slot that is there
+pub at_place : (uses : Uses) (n i : ℕ) (u : SlotUse) (test : SlotUse → Bool) (said : Bool) → use_at uses n i ≡ Some u → said ≡ passes_at test uses n i → said ≡ test u
+at_place uses n i u test said is says = says ∙ ap (λ (o : Option SlotUse). option_map_or test o false) is
+
+gives_changed : (p : Shape) (s : State) (a asked : ℕ) → among a s.held ≡ false → among a s.condemned ≡ false → IsChanged a Live s (gives p a asked s)
 gives_changed p s a asked held condemned = record {
   opens = λ n. has_overlaid p (a + usable p) (to_le_bytes w64 (kept_canary p s a)) n s.opens;
   canary = λ n. canary_overlaid p (a + usable p) (to_le_bytes w64 (kept_canary p s a)) n s.opens;
-  count = length_overlaid p (a + usable p) (to_le_bytes w64 (kept_canary p s a)) s.opens;
   live_here = has_put_same a asked s.live;
   live_there = λ q ne. has_put_other q a asked s.live ne;
+  held_here = held;
+  held_there = λ q ne. refl;
   condemned_here = condemned;
   condemned_there = λ q ne. refl;
-  given_here = ap (λ (b : Bool). b || among a s.given) (same_eq a a refl);
-  given_there = λ q ne. ap (λ (b : Bool). b || among q s.given) (other_eq a q ne);
+  given_here = among_new a s.given;
+  given_there = λ q ne. among_old a q s.given ne;
   next = refl;
-  held = held;
+  parked = refl;
   shut = refl;
 }
 
-condemns_changed : (s : State) (a : ℕ) (given : Bool) → s.held ≡ [] → is_live s a ≡ false → among a s.given ≡ given → IsChanged a (Condemned given) s (condemns a s)
-condemns_changed s a given held live was = record {
+condemns_changed : (s : State) (a : ℕ) (given : Bool) → is_live s a ≡ false → among a s.held ≡ false → among a s.given ≡ given → IsChanged a (Condemned given) s (condemns a s)
+condemns_changed s a given live held was = record {
   opens = λ n. refl;
   canary = λ n. refl;
-  count = refl;
   live_here = live;
   live_there = λ q ne. refl;
-  condemned_here = ap (λ (b : Bool). b || among a s.condemned) (same_eq a a refl);
-  condemned_there = λ q ne. ap (λ (b : Bool). b || among q s.condemned) (other_eq a q ne);
+  held_here = held;
+  held_there = λ q ne. refl;
+  condemned_here = among_new a s.condemned;
+  condemned_there = λ q ne. among_old a q s.condemned ne;
   given_here = was;
   given_there = λ q ne. refl;
   next = refl;
-  held = held;
+  parked = refl;
   shut = refl;
 }
 
-alone : (a : ℕ) → without a (a ∷ []) ≡ []
-alone a = ap (λ (b : Bool). cond {A = List ℕ} (not b) (a ∷ []) []) (same_eq a a refl)
-
-freed_changed : (p : Shape) (s : State) (a : ℕ) → s.held ≡ [] → among a s.condemned ≡ false → among a s.given ≡ true → IsChanged a Free s (releases (Some a) (takes_back p a s))
-freed_changed p s a held condemned given = record {
+holds_changed : (p : Shape) (s : State) (a : ℕ) → among a s.condemned ≡ false → among a s.given ≡ true → IsChanged a Held s (takes_back p a s)
+holds_changed p s a condemned given = record {
   opens = λ n. has_overlaid p a (zeros (usable p)) n s.opens;
   canary = λ n. canary_overlaid p a (zeros (usable p)) n s.opens;
-  count = length_overlaid p a (zeros (usable p)) s.opens;
   live_here = has_removed_same a s.live;
   live_there = λ q ne. has_removed_other q a s.live ne;
+  held_here = among_new a s.held;
+  held_there = λ q ne. among_old a q s.held ne;
   condemned_here = condemned;
   condemned_there = λ q ne. refl;
   given_here = given;
   given_there = λ q ne. refl;
   next = refl;
-  held = ap (λ (l : List ℕ). without a (a ∷ l)) held ∙ alone a;
+  parked = refl;
   shut = refl;
 }
 
--- what is said of a slot that is there
-at_place : (p : Shape) (uses : Uses) (n i : ℕ) (u : SlotUse) (test : SlotUse → Bool) (said : Bool) → use_at uses n i ≡ Some u → said ≡ passes_at test uses n i → said ≡ test u
-at_place p uses n i u test said is says = says ∙ ap (λ (o : Option SlotUse). option_map_or test o false) is
+released_changed : (s : State) (b : ℕ) → is_live s b ≡ false → among b s.condemned ≡ false → among b s.given ≡ true → IsChanged b Free s (releases (Some b) s)
+released_changed s b live condemned given = record {
+  opens = λ n. refl;
+  canary = λ n. refl;
+  live_here = live;
+  live_there = λ q ne. refl;
+  held_here = among_filter b b s.held ∙ ap (λ (c : Bool). cond c false (among b s.held)) (same_eq b b refl);
+  held_there = λ q ne. among_filter b q s.held ∙ ap (λ (c : Bool). cond c false (among q s.held)) (other_eq q b (λ e. ne (sym e)));
+  condemned_here = condemned;
+  condemned_there = λ q ne. refl;
+  given_here = given;
+  given_there = λ q ne. refl;
+  next = refl;
+  parked = refl;
+  shut = refl;
+}
 
-pub follows_given : (told : Bool) (runs runs' : PageRuns) (p : Shape) (s : State) (k k' : Slabs) (entries n i asked : ℕ) (v : SlotUse) → IsShape p → i < p.slots → use_at k.slabs.items n i ≡ Some v → occupied v ≡ false
-    → k'.slabs.items ≡ with_use k.slabs.items n i Live → k'.live ≡ live_count k'.slabs.items → (IsTrue told → HoldsSlabs p (gives p (place p n i) asked s).opens runs')
-    → Follows told runs p s k entries → Follows told runs' p (gives p (place p n i) asked s) k' (entries + 1)
-follows_given told runs runs' p s k k' entries n i asked v shape lt was free items live slabs h =
-    let a : ℕ = place p n i in
-    let off = available_is v free in
-    let dead : weight lives v ≡ 0 = ap (λ (b : Bool). cond {A = ℕ} b 1 0) off.0 in
-    let condemned : among a s.condemned ≡ false = at_place p k.slabs.items n i v is_condemned _ was (h.shows.condemned n i lt) ∙ off.1 in
-    follows_changed told runs' p s (gives p a asked s) k k' entries n i Live v shape lt was items live (omega arith) (omega (arith, dead, length_removed a s.live)) slabs
-    (gives_changed p s a asked h.shows.held condemned) h.shows h.live_all h.counted h.occupied_few h.opens_few
+module _ (p : Shape) (uses : Uses) (s : State) (n i : ℕ) (b : SlabUse) (v : SlotUse) (shape : IsShape p) (lt : i < p.slots) (is : slab_in uses n ≡ Some b) (was : use_at uses n i ≡ Some v) (h : Shows p uses s) where
+  pub shows_given : (asked : ℕ) → occupied v ≡ false → Shows p (with_use uses n i Live) (gives p (place p n i) asked s)
+  shows_given asked free =
+      let off = available_is v free in
+      shows_changed p uses s (gives p (place p n i) asked s) n i Live b shape is lt h
+      (gives_changed p s (place p n i) asked (at_place uses n i v is_held _ was (h.held n i lt) ∙ off.1) (at_place uses n i v is_condemned _ was (h.condemned n i lt) ∙ off.2))
 
-pub follows_condemned : (told : Bool) (runs : PageRuns) (p : Shape) (s : State) (k k' : Slabs) (entries n i : ℕ) (v : SlotUse) → IsShape p → i < p.slots → use_at k.slabs.items n i ≡ Some v → occupied v ≡ false
-    → k'.slabs.items ≡ with_use k.slabs.items n i (Condemned (was_given v)) → k'.live ≡ live_count k'.slabs.items
-    → Follows told runs p s k entries → Follows told runs p (condemns (place p n i) s) k' (entries + 1)
-follows_condemned told runs p s k k' entries n i v shape lt was free items live h =
-    let a : ℕ = place p n i in
-    let off = available_is v free in
-    let dead : weight lives v ≡ 0 = ap (λ (b : Bool). cond {A = ℕ} b 1 0) off.0 in
-    follows_changed told runs p s (condemns a s) k k' entries n i (Condemned (was_given v)) v shape lt was items live (omega arith) (omega (arith, dead)) h.slabs
-    (condemns_changed s a (was_given v) h.shows.held (at_place p k.slabs.items n i v lives _ was (h.shows.live n i lt) ∙ off.0) (at_place p k.slabs.items n i v was_given _ was (h.shows.given n i lt)))
-    h.shows h.live_all h.counted h.occupied_few h.opens_few
+  pub shows_condemned : occupied v ≡ false → Shows p (with_use uses n i (Condemned (was_given v))) (condemns (place p n i) s)
+  shows_condemned free =
+      let off = available_is v free in
+      shows_changed p uses s (condemns (place p n i) s) n i (Condemned (was_given v)) b shape is lt h
+      (condemns_changed s (place p n i) (was_given v) (at_place uses n i v lives _ was (h.live n i lt) ∙ off.0) (at_place uses n i v is_held _ was (h.held n i lt) ∙ off.1) (at_place uses n i v was_given _ was (h.given n i lt)))
 
--- ---- a live slot is free again
-pub follows_freed : (told : Bool) (runs runs' : PageRuns) (p : Shape) (s : State) (k k' : Slabs) (entries n i : ℕ) → IsShape p → i < p.slots → use_at k.slabs.items n i ≡ Some Live
-    → k'.slabs.items ≡ with_use k.slabs.items n i Free → k'.live ≡ live_count k'.slabs.items → (IsTrue told → HoldsSlabs p (takes_back p (place p n i) s).opens runs')
-    → Follows told runs p s k entries → Follows told runs' p (releases (Some (place p n i)) (takes_back p (place p n i) s)) k' (entries + 1)
-follows_freed told runs runs' p s k k' entries n i shape lt was items live slabs h =
-    let a : ℕ = place p n i in
-    let was_live : is_live s a ≡ true = at_place p k.slabs.items n i Live lives _ was (h.shows.live n i lt) in
-    follows_changed told runs' p s (releases (Some a) (takes_back p a s)) k k' entries n i Free Live shape lt was items live (omega arith) (omega (arith, length_taken a s.live was_live)) slabs
-    (freed_changed p s a h.shows.held (at_place p k.slabs.items n i Live is_condemned _ was (h.shows.condemned n i lt)) (at_place p k.slabs.items n i Live was_given _ was (h.shows.given n i lt)))
-    h.shows h.live_all h.counted h.occupied_few h.opens_few
+  pub shows_held : v ≡ Live → Shows p (with_use uses n i Held) (takes_back p (place p n i) s)
+  shows_held live =
+      shows_changed p uses s (takes_back p (place p n i) s) n i Held b shape is lt h
+      (holds_changed p s (place p n i) (at_place uses n i v is_condemned _ was (h.condemned n i lt) ∙ ap is_condemned live) (at_place uses n i v was_given _ was (h.given n i lt) ∙ ap was_given live))
+
+  pub shows_released : v ≡ Held → Shows p (with_use uses n i Free) (releases (Some (place p n i)) s)
+  shows_released held =
+      shows_changed p uses s (releases (Some (place p n i)) s) n i Free b shape is lt h
+      (released_changed s (place p n i) (at_place uses n i v lives _ was (h.live n i lt) ∙ ap lives held) (at_place uses n i v is_condemned _ was (h.condemned n i lt) ∙ ap is_condemned held)
+      (at_place uses n i v was_given _ was (h.given n i lt) ∙ ap was_given held))
 
 -- ---- bytes are written
-shows_written : (p : Shape) (uses : Uses) (s : State) (a : ℕ) (w : List ℕ) → Shows p uses s → Shows p uses (write p a w s)
+pub shows_written : (p : Shape) (uses : Uses) (s : State) (a : ℕ) (w : List ℕ) → Shows p uses s → Shows p uses (write p a w s)
 shows_written p uses s a w h = record {
   opens = λ n. has_overlaid p a w n s.opens ∙ h.opens n;
   slots = h.slots;
   canary = λ n. canary_overlaid p a w n s.opens ∙ h.canary n;
   live = h.live;
+  held = h.held;
   condemned = h.condemned;
   given = h.given;
-  next = h.next;
-  count = length_overlaid p a w s.opens ∙ h.count;
-  held = h.held;
+  parked = h.parked;
   shut = h.shut;
+  next = h.next;
 }
 
-pub follows_written : (told : Bool) (runs runs' : PageRuns) (p : Shape) (s : State) (k : Slabs) (entries a : ℕ) (w : List ℕ) → (IsTrue told → HoldsSlabs p (write p a w s).opens runs')
-    → Follows told runs p s k entries → Follows told runs' p (write p a w s) k entries
-follows_written told runs runs' p s k entries a w slabs h = record {
-  slabs = slabs;
-  shows = shows_written p k.slabs.items s a w h.shows;
-  counted = h.counted;
-  live_all = h.live_all;
-  occupied_few = h.occupied_few;
-  opens_few = subst (λ (l : ℕ). p.slots * l ≤ entries + p.slots) (sym (length_overlaid p a w s.opens)) h.opens_few;
-}
+-- ---- a slab is opened, or shut
+abbrev opens_with : State → List (ℕ × Slab) → State
+opens_with s opens = record s { opens = opens }
 
--- ---- a slab is opened
--- a fresh slab was opened
-abbrev pub fresh : Shape → ℕ → Option ℕ → State → State
-fresh p n canary s = record s { next = after p s.next; opens = put n (new_slab p (unwrap_or canary 0)) s.opens }
+module _ (p : Shape) (uses : Uses) (s : State) (n : ℕ) (f : SlabUse → SlabUse) (b : SlabUse) (is : slab_in uses n ≡ Some b) (same : (f b).slots ≡ b.slots) (h : Shows p uses s) where
+  kept_places : (test : SlotUse → Bool) (m j : ℕ) → passes_at test uses m j ≡ passes_at test (changed uses n f) m j
+  kept_places test m j = ap (λ (o : Option SlotUse). option_map_or test o false) (sym (uses_kept uses n f b is same m j))
 
-pub opened_fresh : (p : Shape) (n : ℕ) (canary : Option ℕ) (s : State) → s.shut ≡ [] → opened p (Some n) canary s ≡ fresh p n canary s
-opened_fresh p n canary s none = ap (λ (l : List ℕ). record (taken_new p l s) { opens = put n (new_slab p (unwrap_or canary 0)) s.opens }) none
+  shows_opens : (opens : List (ℕ × Slab)) → has n opens ≡ (f b).opened → option_map_or (λ (b : Slab). b.canary) (at n opens) 0 ≡ (f b).canary → ((m : ℕ) → m ≢ n → at m opens ≡ at m s.opens)
+      → Shows p (changed uses n f) (opens_with s opens)
+  shows_opens opens on canary there = record {
+    opens = each_slab uses n f b is (λ m o. has m opens ≡ option_map_or (λ (b : SlabUse). b.opened) o false) on (λ m ne. ap (λ (o : Option Slab). is_some o) (there m ne) ∙ h.opens m);
+    slots = whole_changed uses n f b is p.slots (ap (λ (l : List SlotUse). length l) same) h.slots;
+    canary = each_slab uses n f b is (λ m o. option_map_or (λ (b : Slab). b.canary) (at m opens) 0 ≡ option_map_or (λ (b : SlabUse). b.canary) o 0) canary
+        (λ m ne. ap (λ (o : Option Slab). option_map_or (λ (b : Slab). b.canary) o 0) (there m ne) ∙ h.canary m);
+    live = λ m j lt. h.live m j lt ∙ kept_places lives m j;
+    held = λ m j lt. h.held m j lt ∙ kept_places is_held m j;
+    condemned = λ m j lt. h.condemned m j lt ∙ kept_places is_condemned m j;
+    given = λ m j lt. h.given m j lt ∙ kept_places was_given m j;
+    parked = λ m e. some_changed uses n f b is m ∙ h.parked m e;
+    shut = λ m e. some_changed uses n f b is m ∙ h.shut m e;
+    next = h.next ∙ sym (length_changed uses n f b is);
+  }
 
-pub not_open : (p : Shape) (uses : Uses) (s : State) (n : ℕ) → n ≡ length uses → Shows p uses s → is_open s n ≡ false
-not_open p uses s n is h = h.opens n ∙ ap (λ (o : Option SlabUse). is_some o) (slab_past uses n (omega (arith, is)))
+pub shows_opened : (p : Shape) (uses : Uses) (s : State) (n : ℕ) (x : Slab) (b : SlabUse) → slab_in uses n ≡ Some b → Shows p uses s → Shows p (with_open uses n x.canary) (record s { opens = put n x s.opens })
+shows_opened p uses s n x b is h =
+    shows_opens p uses s n (opened_slab x.canary) b is refl h (put n x s.opens) (has_put_same n x s.opens)
+    (ap (λ (o : Option Slab). option_map_or (λ (b : Slab). b.canary) o 0) (at_put_same n n x s.opens refl))
+    (λ m ne. at_put_other n m x s.opens (λ e. ne (sym e)))
 
--- a slab of which no slot was ever given
-abbrev pub fresh_slab : Shape → ℕ → SlabUse
-fresh_slab p canary = record { slots = replicate p.slots Never; canary = canary }
+at_gone : (n : ℕ) (m : List (ℕ × Slab)) → at n (removed n m) ≡ None
+at_gone n m = none (at n (removed n m)) (has_removed_same n m)
+  where
+    none : (o : Option Slab) → is_some o ≡ false → o ≡ None
+    none None e = refl
+    none (Some b) e = absurd (true≢false e)
 
-shows_opened : (p : Shape) (uses : Uses) (s : State) (n canary : ℕ) → n ≡ length uses → Shows p uses s → Shows p (with_slab p uses (fresh_slab p canary)) (fresh p n (Some canary) s)
-shows_opened p uses s n canary is h =
-    let x : SlabUse = fresh_slab p canary in
-    let b : Slab = new_slab p canary in
-    let uses' : Uses = with_slab p uses x in
-    let here : slab_in uses' n ≡ Some x = ap (λ (m : ℕ). slab_in uses' m) is ∙ slab_new p uses x in
-    let there : (m : ℕ) → m ≢ n → slab_in uses' m ≡ slab_in uses m = λ m ne. slab_old p uses x m (λ e. ne (e ∙ sym is)) in
-    let past : slab_in uses n ≡ None = slab_past uses n (omega (arith, is)) in
-    let same_at : (f : SlotUse → Bool) → f Never ≡ false → (m j : ℕ) → j < p.slots → passes_at f uses m j ≡ passes_at f uses' m j =
-    λ f never m j lt. ⊎_elim
-    (λ e. subst (λ (k : ℕ). passes_at f uses k j ≡ passes_at f uses' k j) (sym e)
-    (ap (λ (o : Option SlabUse). option_map_or f (option_and_then (λ (b : SlabUse). slice_get b.slots j) o) false) past
-    ∙ sym never
-    ∙ ap (λ (o : Option SlotUse). option_map_or f o false) (sym (new_slot p.slots j lt))
-    ∙ ap (λ (o : Option SlabUse). option_map_or f (option_and_then (λ (b : SlabUse). slice_get b.slots j) o) false) (sym here)))
-    (λ ne. ap (λ (o : Option SlabUse). option_map_or f (option_and_then (λ (b : SlabUse). slice_get b.slots j) o) false) (sym (there m ne)))
-    (cases_eq m n) in
+pub shows_retired : (p : Shape) (uses : Uses) (s : State) (n : ℕ) (b : SlabUse) → slab_in uses n ≡ Some b → Shows p uses s → Shows p (with_shut uses n) (retires (Some n) s)
+shows_retired p uses s n b is h =
+    let h' : Shows p (with_shut uses n) (record s { opens = removed n s.opens }) =
+    shows_opens p uses s n shut_slab b is refl h (removed n s.opens) (has_removed_same n s.opens)
+    (ap (λ (o : Option Slab). option_map_or (λ (b : Slab). b.canary) o 0) (at_gone n s.opens))
+    (λ m ne. at_removed n m s.opens (λ e. ne (sym e))) in
     record {
-      opens = λ m. ⊎_elim
-          (λ e. subst (λ (k : ℕ). has k (put n b s.opens) ≡ is_some (slab_in uses' k)) (sym e)
-          (has_put_same n b s.opens ∙ ap (λ (o : Option SlabUse). is_some o) (sym here)))
-          (λ ne. has_put_other m n b s.opens (λ e. ne (sym e)) ∙ h.opens m ∙ ap (λ (o : Option SlabUse). is_some o) (sym (there m ne)))
-          (cases_eq m n);
-      slots = λ m y e. ⊎_elim
-          (λ same. ap (λ (z : SlabUse). length z.slots) (same_Some y x (sym e ∙ ap (λ (k : ℕ). slab_in uses' k) same ∙ here)) ∙ length-replicate p.slots Never)
-          (λ ne. h.slots m y (sym (there m ne) ∙ e))
-          (cases_eq m n);
-      canary = λ m. ⊎_elim
-          (λ e. ap (λ (o : Option Slab). option_map_or (λ (b : Slab). b.canary) o 0) (at_put_same n m b s.opens (sym e))
-          ∙ ap (λ (o : Option SlabUse). option_map_or (λ (b : SlabUse). b.canary) o 0) (sym (ap (λ (k : ℕ). slab_in uses' k) e ∙ here)))
-          (λ ne. ap (λ (o : Option Slab). option_map_or (λ (b : Slab). b.canary) o 0) (at_put_other n m b s.opens (λ e. ne (sym e))) ∙ h.canary m
-          ∙ ap (λ (o : Option SlabUse). option_map_or (λ (b : SlabUse). b.canary) o 0) (sym (there m ne)))
-          (cases_eq m n);
+      opens = h'.opens;
+      slots = h'.slots;
+      canary = h'.canary;
+      live = h'.live;
+      held = h'.held;
+      condemned = h'.condemned;
+      given = h'.given;
+      parked = λ m e. ⊎_elim
+          (λ (same : n ≡ m). subst (λ (k : ℕ). is_some (slab_in (with_shut uses n) k) ≡ true) same (some_changed uses n shut_slab b is n ∙ ap (λ (o : Option SlabUse). is_some o) is))
+          (λ (ne : n ≢ m). h'.parked m (sym (among_old n m s.parked ne) ∙ e))
+          (cases_eq n m);
+      shut = h'.shut;
+      next = h'.next;
+    }
+
+or_among : (m u : ℕ) (xs : List ℕ) → among m (xs ++ u ∷ []) ≡ true → (among m xs ≡ true) ⊎ (u ≡ m)
+or_among m u [] e = ⊎_elim (λ (same : u ≡ m). inr same) (λ (ne : u ≢ m). absurd (true≢false (sym e ∙ among_old u m [] ne))) (cases_eq u m)
+or_among m u (x ∷ xs) e =
+    ⊎_elim
+    (λ (same : x ≡ m). inl (ap (λ (b : Bool). b || among m xs) (same_eq x m same)))
+    (λ (ne : x ≢ m). ⊎_elim (λ (there : among m xs ≡ true). inl (among_old x m xs ne ∙ there)) (λ (is : u ≡ m). inr is) (or_among m u xs (sym (among_old x m (xs ++ u ∷ []) ne) ∙ e)))
+    (cases_eq x m)
+
+pub shows_unparked : (p : Shape) (uses : Uses) (s : State) (u : Option ℕ) → ((m : ℕ) → u ≡ Some m → among m s.parked ≡ true) → Shows p uses s → Shows p uses (unparks u s)
+shows_unparked p uses s None was h = h
+shows_unparked p uses s (Some u) was h = record {
+  opens = h.opens;
+  slots = h.slots;
+  canary = h.canary;
+  live = h.live;
+  held = h.held;
+  condemned = h.condemned;
+  given = h.given;
+  parked = λ m e. h.parked m (left (m == u) (among m s.parked) (sym (among_filter u m s.parked) ∙ e));
+  shut = λ m e. ⊎_elim (h.shut m) (λ (same : u ≡ m). h.parked m (was m (ap (λ (k : ℕ). Some k) same))) (or_among m u s.shut e);
+  next = h.next;
+}
+  where
+    left : (c x : Bool) → cond c false x ≡ true → x ≡ true
+    left true x e = absurd (true≢false (sym e))
+    left false x e = e
+
+-- ---- a slab comes from those that are shut, or is a fresh one
+shows_fresh : (p : Shape) (uses : Uses) (s : State) → Shows p uses s → Shows p (with_slab p uses (fresh_slab p.slots)) (record s { next = after p s.next })
+shows_fresh p uses s h =
+    let x : SlabUse = fresh_slab p.slots in
+    let n : ℕ = length uses in
+    let past : slab_in uses n ≡ None = slab_past uses n (omega arith) in
+    let each : (Says : ℕ → Option SlabUse → Type 0) → Says n (Some x) → ((m : ℕ) → m ≢ n → Says m (slab_in uses m)) → (m : ℕ) → Says m (slab_in (with_slab p uses x) m) =
+    λ Says here beside m. ⊎_elim
+    (λ (e : m ≡ n). subst (λ (k : ℕ). Says k (slab_in (with_slab p uses x) k)) (sym e) (subst (λ (o : Option SlabUse). Says n o) (sym (slab_new p uses x)) here))
+    (λ (ne : m ≢ n). subst (λ (o : Option SlabUse). Says m o) (sym (slab_old p uses x m ne)) (beside m ne))
+    (cases_eq m n) in
+    let same_at : (f : SlotUse → Bool) → f Never ≡ false → (m j : ℕ) → j < p.slots → passes_at f uses m j ≡ passes_at f (with_slab p uses x) m j =
+    λ f never m j lt. each (λ k o. passes_at f uses k j ≡ option_map_or f (option_and_then (λ (b : SlabUse). slice_get b.slots j) o) false)
+    (ap (λ (o : Option SlabUse). option_map_or f (option_and_then (λ (b : SlabUse). slice_get b.slots j) o) false) past ∙ sym never
+    ∙ ap (λ (o : Option SlotUse). option_map_or f o false) (sym (new_slot p.slots j lt)))
+    (λ k ne. refl) m in
+    let there : (m : ℕ) → is_some (slab_in uses m) ≡ true → is_some (slab_in (with_slab p uses x) m) ≡ true =
+    λ m. each (λ k o. is_some (slab_in uses k) ≡ true → is_some o ≡ true) (λ e. refl) (λ k ne e. e) m in
+    record {
+      opens = each (λ m o. is_open s m ≡ option_map_or (λ (b : SlabUse). b.opened) o false) (h.opens n ∙ ap (λ (o : Option SlabUse). option_map_or (λ (b : SlabUse). b.opened) o false) past) (λ m ne. h.opens m);
+      slots = each (λ m o. (y : SlabUse) → o ≡ Some y → length y.slots ≡ p.slots) (λ y e. ap (λ (z : SlabUse). length z.slots) (sym (same_Some x y e)) ∙ length-replicate p.slots Never) (λ m ne. h.slots m);
+      canary = each (λ m o. option_map_or (λ (b : Slab). b.canary) (at m s.opens) 0 ≡ option_map_or (λ (b : SlabUse). b.canary) o 0) (h.canary n ∙ ap (λ (o : Option SlabUse). option_map_or (λ (b : SlabUse). b.canary) o 0) past) (λ m ne. h.canary m);
       live = λ m j lt. h.live m j lt ∙ same_at lives refl m j lt;
+      held = λ m j lt. h.held m j lt ∙ same_at is_held refl m j lt;
       condemned = λ m j lt. h.condemned m j lt ∙ same_at is_condemned refl m j lt;
       given = λ m j lt. h.given m j lt ∙ same_at was_given refl m j lt;
+      parked = λ m e. there m (h.parked m e);
+      shut = λ m e. there m (h.shut m e);
       next = ap (λ (m : ℕ). after p m) h.next ∙ sym (length_with_slab p uses x);
-      count = omega (arith, ap (λ (l : List (ℕ × Slab)). length l) (removed_none n s.opens (not_open p uses s n is h)), h.count, open_with_slab p uses x);
-      held = h.held;
-      shut = h.shut;
     }
 
-pub follows_opened : (told : Bool) (runs runs' : PageRuns) (p : Shape) (s : State) (k k' : Slabs) (entries n canary : ℕ) → IsShape p → has_bytes p ≡ true → n ≡ length k.slabs.items → NonePartly k.slabs.items → NoneUnused k.slabs.items
-    → k'.slabs.items ≡ with_slab p k.slabs.items (fresh_slab p canary) → k'.live ≡ k.live → (IsTrue told → runs' ≡ map.insert runs (slab_at p n) (zeros p.slab))
-    → Follows told runs p s k entries → Follows told runs' p (fresh p n (Some canary) s) k' entries
-follows_opened told runs runs' p s k k' entries n canary shape own is no_partly no_unused items live made h =
-    let x : SlabUse = fresh_slab p canary in
-    let b : Slab = new_slab p canary in
-    let full : p.slots * length s.opens ≡ occupied_count k.slabs.items = ap (λ (l : ℕ). p.slots * l) h.shows.count ∙ full_count p.slots k.slabs.items no_partly no_unused h.shows.slots in
-    let longer : length (put n b s.opens) ≡ length s.opens + 1 = omega (arith, ap (λ (l : List (ℕ × Slab)). length l) (removed_none n s.opens (not_open p k.slabs.items s n is h.shows))) in
-    record {
-      slabs = λ t. subst (λ (r : PageRuns). HoldsSlabs p (put n b s.opens) r) (sym (made t)) (holds_opened p s.opens n canary runs shape own (h.slabs t));
-      shows = subst (λ (u : Uses). Shows p u (fresh p n (Some canary) s)) (sym items) (shows_opened p k.slabs.items s n canary is h.shows);
-      counted = omega (arith, live, h.counted, ap live_count items, count_with_slab p k.slabs.items x lives, none_new lives p.slots refl);
-      live_all = omega (arith, live, h.live_all);
-      occupied_few = omega (arith, h.occupied_few, ap occupied_count items, count_with_slab p k.slabs.items x occupied, none_new occupied p.slots refl);
-      opens_few = one_more p.slots (length s.opens) _ entries longer (omega (arith, full, h.occupied_few));
-    }
+shows_taken : (p : Shape) (uses : Uses) (s : State) (shut : List ℕ) → s.shut ≡ shut → Shows p uses s → Shows p (taken_uses p shut uses) (taken_new p shut s)
+shows_taken p uses s [] e h = shows_fresh p uses s h
+shows_taken p uses s (m ∷ ms) e h = record {
+  opens = h.opens;
+  slots = h.slots;
+  canary = h.canary;
+  live = h.live;
+  held = h.held;
+  condemned = h.condemned;
+  given = h.given;
+  parked = h.parked;
+  shut = λ k is. h.shut k (ap (λ (l : List ℕ). among k l) e ∙ ap (λ (b : Bool). (m == k) || b) is ∙ or_true (m == k));
+  next = h.next;
+}
   where
-    one_more : (k l l' e : ℕ) → l' ≡ l + 1 → k * l ≤ e → k * l' ≤ e + k
-    one_more k l l' e is le = subst (λ (x : ℕ). k * x ≤ e + k) (sym is) (grind (arith, rows))
+    or_true : (b : Bool) → (b || true) ≡ true
+    or_true true = refl
+    or_true false = refl
+
+new_opens : (p : Shape) (shut : List ℕ) (s : State) → (taken_new p shut s).opens ≡ s.opens
+new_opens p [] s = refl
+new_opens p (m ∷ ms) s = refl
+
+pub shows_new : (p : Shape) (uses : Uses) (s : State) (n canary : ℕ) (b : SlabUse) → slab_in (taken_uses p s.shut uses) n ≡ Some b → Shows p uses s
+    → Shows p (with_open (taken_uses p s.shut uses) n canary) (record (taken_new p s.shut s) { opens = put n (new_slab p canary) s.opens })
+shows_new p uses s n canary b is h =
+    subst (λ (l : List (ℕ × Slab)). Shows p (with_open (taken_uses p s.shut uses) n canary) (record (taken_new p s.shut s) { opens = put n (new_slab p canary) l })) (new_opens p s.shut s)
+    (shows_opened p (taken_uses p s.shut uses) (taken_new p s.shut s) n (new_slab p canary) b is (shows_taken p uses s s.shut refl h))
+
+-- the slab that is opened next is there
+pub new_there : (p : Shape) (uses : Uses) (s : State) (shut : List ℕ) (n : ℕ) → s.shut ≡ shut → Shows p uses s → (shut ≡ [] → n ≡ length uses) → ((m : ℕ) (ms : List ℕ) → shut ≡ m ∷ ms → n ≡ m) → is_some (slab_in (taken_uses p shut uses) n) ≡ true
+new_there p uses s [] n e h fresh first = ap (λ (m : ℕ). is_some (slab_in (with_slab p uses (fresh_slab p.slots)) m)) (fresh refl) ∙ ap (λ (o : Option SlabUse). is_some o) (slab_new p uses (fresh_slab p.slots))
+new_there p uses s (m ∷ ms) n e h fresh first = ap (λ (k : ℕ). is_some (slab_in uses k)) (first m ms refl) ∙ h.shut m (ap (λ (l : List ℕ). among m l) e ∙ among_new m ms)

@@ -1,7 +1,7 @@
 -- The runs of the pages are the open slabs, and stay so where slabs are opened and bytes are written.
-use Rattle.std.proofs.Common.{◌≡◌, ◌≢◌, inl, inr, ⊎_elim, ℕ, ◌+◌, ◌-◌, ◌*◌, ◌/◌, ◌%◌, ◌<◌, ◌≤◌, ◌==◌, Bool, true, false, cond, nat_lt, List, [], ◌∷◌, length, take, drop, Option, Some, None, is_some, slice_get, sym, ◌∙◌, ap, refl, arith, true≢false}
+use Rattle.std.proofs.Common.{◌≡◌, ◌≢◌, inl, inr, ⊎_elim, ℕ, zero, suc, subst, ◌+◌, ◌-◌, ◌*◌, ◌/◌, ◌%◌, ◌<◌, ◌≤◌, ◌==◌, Bool, true, false, cond, nat_lt, List, [], ◌∷◌, length, take, drop, ◌++◌, Option, Some, None, is_some, slice_get, sym, ◌∙◌, ap, refl, arith, true≢false}
 use Rattle.std.specs.FinMap as map
-use Rattle.std.specs.FinMap.{FinMap, get-insert, get-empty}
+use Rattle.std.specs.FinMap.{FinMap, get-insert, get-remove, get-empty}
 use Rattle.std.specs.Option.{option_and_then, option_map_or}
 use Rattle.std.specs.Ordering.{nat_cmp, eq_by_cmp}
 use Rattle.std.proofs.lemmas.Cmp.{nat_cmp_total}
@@ -10,19 +10,20 @@ use Rattle.std.proofs.lemmas.Bool.Decides.{nat_tests}
 use Rattle.std.proofs.lemmas.List.{length-replicate}
 use Rattle.std.proofs.lemmas.Nat.{div-mul-add, mod-mul-add}
 use Rattle.std.proofs.lemmas.Option.{none-some, same_Some}
-use Rattle.hm_outside.specs.PageRuns.{PageRuns, MeetsNone, IsHeld, Reads, Writes, written, zeros}
+use Rattle.hm_outside.specs.PageRuns.{PageRuns, MeetsNone, IsRun, IsHeld, Reads, Writes, written, zeros}
 use Rattle.hm_sizes.specs.declared.shape.Shape.{Shape}
 use Rattle.hm_sizes.specs.Shapes.{IsShape, slab_at, slab_of, has_bytes}
-use Rattle.hm_model.specs.Maps.{at, has, put}
+use Rattle.hm_model.specs.Maps.{at, has, put, removed}
 use Rattle.hm_model.specs.Overlaid.{overlaid}
 use Rattle.hm_model.proofs.Lists.{eq_same}
 use Rattle.hm_model.proofs.Overlaid.{overlaid_apart, overlaid_written, length_overlaid}
 use Rattle.hm_class_rules.specs.State.{State, Slab, start, is_open}
 use Rattle.hm_class_rules.specs.Bytes.{overlaid_slabs, byte_at, bytes_from}
-use Rattle.hm_class_rules.specs.Laws.{bytes_of_slab}
+use Rattle.hm_class_rules.specs.Laws.{AllWhole, bytes_of_slab}
 use Rattle.hm_class_rules.specs.Steps.{new_slab}
 use Rattle.hm_class.specs.Region.{HoldsSlabs}
-use Rattle.hm_class.proofs.Entered.{at_put_same, at_put_other}
+use Rattle.hm_class.proofs.Entered.{at_put_same, at_put_other, at_removed, has_removed_same}
+use Rattle.hm_class.specs.Finds.{made_runs}
 use Rattle.hm_class.proofs.Places.{slab_row, slab_apart, slab_some}
 
 -- ---- finite maps
@@ -221,3 +222,113 @@ reads_bytes p s a len runs slice h reads =
     let off : a - reads.first ≡ a - slab_at p r.number = ap (λ (y : ℕ). a - y) r.first_is in
     reads.value ∙ ap (λ (y : ℕ). take len (drop y reads.bytes)) off ∙ ap (λ (y : List ℕ). take len (drop (a - slab_at p r.number) y)) r.bytes_is
     ∙ sym (bytes_in p s r.number (a - slab_at p r.number) a len r.slab (omega (arith, reads.lies.from, r.first_is)) (omega (arith, reads.lies.some, reads.lies.to, reads.lies.from, r.first_is, l)) r.slab_is)
+
+-- ---- slabs without bytes
+no_own : (p : Shape) (own : Bool) → own ≡ false → own ≡ true → ⊥
+no_own p own off on = true≢false (sym on ∙ off)
+
+pub holds_without : (p : Shape) (opens opens' : List (ℕ × Slab)) (runs : PageRuns) → has_bytes p ≡ false → AllWhole (bytes_of_slab p) opens' → HoldsSlabs p opens runs → HoldsSlabs p opens' runs
+holds_without p opens opens' runs off whole h = record {
+  each = λ own. absurd (no_own p (has_bytes p) off own);
+  only = λ q bytes is. absurd (no_own p (has_bytes p) off (h.only q bytes is).own);
+  whole = whole;
+}
+
+whole_put : (p : Shape) (opens : List (ℕ × Slab)) (n k : ℕ) → has_bytes p ≡ false → AllWhole (bytes_of_slab p) opens → AllWhole (bytes_of_slab p) (put n (new_slab p k) opens)
+whole_put p opens n k off h m b is =
+    ⊎_elim
+    (λ e. ap (λ (y : Slab). length y.bytes) (same_Some b (new_slab p k) (sym is ∙ at_put_same n m (new_slab p k) opens e)) ∙ ap (λ (t : Bool). length (cond {A = List ℕ} t (zeros p.slab) [])) off ∙ ap (λ (t : Bool). cond t p.slab 0) (sym off))
+    (λ ne. h m b (sym (at_put_other n m (new_slab p k) opens ne) ∙ is))
+    (cases_eq n m)
+
+-- a slab was opened, with bytes or without
+pub holds_made : (p : Shape) (opens : List (ℕ × Slab)) (n k : ℕ) (runs : PageRuns) → IsShape p → HoldsSlabs p opens runs → HoldsSlabs p (put n (new_slab p k) opens) (made_runs p n runs)
+holds_made p opens n k runs shape h = of (has_bytes p) refl
+  where
+    of : (own : Bool) → has_bytes p ≡ own → HoldsSlabs p (put n (new_slab p k) opens) (made_runs p n runs)
+    of true own = subst (λ (r : PageRuns). HoldsSlabs p (put n (new_slab p k) opens) r) (ap (λ (t : Bool). cond t (map.insert runs (slab_at p n) (zeros p.slab)) runs) (sym own)) (holds_opened p opens n k runs shape own h)
+    of false off = subst (λ (r : PageRuns). HoldsSlabs p (put n (new_slab p k) opens) r) (ap (λ (t : Bool). cond t (map.insert runs (slab_at p n) (zeros p.slab)) runs) (sym off))
+        (holds_without p opens (put n (new_slab p k) opens) runs off (whole_put p opens n k off h.whole) h)
+
+-- ---- a slab is shut
+module _ {X : Type 0} (m : FinMap nat_cmp X) (k q : ℕ) where
+  gone_same : q ≡ k → map.get (map.remove m k) q ≡ None
+  gone_same e = get-remove nat_cmp_total m k q ∙ ap (λ (b : Bool). cond b None (map.get m q)) (same q k e)
+    where
+      same : (q k : ℕ) → q ≡ k → eq_by_cmp nat_cmp q k ≡ true
+      same q k e = grind (arith, nat_tests)
+
+  gone_other : q ≢ k → map.get (map.remove m k) q ≡ map.get m q
+  gone_other ne = get-remove nat_cmp_total m k q ∙ ap (λ (b : Bool). cond b None (map.get m q)) (apart q k ne)
+    where
+      apart : (q k : ℕ) → q ≢ k → eq_by_cmp nat_cmp q k ≡ false
+      apart q k ne = grind (arith, nat_tests)
+
+-- the bytes of an open slab are a run
+pub slab_run : (p : Shape) (opens : List (ℕ × Slab)) (n : ℕ) (runs : PageRuns) → has_bytes p ≡ true → has n opens ≡ true → HoldsSlabs p opens runs → IsRun runs (slab_at p n) p.slab
+slab_run p opens n runs own on h = let b = on_some opens n on in (b.0.bytes, h.each own n b.0 b.1, all_bytes p opens runs h own n b.0 b.1)
+
+still : (n m : ℕ) (b : Slab) (opens : List (ℕ × Slab)) → at m (removed n opens) ≡ Some b → n ≢ m
+still n m b opens is e = true≢false (sym (ap (λ (o : Option Slab). is_some o) (ap (λ (x : ℕ). at x (removed n opens)) e ∙ is)) ∙ has_removed_same n opens)
+
+pub holds_retired : (p : Shape) (opens : List (ℕ × Slab)) (n : ℕ) (runs : PageRuns) → IsShape p → HoldsSlabs p opens runs
+    → HoldsSlabs p (removed n opens) (cond (has_bytes p) (map.remove runs (slab_at p n)) runs)
+holds_retired p opens n runs shape h = of (has_bytes p) refl
+  where
+    some : 1 ≤ p.slab
+    some = omega (arith, slab_some p shape)
+
+    whole : AllWhole (bytes_of_slab p) (removed n opens)
+    whole m b is = h.whole m b (sym (at_removed n m opens (still n m b opens is)) ∙ is)
+
+    with_bytes : has_bytes p ≡ true → HoldsSlabs p (removed n opens) (map.remove runs (slab_at p n))
+    with_bytes own = record {
+      each = λ o m b is. (let ne = still n m b opens is in
+          gone_other runs (slab_at p n) (slab_at p m) (λ e. ne (slab_apart p.first p.slab n m some (sym e))) ∙ h.each o m b (sym (at_removed n m opens ne) ∙ is));
+      only = λ q bytes is. ⊎_elim
+          (λ e. absurd (none-some bytes (sym (gone_same runs (slab_at p n) q e) ∙ is)))
+          (λ ne. let o = h.only q bytes (sym (gone_other runs (slab_at p n) q ne) ∙ is) in record {
+            own = own;
+            number = o.number;
+            slab = o.slab;
+            first_is = o.first_is;
+            slab_is = at_removed n o.number opens (λ e. ne (o.first_is ∙ ap (λ (y : ℕ). slab_at p y) (sym e))) ∙ o.slab_is;
+            bytes_is = o.bytes_is;
+          })
+          (cases_eq q (slab_at p n));
+      whole = whole;
+    }
+
+    of : (own : Bool) → has_bytes p ≡ own → HoldsSlabs p (removed n opens) (cond (has_bytes p) (map.remove runs (slab_at p n)) runs)
+    of true own = subst (λ (r : PageRuns). HoldsSlabs p (removed n opens) r) (ap (λ (t : Bool). cond t (map.remove runs (slab_at p n)) runs) (sym own)) (with_bytes own)
+    of false off = subst (λ (r : PageRuns). HoldsSlabs p (removed n opens) r) (ap (λ (t : Bool). cond t (map.remove runs (slab_at p n)) runs) (sym off)) (holds_without p opens (removed n opens) runs off whole h)
+
+-- ---- a slab is purged
+drop_whole : (n : ℕ) (b : List ℕ) → length b ≤ n → drop n b ≡ []
+drop_whole zero [] le = refl
+drop_whole (suc n) [] le = refl
+drop_whole zero (x ∷ b) le = absurd (omega arith)
+drop_whole (suc n) (x ∷ b) le = drop_whole n b (omega arith)
+
+append_nil : (b : List ℕ) → b ++ [] ≡ b
+append_nil [] = refl
+append_nil (x ∷ b) = ap (λ (l : List ℕ). x ∷ l) (append_nil b)
+
+-- bytes that are all written over
+all_over : (b w : List ℕ) (i : ℕ) → i ≡ 0 → length b ≡ length w → w ≡ written b i w
+all_over b w i e same = sym (ap (λ (j : ℕ). written b j w) e ∙ ap (λ (l : List ℕ). w ++ l) (drop_whole (0 + length w) b (omega arith)) ∙ append_nil w)
+
+pub holds_purged : (p : Shape) (opens : List (ℕ × Slab)) (n : ℕ) (runs : PageRuns) → IsShape p → has_bytes p ≡ true → has n opens ≡ true → HoldsSlabs p opens runs
+    → HoldsSlabs p (overlaid_slabs p (slab_at p n) (zeros p.slab) opens) (map.insert runs (slab_at p n) (zeros p.slab))
+holds_purged p opens n runs shape own on h =
+    let b = on_some opens n on in
+    let z : length (zeros p.slab) ≡ p.slab = length-replicate {A = ℕ} p.slab 0 in
+    let len : length b.0.bytes ≡ p.slab = all_bytes p opens runs h own n b.0 b.1 in
+    let some : 1 ≤ p.slab = omega (arith, slab_some p shape) in
+    holds_write p opens (slab_at p n) p.slab (zeros p.slab) runs (map.insert runs (slab_at p n) (zeros p.slab)) shape z h (record {
+      first = slab_at p n;
+      bytes = b.0.bytes;
+      is_run = h.each own n b.0 b.1;
+      lies = record { some = omega (arith, some); from = omega arith; to = omega (arith, len) };
+      value = ap (λ (l : List ℕ). map.insert runs (slab_at p n) l) (all_over b.0.bytes (zeros p.slab) (slab_at p n - slab_at p n) (omega arith) (len ∙ sym z));
+    })

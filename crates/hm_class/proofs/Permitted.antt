@@ -1,62 +1,51 @@
 -- The entries that the calls add are allowed.
-use Rattle.std.proofs.Common.{◌≡◌, inl, inr, ⊎_elim, ℕ, ◌+◌, ◌*◌, ◌<◌, ◌≤◌, min, Bool, true, false, IsTrue, cond, not, ◌||◌, ◌&&◌, ◌==◌, nat_lt, List, [], ◌∷◌, length, slice_get, take, Option, Some, None, is_some, option_map, sym, ◌∙◌, ap, subst, refl, arith, true≢false}
-use Rattle.std.specs.List.{filter}
+use Rattle.std.proofs.Common.{◌≡◌, ◌≢◌, ◌⊎◌, inl, inr, ⊎_elim, ℕ, zero, suc, ◌+◌, ◌*◌, ◌<◌, ◌≤◌, Bool, true, false, IsTrue, cond, not, ◌||◌, ◌&&◌, ◌==◌, nat_lt, List, [], ◌∷◌, length, get_or, slice_get, Option, Some, None, is_some, unwrap_or, option_map, sym, ◌∙◌, ap, subst, refl, arith, true≢false}
 use Rattle.std.specs.Option.{option_and_then, option_map_or}
 use Rattle.std.specs.Int.{from_le_bytes}
 use mir.Syntax.{w64}
+use Rattle.std.proofs.lemmas.Bool.{and_parts}
 use Rattle.std.proofs.lemmas.Bool.Decides.{nat_tests}
-use Rattle.std.proofs.lemmas.List.{length-map}
-use Rattle.std.proofs.lemmas.Nat.{mul-le}
-use Rattle.std.proofs.lemmas.Option.{slice_get_within}
-use Rattle.hm_outside.specs.PageRuns.{PageRuns, IsHeld, Reads, zeros}
-use Rattle.hm_model.specs.Maps.{among, at, keys, without}
+use Rattle.std.proofs.lemmas.Option.{slice_get_within, slice_get-get_or, none-some, same_Some}
+use Rattle.hm_outside.specs.PageRuns.{PageRuns, IsHeld, Reads}
+use Rattle.hm_model.specs.Maps.{among, at, keys}
 use Rattle.hm_model.specs.declared.entry.Who.{Who}
 use Rattle.hm_model.specs.declared.entry.Call.{Call}
-use Rattle.hm_model.specs.declared.entry.Call.TheVariants.{Allot, GiveBack}
 use Rattle.hm_model.specs.declared.entry.Reply.{Reply}
-use Rattle.hm_model.specs.declared.entry.Reply.TheVariants as reply
 use Rattle.hm_model.specs.declared.entry.Choices.{Choices}
+use Rattle.hm_model.specs.declared.entry.Draws.{Draws}
 use Rattle.hm_model.specs.Entries.{AreDraws}
-use Rattle.hm_model.proofs.Lists.{same_eq}
+use Rattle.hm_model.proofs.Lists.{times_among, same_eq}
 use Rattle.hm_sizes.proofs.PlaceTest.{place_is}
 use Rattle.hm_sizes.specs.declared.config.Config.{Config}
 use Rattle.hm_sizes.specs.declared.shape.Shape.{Shape}
-use Rattle.hm_sizes.specs.Shapes.{IsShape, IsPlaceOf, IsGuard, place, slab_of, slot_of, has_bytes, usable, class_size_of, delay}
-use Rattle.hm_sizes.specs.Sizes.{raised}
-use Rattle.hm_class_rules.specs.State.{State, Slab, is_open, is_live, is_empty, empty_slabs, unopened}
-use Rattle.hm_class_rules.specs.Steps.{opened, takes_back, releases}
+use Rattle.hm_sizes.specs.Shapes.{IsShape, IsPlaceOf, IsGuard, place, slab_of, slot_of, has_bytes, usable}
+use Rattle.hm_class_rules.specs.State.{State, Slab, is_open, is_live, is_taken, is_partial, is_empty, unopened}
+use Rattle.hm_class_rules.specs.Kinds.{Kind, Partial, Empty, Neither, kind, same_kind}
 use Rattle.hm_class_rules.specs.Bytes.{first_nonzero, usable_bytes, kept_canary, found_canary}
-use Rattle.hm_class_rules.specs.Rules.{Terms, Allows, Allowed, Asks, Picks, Source, IsLiveBlock, IsNoSlot, IsUnused, IsDoubleFree, chose_none, reuse_finds, surplus, wrong_size, wrong_canary, Empties}
-use Rattle.hm_class_rules.specs.Laws.{IsSound}
+use Rattle.hm_class_rules.specs.Rules.{Terms, Allows, Allowed, Asks, Source, IsLiveBlock, IsNoSlot, IsUnused, IsDoubleFree, wrong_canary}
+use Rattle.hm_class_rules.specs.Laws.{IsSound, uses}
 use Rattle.hm_class_rules.proofs.Sound.{has_times}
+use Rattle.hm_class_rules.proofs.Changes.{kind_partial, kind_empty}
 use Rattle.hm_class.specs.declared.slab.SlotUse.{SlotUse}
-use Rattle.hm_class.specs.declared.slab.SlotUse.TheVariants.{Live}
+use Rattle.hm_class.specs.declared.slab.SlotUse.TheVariants.{Never, Live}
 use Rattle.hm_class.specs.declared.slabs.Slot.{Slot}
-use Rattle.hm_class.specs.declared.slabs.Source.TheVariants as from
 use Rattle.hm_class.specs.declared.slabs.Refusal.TheVariants as refusal
 use Rattle.hm_class.specs.declared.slabs.Verdict.TheVariants as verdict
-use Rattle.hm_class.specs.Uses.{Uses, SlabUse, lives, was_given, occupied, is_partly, is_unused, slab_in, use_at, passes_at, canary_at}
-use Rattle.hm_class.specs.Sources.{NonePartly, Sources, Refuses, Judges}
-use Rattle.hm_class.specs.Calls.{entry_of, chose_new, chose_released}
+use Rattle.hm_class.specs.Uses.{Uses, SlabUse, lives, was_given, occupied, has_available, is_available, is_partly, is_unused, has_occupied, kind_of, kind_at, slab_in, use_at, passes_at, canary_at, taken_uses, with_slab, fresh_slab}
+use Rattle.hm_class.specs.Sources.{Refuses, Judges}
+use Rattle.hm_class.specs.Calls.{entry_of}
 use Rattle.hm_class.specs.Judgements.{other_number}
-use Rattle.hm_class.specs.Kept.{Shows, IsServed}
+use Rattle.hm_class.specs.Kept.{Shows}
 use Rattle.hm_class.specs.Region.{HoldsSlabs}
-use Rattle.hm_class.proofs.Counts.{mapped}
-use Rattle.hm_class.proofs.Entered.{has_put_same, length_overlaid}
 use Rattle.hm_class.proofs.Paged.{held_in, reads_bytes}
-use Rattle.hm_class.proofs.Places.{slab_of_place, place_test, place_within, usable_within}
-use Rattle.hm_class.proofs.Used.{found, slab_past}
-use Rattle.hm_class.proofs.Shown.{taken_is, empty_is, partial_is, none_serves, none_partial_is}
-use Rattle.hm_class.proofs.Followed.{fresh, opened_fresh}
+use Rattle.hm_class.proofs.Places.{slab_of_place, place_test, place_within, place_same, usable_within}
+use Rattle.hm_class.proofs.Used.{found, slab_new}
+use Rattle.hm_class.proofs.Shown.{taken_is, kind_is, by_false}
 
--- nothing was drawn
-pub no_draws : AreDraws (record { used = 0; w0 = 0; w1 = 0; w2 = 0 })
-no_draws = record { first = λ lt. refl; second = λ lt. refl; third = λ lt. refl }
-
--- an entry without draws is allowed where its call asks and is answered as the rules say
-pub allowed_of : (t : Terms) (s : State) (who : Who) (call : Call) (answer : Reply) (choices : Choices) (before now : ℕ) → Asks t.shape call → before ≡ s.faults → before ≤ now → Allows t s before now choices call answer
-    → Allowed t s (entry_of who call answer choices before now)
-allowed_of t s who call answer choices before now asks is later allows = record { draws = no_draws; asks = asks; follows = is; later = later; allows = allows }
+-- an entry is allowed where its call asks and is answered as the rules say
+pub allowed_of : (t : Terms) (s : State) (who : Who) (call : Call) (answer : Reply) (choices : Choices) (draws : Draws) (before now : ℕ) → AreDraws draws → Asks t.shape call → before ≡ s.faults → before ≤ now → Allows t s before now choices call answer
+    → Allowed t s (entry_of who call answer choices draws before now)
+allowed_of t s who call answer choices draws before now are asks is later allows = record { draws = are; asks = asks; follows = is; later = later; allows = allows }
 
 -- ---- places
 -- the slots of open slabs are places
@@ -65,108 +54,114 @@ open_place p s n i h on lt =
     let used = has_times n s.opens on in
     record { below = h.below_limit n (omega (arith, used)); no_guard = h.no_guard n (omega (arith, used)); slot = lt; is = refl }
 
--- so are those of the next fresh slab
-pub next_place : (p : Shape) (s : State) (n i : ℕ) → IsSound p s → n ≡ s.next → n < p.limit → i < p.slots → IsPlaceOf p (place p n i) n i
-next_place p s n i h is below lt = record { below = below; no_guard = subst (λ (k : ℕ). IsGuard p k → ⊥) (sym is) h.next_no_guard; slot = lt; is = refl }
+-- ---- a slab that serves
+-- an open slab with an available slot
+pub record IsServing (all : Uses) (n : ℕ) : Type 0 where
+  pub slab : SlabUse
+  pub is_slab : slab_in all n ≡ Some slab
+  pub on : slab.opened ≡ true
+  pub has : has_available slab.slots ≡ true
 
--- ---- allotting
-no_canary : (b : Bool) → false ≡ (b && false)
-no_canary true = refl
-no_canary false = refl
+by_kind : (o x y : Bool) → cond (not o) Neither (cond x Partial (cond y Empty Neither)) ≢ Neither → (o ≡ true) × ((x ≡ true) ⊎ (y ≡ true))
+by_kind false x y ne = absurd (ne refl)
+by_kind true true y ne = (refl, inl refl)
+by_kind true false true ne = (refl, inr refl)
+by_kind true false false ne = absurd (ne refl)
 
--- what an available slot is in the state
-pub record IsOpenSlot (p : Shape) (uses : Uses) (s : State) (n i : ℕ) : Type 0 where
-  pub found_use : SlotUse
-  pub is_use : use_at uses n i ≡ Some found_use
-  pub free : occupied found_use ≡ false
-  pub open_slab : is_open s n ≡ true
-  pub within : i < p.slots
-  pub not_taken : passes_at occupied uses n i ≡ false
-
-pub open_slot : (p : Shape) (uses : Uses) (s : State) (n i : ℕ) → Shows p uses s → option_map occupied (use_at uses n i) ≡ Some false → IsOpenSlot p uses s n i
-open_slot p uses s n i h free =
-    let m = mapped occupied (use_at uses n i) false free in
-    let f = found uses n i m.0 m.1 in
-    record {
-      found_use = m.0;
-      is_use = m.1;
-      free = m.2;
-      open_slab = h.opens n ∙ ap (λ (o : Option SlabUse). is_some o) f.is_slab;
-      within = omega (arith, slice_get_within f.slab.slots i m.0 f.is_use, h.slots n f.slab f.is_slab);
-      not_taken = ap (λ (o : Option SlotUse). option_map_or occupied o false) m.1 ∙ m.2;
-    }
-
-partly_source : (p : Shape) (uses : Uses) (s : State) (n : ℕ) → Shows p uses s → option_map is_partly (slab_in uses n) ≡ Some true → Source p s None n
-partly_source p uses s n h e = let m = mapped is_partly (slab_in uses n) true e in inl (partial_is p uses s n m.0 h m.1 ∙ m.2)
-
-unused_source : (p : Shape) (uses : Uses) (s : State) (n : ℕ) → Shows p uses s → NonePartly uses → option_map is_unused (slab_in uses n) ≡ Some true → Source p s None n
-unused_source p uses s n h none e =
-    let m = mapped is_unused (slab_in uses n) true e in
-    inr (none_partial_is p uses s h none, empty_is p uses s n m.0 h m.1 ∙ first _ _ m.2)
+pub serving_of : (all : Uses) (n : ℕ) → kind_at all n ≢ Neither → IsServing all n
+serving_of all n ne = of (slab_in all n) refl
   where
-    first : (a b : Bool) → (a && b) ≡ true → a ≡ true
-    first true b e = refl
-    first false b e = e
+    of : (o : Option SlabUse) → slab_in all n ≡ o → IsServing all n
+    of None is = absurd (ne (ap (λ (o : Option SlabUse). option_map_or kind_of o Neither) is))
+    of (Some b) is =
+        let r = by_kind b.opened (is_partly b) (is_unused b) (λ e. ne (ap (λ (o : Option SlabUse). option_map_or kind_of o Neither) is ∙ e)) in
+        record {
+          slab = b;
+          is_slab = is;
+          on = r.0;
+          has = ⊎_elim (λ (e : is_partly b ≡ true). (and_parts (has_occupied b.slots) (has_available b.slots) e).1) (λ (e : is_unused b ≡ true). (and_parts (not (has_occupied b.slots)) (has_available b.slots) e).1) r.1;
+        }
 
-pub picks_open : (p : Shape) (uses : Uses) (s : State) (limit : ℕ) (slot : Slot) → IsShape p → IsSound p s → Shows p uses s → Sources limit uses (from.Open slot) → Picks p s s chose_none (place p slot.slab slot.index)
-picks_open p uses s limit slot shape sound h source =
-    let a : ℕ = place p slot.slab slot.index in
-    let o = open_slot p uses s slot.slab slot.index h source.0 in
-    let slab : slab_of p a ≡ slot.slab = slab_of_place p slot.slab slot.index shape o.within in
-    record {
-      place = place_test p a slot.slab slot.index shape (open_place p s slot.slab slot.index sound o.open_slab o.within);
-      source = subst (λ (n : ℕ). Source p s None n) (sym slab) (⊎_elim (partly_source p uses s slot.slab h) (λ r. unused_source p uses s slot.slab h r.0 r.1) source.1);
-      open_slab = subst (λ (n : ℕ). is_open s n ≡ true) (sym slab) o.open_slab;
-      free = taken_is p uses s slot.slab slot.index h o.within ∙ o.not_taken;
-      canary = no_canary (has_bytes p);
-      choices = refl;
-    }
+partial_serves : Partial ≢ Neither
+partial_serves e = true≢false (ap (λ (k : Kind). same_kind Partial k) e)
 
-none_left : (p : Shape) (shut : List ℕ) (next : ℕ) → shut ≡ [] → p.limit ≤ next → unopened p shut next ≡ None
-none_left p shut next e le = ap (λ (l : List ℕ). unopened p l next) e ∙ grind (arith, nat_tests)
+empty_serves : Empty ≢ Neither
+empty_serves e = true≢false (ap (λ (k : Kind). same_kind Empty k) e)
 
-some_left : (p : Shape) (shut : List ℕ) (next : ℕ) → shut ≡ [] → next < p.limit → unopened p shut next ≡ Some next
-some_left p shut next e lt = ap (λ (l : List ℕ). unopened p l next) e ∙ grind (arith, nat_tests)
+pub source_serves : (p : Shape) (all : Uses) (s : State) (n : ℕ) → IsShape p → Shows p all s → Source p s None n → IsServing all n
+source_serves p all s n shape h source =
+    serving_of all n (λ e. ⊎_elim
+    (λ (partial : is_partial p s n ≡ true). partial_serves (sym (kind_partial p s n partial) ∙ kind_is p all s n shape h ∙ e))
+    (λ (empty : is_empty p s n ≡ true). empty_serves (sym (kind_empty p s n empty) ∙ kind_is p all s n shape h ∙ e))
+    (⊎_elim (λ (a : is_partial p s n ≡ true). inl a) (λ r. inr r.1) source))
 
-pub picks_new : (p : Shape) (uses : Uses) (s : State) (n : ℕ) → IsShape p → has_bytes p ≡ true → IsSound p s → Shows p uses s → Sources p.limit uses (from.New n) → Picks p s (opened p (Some n) (Some 0) s) (chose_new n) (place p n 0)
-picks_new p uses s n shape bytes sound h source =
-    let a : ℕ = place p n 0 in
-    let some : 0 < p.slots = omega (arith, shape.slots_some) in
-    let next : n ≡ s.next = source.2 ∙ sym h.next in
-    let slab : slab_of p a ≡ n = slab_of_place p n 0 shape some in
-    let s' : State = fresh p n (Some 0) s in
-    let not_taken : passes_at occupied uses n 0 ≡ false = ap (λ (o : Option SlabUse). option_map_or occupied (option_and_then (λ (b : SlabUse). slice_get b.slots 0) o) false) (slab_past uses n (omega (arith, source.2))) in
-    subst (λ (now : State). Picks p s now (chose_new n) a) (sym (opened_fresh p n (Some 0) s h.shut)) (record {
-      place = place_test p a n 0 shape (next_place p s n 0 sound next source.3 some);
-      source = subst (λ (m : ℕ). Source p s (Some n) m) (sym slab) (
-        refl,
-        none_serves p uses s shape h source.0 source.1,
-        some_left p s.shut s.next h.shut (omega (arith, source.3, next)) ∙ ap (λ (m : ℕ). Some m) (sym next),
-      );
-      open_slab = subst (λ (m : ℕ). is_open s' m ≡ true) (sym slab) (has_put_same n _ s.opens);
-      free = taken_is p uses s n 0 h some ∙ not_taken;
-      canary = ap (λ (b : Bool). b && true) (sym bytes);
-      choices = refl;
-    })
+-- ---- a slab that is opened
+-- an address of a slab that is not open is not taken
+taken_used : (s : State) (a : ℕ) → is_taken s a ≡ true → 1 ≤ uses s a
+taken_used s a e =
+    of (is_live s a) (among a s.held) (among a s.condemned) refl refl refl e
+  where
+    of : (x y z : Bool) → is_live s a ≡ x → among a s.held ≡ y → among a s.condemned ≡ z → (x || (y || z)) ≡ true → 1 ≤ uses s a
+    of true y z live held condemned e = omega (arith, has_times a s.live live)
+    of false true z live held condemned e = omega (arith, times_among a s.held held)
+    of false false true live held condemned e = omega (arith, times_among a s.condemned condemned)
+    of false false false live held condemned e = absurd (true≢false (sym e))
 
-pub exhausted_allowed : (t : Terms) (uses : Uses) (s : State) (who : Who) (asked before now : ℕ) → IsShape t.shape → Shows t.shape uses s → Sources t.shape.limit uses from.Exhausted
-    → raised asked ≤ class_size_of t.shape → before ≡ s.faults → before ≤ now
-    → Allowed t s (entry_of who (Allot asked 1) reply.Exhausted chose_none before now)
-exhausted_allowed t uses s who asked before now shape h source asks is later =
-    allowed_of t s who (Allot asked 1) reply.Exhausted chose_none before now (asks, refl) is later
-    (none_serves t.shape uses s shape h source.0 source.1, none_left t.shape s.shut s.next h.shut (omega (arith, source.2, h.next)), refl)
+pub not_taken : (p : Shape) (s : State) (n i : ℕ) → IsShape p → IsSound p s → is_open s n ≡ false → i < p.slots → is_taken s (place p n i) ≡ false
+not_taken p s n i shape h off lt = by_false (is_taken s (place p n i)) (λ e.
+    (let r = h.placed (place p n i) (taken_used s (place p n i) e) in
+    let same = place_same p n i r.slab r.slot shape lt r.is_place.slot r.is_place.is in
+    true≢false (sym r.open_slab ∙ ap (λ (m : ℕ). is_open s m) (sym same.0) ∙ off)))
 
-pub failed_allowed : (t : Terms) (uses : Uses) (s : State) (n : ℕ) (who : Who) (asked before now : ℕ) → IsShape t.shape → has_bytes t.shape ≡ true → Shows t.shape uses s → Sources t.shape.limit uses (from.New n)
-    → raised asked ≤ class_size_of t.shape → before ≡ s.faults → before < now
-    → Allowed t s (entry_of who (Allot asked 1) reply.PagesFailed chose_none before now)
-failed_allowed t uses s n who asked before now shape bytes h source asks is rose =
-    allowed_of t s who (Allot asked 1) reply.PagesFailed chose_none before now (asks, refl) is (omega arith) (
-      none_serves t.shape uses s shape h source.0 source.1,
-      ap (λ (o : Option ℕ). is_some o) (some_left t.shape s.shut s.next h.shut (omega (arith, source.2, source.3, h.next))),
-      bytes,
-      rose,
-      refl,
-    )
+-- the slab that is opened next
+pub record IsNew (p : Shape) (all : Uses) (s : State) (n : ℕ) : Type 0 where
+  pub off : is_open s n ≡ false
+  pub below : n < p.limit
+  pub no_guard : IsGuard p n → ⊥
+  pub there : is_some (slab_in (taken_uses p s.shut all) n) ≡ true
+
+fresh_next : (next limit n : ℕ) → cond (nat_lt next limit) (Some next) None ≡ Some n → (n ≡ next) × (next < limit)
+fresh_next next limit n e = of (nat_lt next limit) refl e
+  where
+    below : (a b : ℕ) → nat_lt a b ≡ true → a < b
+    below a b e = grind (arith, nat_tests)
+
+    of : (t : Bool) → nat_lt next limit ≡ t → cond t (Some next) None ≡ Some n → (n ≡ next) × (next < limit)
+    of true lt e = (sym (same_Some next n e), below next limit lt)
+    of false ge e = absurd (none-some n e)
+
+closed : (s : State) (n : ℕ) → (is_open s n ≡ true → ⊥) → is_open s n ≡ false
+closed s n no_open = by_false (is_open s n) no_open
+
+among_first : (m : ℕ) (ms : List ℕ) → among m (m ∷ ms) ≡ true
+among_first m ms = ap (λ (b : Bool). b || among m ms) (same_eq m m refl)
+
+pub new_slab_is : (p : Shape) (all : Uses) (s : State) (n : ℕ) → IsSound p s → Shows p all s → unopened p s.shut s.next ≡ Some n → IsNew p all s n
+new_slab_is p all s n sound h e = of s.shut refl e
+  where
+    of : (shut : List ℕ) → s.shut ≡ shut → unopened p shut s.next ≡ Some n → IsNew p all s n
+    of [] none e =
+        let r = fresh_next s.next p.limit n e in
+        record {
+          off = closed s n (λ on. absurd (omega (arith, sound.below_next n (omega (arith, has_times n s.opens on)), r.0)));
+          below = omega (arith, r.0, r.1);
+          no_guard = subst (λ (k : ℕ). IsGuard p k → ⊥) (sym r.0) sound.next_no_guard;
+          there = ap (λ (l : List ℕ). is_some (slab_in (taken_uses p l all) n)) none ∙ ap (λ (m : ℕ). is_some (slab_in (with_slab p all (fresh_slab p.slots)) m)) (r.0 ∙ h.next) ∙ ap (λ (o : Option SlabUse). is_some o) (slab_new p all (fresh_slab p.slots));
+        }
+    of (m ∷ ms) is e =
+        let same : m ≡ n = same_Some m n e in
+        let at_n : among n s.shut ≡ true = ap (λ (l : List ℕ). among n l) is ∙ ap (λ (k : ℕ). among n (k ∷ ms)) same ∙ among_first n ms in
+        record {
+          off = closed s n (λ on. absurd (omega (arith, sound.slab_once n, has_times n s.opens on, times_among n s.shut at_n)));
+          below = sound.below_limit n (omega (arith, times_among n s.shut at_n));
+          no_guard = sound.no_guard n (omega (arith, times_among n s.shut at_n));
+          there = ap (λ (l : List ℕ). is_some (slab_in (taken_uses p l all) n)) is ∙ h.shut n at_n;
+        }
+
+-- where its first slot is not occupied a slab has an available one
+pub has_one : (slots : List SlotUse) → 1 ≤ length slots → option_map_or occupied (slice_get slots 0) false ≡ false → has_available slots ≡ true
+has_one [] some e = absurd (omega arith)
+has_one (u ∷ us) some e = ap (λ (b : Bool). not b || has_available us) e
 
 -- ---- the bytes of a slot
 -- a slot with bytes lies in its slab, its usable bytes and then its canary
@@ -191,26 +186,6 @@ first_found p s n i runs found shape own on lt h finds =
 pub kept_is : (p : Shape) (uses : Uses) (s : State) (n i : ℕ) → IsShape p → i < p.slots → Shows p uses s → kept_canary p s (place p n i) ≡ canary_at uses n
 kept_is p uses s n i shape lt h = ap (λ (m : ℕ). option_map_or (λ (b : Slab). b.canary) (at m s.opens) 0) (slab_of_place p n i shape lt) ∙ h.canary n
 
--- where reuse is checked, what it finds
-finds_is : (c : Config) (p : Shape) (s : State) (a : ℕ) (found : Option (ℕ × ℕ)) → c.check_reuse ≡ true → first_nonzero (usable_bytes p s a) ≡ found → reuse_finds c p s a ≡ found
-finds_is c p s a found checks is = ap (λ (b : Bool). cond b (first_nonzero (usable_bytes p s a)) None) checks ∙ is
-
-pub given_allowed : (t : Terms) (s : State) (who : Who) (asked before now a size : ℕ) (choices : Choices) → raised asked ≤ class_size_of t.shape → before ≡ s.faults → before ≤ now → t.config.check_reuse ≡ true
-    → Picks t.shape s (opened t.shape choices.opened choices.canary s) choices a → size ≡ usable t.shape
-    → (IsTrue t.told → first_nonzero (usable_bytes t.shape (opened t.shape choices.opened choices.canary s) a) ≡ None)
-    → Allowed t s (entry_of who (Allot asked 1) (reply.Given a size) choices before now)
-given_allowed t s who asked before now a size choices asks is later checks picks fits clean =
-    allowed_of t s who (Allot asked 1) (reply.Given a size) choices before now (asks, refl) is later
-    (picks, fits, λ told. finds_is t.config t.shape (opened t.shape choices.opened choices.canary s) a None checks (clean told))
-
-pub overwritten_allowed : (t : Terms) (s : State) (who : Who) (asked before now a at found : ℕ) (choices : Choices) → raised asked ≤ class_size_of t.shape → before ≡ s.faults → before ≤ now → t.config.check_reuse ≡ true
-    → Picks t.shape s (opened t.shape choices.opened choices.canary s) choices a
-    → (IsTrue t.told → first_nonzero (usable_bytes t.shape (opened t.shape choices.opened choices.canary s) a) ≡ Some (at, found))
-    → Allowed t s (entry_of who (Allot asked 1) (reply.Overwritten a at found) choices before now)
-overwritten_allowed t s who asked before now a at found choices asks is later checks picks stained =
-    allowed_of t s who (Allot asked 1) (reply.Overwritten a at found) choices before now (asks, refl) is later
-    (picks, checks, λ told. finds_is t.config t.shape (opened t.shape choices.opened choices.canary s) a (Some (at, found)) checks (stained told))
-
 -- ---- what is said of an address
 module _ (p : Shape) (uses : Uses) (s : State) (a : ℕ) (shape : IsShape p) (h : Shows p uses s) where
   pub no_slot : Refuses p uses a refusal.NoSlot → IsNoSlot p s a
@@ -234,9 +209,12 @@ module _ (p : Shape) (uses : Uses) (s : State) (a : ℕ) (shape : IsShape p) (h 
     live = ap (λ (q : ℕ). is_live s q) judged.0.is ∙ h.live slot.slab slot.index judged.0.slot ∙ ap (λ (o : Option SlotUse). option_map_or lives o false) judged.1;
   }
 
--- the slab of a live slot is open
-pub live_open : (p : Shape) (uses : Uses) (s : State) (n i : ℕ) → Shows p uses s → use_at uses n i ≡ Some Live → is_open s n ≡ true
-live_open p uses s n i h is = let f = found uses n i Live is in h.opens n ∙ ap (λ (o : Option SlabUse). is_some o) f.is_slab
+-- the slab of a live address is open
+pub live_open : (p : Shape) (s : State) (n i : ℕ) → IsShape p → IsSound p s → i < p.slots → is_live s (place p n i) ≡ true → is_open s n ≡ true
+live_open p s n i shape sound lt live =
+    let r = sound.placed (place p n i) (omega (arith, has_times (place p n i) s.live live)) in
+    let same = place_same p n i r.slab r.slot shape lt r.is_place.slot r.is_place.is in
+    ap (λ (m : ℕ). is_open s m) same.0 ∙ r.open_slab
 
 -- ---- canaries
 abbrev pub pair_with : ℕ → ℕ → ℕ × ℕ
@@ -255,11 +233,10 @@ number_is last canary true e = of (from_le_bytes w64 last == canary)
 number_is last canary false e = absurd (true≢false (sym e))
 
 -- what is found where a slot's canary stands
-pub canary_found : (p : Shape) (uses : Uses) (s : State) (n i a : ℕ) (runs : PageRuns) (found : Option ℕ) → IsShape p → has_bytes p ≡ true → IsPlaceOf p a n i → use_at uses n i ≡ Some Live → Shows p uses s → HoldsSlabs p s.opens runs
+pub canary_found : (p : Shape) (uses : Uses) (s : State) (n i a : ℕ) (runs : PageRuns) (found : Option ℕ) → IsShape p → has_bytes p ≡ true → IsPlaceOf p a n i → is_open s n ≡ true → Shows p uses s → HoldsSlabs p s.opens runs
     → (IsHeld runs (a + usable p) 8 → (last : List ℕ) × Reads runs (a + usable p) 8 last × (found ≡ other_number last (canary_at uses n)))
     → wrong_canary p s a ≡ option_map (pair_with (canary_at uses n)) found
-canary_found p uses s n i a runs found shape own at live h holds finds =
-    let on = live_open p uses s n i h live in
+canary_found p uses s n i a runs found shape own at on h holds finds =
     let held : IsHeld runs (a + usable p) 8 = subst (λ (q : ℕ). IsHeld runs (q + usable p) 8) (sym at.is) (canary_held p s n i runs shape own on at.slot holds) in
     let r = finds held in
     let kept : kept_canary p s a ≡ canary_at uses n = ap (λ (q : ℕ). kept_canary p s q) at.is ∙ kept_is p uses s n i shape at.slot h in
@@ -268,55 +245,3 @@ canary_found p uses s n i a runs found shape own at live h holds finds =
     ∙ ap (λ (f : ℕ). cond (has_bytes p && not (f == canary_at uses n)) (told_pair (canary_at uses n) f) None) read
     ∙ number_is r.0 (canary_at uses n) (has_bytes p) own
     ∙ ap (λ (o : Option ℕ). option_map (pair_with (canary_at uses n)) o) (sym r.2)
-
-length_filter : {X : Type 0} (f : X → Bool) (xs : List X) → length (filter f xs) ≤ length xs
-length_filter f [] = omega arith
-length_filter f (x ∷ xs) =
-    elim (f x) as (λ b. length (cond b (x ∷ filter f xs) (filter f xs)) ≤ length (x ∷ xs)) [ true ↦ omega (arith, length_filter f xs) | false ↦ omega (arith, length_filter f xs) ]
-
-twenty_eight : (k l e : ℕ) → k ≡ 36 → k * l ≤ e + k → e < 1000 → l ≤ 28
-twenty_eight k l e is le lt = let le' : 36 * l ≤ e + 36 = subst (λ (x : ℕ). x * l ≤ e + x) is le in omega (arith, le')
-
--- as long as there are few slabs, none is to go
-few_empty : (p : Shape) (s : State) → p.slab ≡ 4096 → length s.opens ≤ 28 → nat_lt 131072 (length (empty_slabs p s) * p.slab) ≡ false
-few_empty p s page few =
-    let le : length (empty_slabs p s) ≤ 28 = omega (arith, length_filter (is_empty p s) (keys s.opens), length-map s.opens (λ e. e.0), few) in
-    not_above _ (omega (arith, mul-le (length (empty_slabs p s)) p.slab 28 4096 le (omega (arith, page))))
-  where
-    not_above : (n : ℕ) → n ≤ 131072 → nat_lt 131072 n ≡ false
-    not_above n le = grind (arith, nat_tests)
-
-and_false : (b c : Bool) → c ≡ false → (b && c) ≡ false
-and_false true c e = e
-and_false false c e = refl
-
-pub none_surplus : (p : Shape) (s : State) (b : ℕ) → p.slab ≡ 4096 → length s.opens ≤ 28 → surplus p s (Some b) ≡ None
-none_surplus p s b page few = ap (λ (x : Bool). cond x (Some (slab_of p b)) None) (and_false (is_empty p s (slab_of p b)) _ (few_empty p s page few))
-
-alone : (a : ℕ) (held : List ℕ) → held ≡ [] → length (without a (a ∷ held)) ≡ 0
-alone a held none = ap (λ (l : List ℕ). length (without a (a ∷ l))) none ∙ ap (λ (b : Bool). length (cond {A = List ℕ} (not b) (a ∷ []) [])) (same_eq a a refl)
-
-no_delay : (p : Shape) → p.array ≡ 0 → p.ring ≡ 0 → delay p ≡ 0
-no_delay p array ring = ap (λ (r : ℕ). r + min p.array 1) ring ∙ ap (λ (x : ℕ). 0 + min x 1) array
-
-pub freed_allowed : (t : Terms) (uses : Uses) (s : State) (arena : ℕ) (slot : Slot) (who : Who) (a faults entries : ℕ) (stated : Option ℕ) → IsServed t.config arena t.shape → Shows t.shape uses s
-    → Judges t.shape uses a (verdict.Live slot) → wrong_size t.shape stated ≡ None → (IsTrue t.told → wrong_canary t.shape s a ≡ None) → faults ≡ s.faults → t.shape.slots * length s.opens ≤ entries + t.shape.slots → entries < 1000
-    → Allowed t s (entry_of who (GiveBack a stated) reply.Freed (chose_released a) faults faults)
-freed_allowed t uses s arena slot who a faults entries stated served h judged size canary is few lt =
-    let p : Shape = t.shape in
-    let s' : State = takes_back p a s in
-    let s'' : State = releases (Some a) s' in
-    let fits : length (without a s'.held) ≤ p.array + p.ring = omega (arith, alone a s.held h.held) in
-    let opens_few : length s''.opens ≤ 28 = omega (arith, length_overlaid p a (zeros (usable p)) s.opens, twenty_eight p.slots (length s.opens) entries served.slots few lt) in
-    allowed_of t s who (GiveBack a stated) reply.Freed (chose_released a) faults faults tt is (omega arith) (record {
-      block = live_block p uses s a served.shape h slot judged;
-      size = size;
-      canary = canary;
-      release = (
-        ap (λ (b : Bool). b || among a s.held) (same_eq a a refl),
-        ap (λ (d : ℕ). among a (take d (a ∷ s.frees))) (no_delay p served.no_array served.no_ring),
-        fits,
-      );
-      emptied = subst (λ (o : Option ℕ). Empties t s'' faults faults (chose_released a) o) (sym (none_surplus p s'' a served.page opens_few)) (refl, refl, refl);
-      choices = refl;
-    })

@@ -1,15 +1,15 @@
 -- How slots are used after one of them changed, or a slab was opened.
 use Rattle.std.proofs.Common.{◌≡◌, ◌≢◌, ⊎_elim, ℕ, zero, suc, ◌+◌, ◌<◌, ◌≤◌, Bool, true, false, cond, List, [], ◌∷◌, ◌++◌, length, get_or, slice_get, slice_set, replicate, Option, Some, None, is_some, option_map, count_by, sum_by, sym, ◌∙◌, ap, subst, refl, arith, length-append, append-nil, true≢false}
-use Rattle.std.specs.Option.{option_and_then, option_map_or}
+use Rattle.std.specs.Option.{option_and_then}
 use Rattle.std.proofs.lemmas.Bool.{cases_eq}
 use Rattle.std.proofs.lemmas.List.{length-set, get_or-set_same}
 use Rattle.std.proofs.lemmas.List.Sums.{sum_by-set, sum_by-cons, sum_by_push, sum_by-append}
-use Rattle.std.proofs.lemmas.Option.{slice_get_within, get_or_from_slice_get, slice_get-get_or, slice_get_past, none-some, same_Some}
+use Rattle.std.proofs.lemmas.Option.{slice_get_within, get_or_from_slice_get, slice_get-get_or, slice_get_past, none-some}
 use Rattle.hm_sizes.specs.declared.shape.Shape.{Shape}
 use Rattle.hm_sizes.specs.Shapes.{is_guard, after}
 use Rattle.hm_class.specs.declared.slab.SlotUse.{SlotUse}
 use Rattle.hm_class.specs.declared.slab.SlotUse.TheVariants.{Never}
-use Rattle.hm_class.specs.Uses.{Uses, SlabUse, slab_in, use_at, canary_at, with_slot, with_use, with_slab, count_in, open_count}
+use Rattle.hm_class.specs.Uses.{Uses, SlabUse, slab_in, use_at, changed, with_slot, with_use, with_slab, count_in}
 use Rattle.hm_class.proofs.Counts.{weight, count_set}
 use Rattle.hm_class.proofs.Found.{slab_there}
 
@@ -25,66 +25,63 @@ module _ {X : Type 0} where
   get_set_other (x ∷ xs) (suc i) zero y ne = refl
   get_set_other (x ∷ xs) (suc i) (suc j) y ne = get_set_other xs i j y (λ e. ne (ap (λ n. suc n) e))
 
-abbrev opens : Option SlabUse → ℕ
-opens slab = cond (is_some slab) 1 0
-
--- ---- one slot changes
-module _ (uses : Uses) (n i : ℕ) (u : SlotUse) (b : SlabUse) (is : slab_in uses n ≡ Some b) where
-  with_use_is : with_use uses n i u ≡ slice_set uses n (Some (with_slot i u b))
-  with_use_is = ap (λ (o : Option SlabUse). slice_set uses n (option_map (with_slot i u) o)) is
+-- ---- one slab changes
+module _ (uses : Uses) (n : ℕ) (f : SlabUse → SlabUse) (b : SlabUse) (is : slab_in uses n ≡ Some b) where
+  changed_is : changed uses n f ≡ slice_set uses n (Some (f b))
+  changed_is = ap (λ (o : Option SlabUse). slice_set uses n (option_map f o)) is
 
   pub within : n < length uses
   within = slice_get_within uses n (Some b) (slab_there uses n b is)
 
-  pub slab_here : slab_in (with_use uses n i u) n ≡ Some (with_slot i u b)
-  slab_here =
-      ap (λ (l : Uses). slab_in l n) with_use_is
-      ∙ ap (λ (o : Option (Option SlabUse)). option_and_then (λ slab. slab) o) (get_set_same uses n (Some (with_slot i u b)) within)
+  pub slab_changed : slab_in (changed uses n f) n ≡ Some (f b)
+  slab_changed =
+      ap (λ (l : Uses). slab_in l n) changed_is
+      ∙ ap (λ (o : Option (Option SlabUse)). option_and_then (λ slab. slab) o) (get_set_same uses n (Some (f b)) within)
 
-  pub slab_elsewhere : (m : ℕ) → m ≢ n → slab_in (with_use uses n i u) m ≡ slab_in uses m
-  slab_elsewhere m ne =
-      ap (λ (l : Uses). slab_in l m) with_use_is
-      ∙ ap (λ (o : Option (Option SlabUse)). option_and_then (λ slab. slab) o) (get_set_other uses n m (Some (with_slot i u b)) ne)
+  pub slab_beside : (m : ℕ) → m ≢ n → slab_in (changed uses n f) m ≡ slab_in uses m
+  slab_beside m ne =
+      ap (λ (l : Uses). slab_in l m) changed_is
+      ∙ ap (λ (o : Option (Option SlabUse)). option_and_then (λ slab. slab) o) (get_set_other uses n m (Some (f b)) ne)
 
-  pub use_here : i < length b.slots → use_at (with_use uses n i u) n i ≡ Some u
-  use_here lt = ap (λ (o : Option SlabUse). option_and_then (λ (b : SlabUse). slice_get b.slots i) o) slab_here ∙ get_set_same b.slots i u lt
-
-  pub use_beside : (j : ℕ) → j ≢ i → use_at (with_use uses n i u) n j ≡ use_at uses n j
-  use_beside j ne =
-      ap (λ (o : Option SlabUse). option_and_then (λ (b : SlabUse). slice_get b.slots j) o) slab_here
-      ∙ get_set_other b.slots i j u ne
-      ∙ ap (λ (o : Option SlabUse). option_and_then (λ (b : SlabUse). slice_get b.slots j) o) (sym is)
-
-  pub use_there : (m j : ℕ) → m ≢ n → use_at (with_use uses n i u) m j ≡ use_at uses m j
-  use_there m j ne = ap (λ (o : Option SlabUse). option_and_then (λ (b : SlabUse). slice_get b.slots j) o) (slab_elsewhere m ne)
-
-  pub length_with_use : length (with_use uses n i u) ≡ length uses
-  length_with_use = ap (λ (l : Uses). length l) with_use_is ∙ length-set uses n (Some (with_slot i u b))
-
-  pub canary_with_use : (m : ℕ) → canary_at (with_use uses n i u) m ≡ canary_at uses m
-  canary_with_use m =
-      ⊎_elim
-      (λ e. subst (λ (k : ℕ). canary_at (with_use uses n i u) k ≡ canary_at uses k) (sym e)
-      (ap (λ (o : Option SlabUse). option_map_or (λ (b : SlabUse). b.canary) o 0) slab_here ∙ ap (λ (o : Option SlabUse). option_map_or (λ (b : SlabUse). b.canary) o 0) (sym is)))
-      (λ ne. ap (λ (o : Option SlabUse). option_map_or (λ (b : SlabUse). b.canary) o 0) (slab_elsewhere m ne))
-      (cases_eq m n)
+  pub length_changed : length (changed uses n f) ≡ length uses
+  length_changed = ap (λ (l : Uses). length l) changed_is ∙ length-set uses n (Some (f b))
 
   there : get_or uses n None ≡ Some b
   there = get_or_from_slice_get uses n (Some b) None (slab_there uses n b is)
 
   -- the slots that pass a test
+  pub count_changed : (test : SlotUse → Bool) → sum_by (count_in test) (changed uses n f) + count_by test b.slots ≡ sum_by (count_in test) uses + count_by test (f b).slots
+  count_changed test =
+      let old : count_in test (get_or uses n None) ≡ count_by test b.slots = ap (count_in test) there in
+      let all : sum_by (count_in test) (changed uses n f) ≡ sum_by (count_in test) (slice_set uses n (Some (f b))) = ap (sum_by (count_in test)) changed_is in
+      omega (arith, sum_by-set (count_in test) uses n (Some (f b)) None within, old, all)
+
+  -- what is said of each slab, where it is said of this one and of the others
+  pub each_slab : (Says : ℕ → Option SlabUse → Type 0) → Says n (Some (f b)) → ((m : ℕ) → m ≢ n → Says m (slab_in uses m)) → (m : ℕ) → Says m (slab_in (changed uses n f) m)
+  each_slab Says here beside m =
+      ⊎_elim
+      (λ e. subst (λ (k : ℕ). Says k (slab_in (changed uses n f) k)) (sym e) (subst (λ (o : Option SlabUse). Says n o) (sym slab_changed) here))
+      (λ ne. subst (λ (o : Option SlabUse). Says m o) (sym (slab_beside m ne)) (beside m ne))
+      (cases_eq m n)
+
+-- ---- one slot changes
+module _ (uses : Uses) (n i : ℕ) (u : SlotUse) (b : SlabUse) (is : slab_in uses n ≡ Some b) where
+  pub use_here : i < length b.slots → use_at (with_use uses n i u) n i ≡ Some u
+  use_here lt = ap (λ (o : Option SlabUse). option_and_then (λ (b : SlabUse). slice_get b.slots i) o) (slab_changed uses n (with_slot i u) b is) ∙ get_set_same b.slots i u lt
+
+  pub use_beside : (j : ℕ) → j ≢ i → use_at (with_use uses n i u) n j ≡ use_at uses n j
+  use_beside j ne =
+      ap (λ (o : Option SlabUse). option_and_then (λ (b : SlabUse). slice_get b.slots j) o) (slab_changed uses n (with_slot i u) b is)
+      ∙ get_set_other b.slots i j u ne
+      ∙ ap (λ (o : Option SlabUse). option_and_then (λ (b : SlabUse). slice_get b.slots j) o) (sym is)
+
+  pub use_there : (m j : ℕ) → m ≢ n → use_at (with_use uses n i u) m j ≡ use_at uses m j
+  use_there m j ne = ap (λ (o : Option SlabUse). option_and_then (λ (b : SlabUse). slice_get b.slots j) o) (slab_beside uses n (with_slot i u) b is m ne)
+
+  -- the slots that pass a test
   pub count_with_use : (test : SlotUse → Bool) (v : SlotUse) → slice_get b.slots i ≡ Some v
       → sum_by (count_in test) (with_use uses n i u) + weight test v ≡ sum_by (count_in test) uses + weight test u
-  count_with_use test v was =
-      let old : count_in test (get_or uses n None) ≡ count_by test b.slots = ap (count_in test) there in
-      let all : sum_by (count_in test) (with_use uses n i u) ≡ sum_by (count_in test) (slice_set uses n (Some (with_slot i u b))) = ap (sum_by (count_in test)) with_use_is in
-      omega (arith, sum_by-set (count_in test) uses n (Some (with_slot i u b)) None within, old, all, count_set test b.slots i v u was)
-
-  pub open_with_use : open_count (with_use uses n i u) ≡ open_count uses
-  open_with_use =
-      let old : opens (get_or uses n None) ≡ 1 = ap opens there in
-      let all : open_count (with_use uses n i u) ≡ sum_by opens (slice_set uses n (Some (with_slot i u b))) = ap open_count with_use_is in
-      omega (arith, sum_by-set opens uses n (Some (with_slot i u b)) None within, old, all)
+  count_with_use test v was = omega (arith, count_changed uses n (with_slot i u) b is test, count_set test b.slots i v u was)
 
 -- a slot and its slab
 pub record IsFound (uses : Uses) (n i : ℕ) (u : SlotUse) : Type 0 where
@@ -153,13 +150,6 @@ module _ (p : Shape) (uses : Uses) (b : SlabUse) where
       of true = omega (arith, sum_by_push (count_in test) (uses ++ Some b ∷ []) None, sum_by_push (count_in test) uses (Some b))
       of false = omega (arith, sum_by-append (count_in test) (uses ++ Some b ∷ []) [], sum_by_push (count_in test) uses (Some b))
 
-  pub open_with_slab : open_count (with_slab p uses b) ≡ open_count uses + 1
-  open_with_slab = of (is_guard p (length uses + 1))
-    where
-      of : (t : Bool) → open_count ((uses ++ Some b ∷ []) ++ cond t (None ∷ []) []) ≡ open_count uses + 1
-      of true = omega (arith, sum_by_push opens (uses ++ Some b ∷ []) None, sum_by_push opens uses (Some b))
-      of false = omega (arith, sum_by-append opens (uses ++ Some b ∷ []) [], sum_by_push opens uses (Some b))
-
 -- no slot of a new slab passes a test that one never given fails
 pub none_new : (test : SlotUse → Bool) (n : ℕ) → test Never ≡ false → count_by test (replicate n Never) ≡ 0
 none_new test zero fails = refl
@@ -174,21 +164,3 @@ new_slot (suc n) (suc i) lt = new_slot n i (omega arith)
 -- a number from the end on is no slab's
 pub slab_past : (uses : Uses) (n : ℕ) → length uses ≤ n → slab_in uses n ≡ None
 slab_past uses n le = ap (λ (o : Option (Option SlabUse)). option_and_then (λ slab. slab) o) (slice_get_past uses n le)
-
--- the same slabs are open, with as many slots
-pub some_with_use : (uses : Uses) (n i m : ℕ) (u : SlotUse) (b : SlabUse) → slab_in uses n ≡ Some b → is_some (slab_in (with_use uses n i u) m) ≡ is_some (slab_in uses m)
-some_with_use uses n i m u b is =
-    ⊎_elim
-    (λ e. subst (λ (k : ℕ). is_some (slab_in (with_use uses n i u) k) ≡ is_some (slab_in uses k)) (sym e)
-    (ap (λ (o : Option SlabUse). is_some o) (slab_here uses n i u b is) ∙ ap (λ (o : Option SlabUse). is_some o) (sym is)))
-    (λ ne. ap (λ (o : Option SlabUse). is_some o) (slab_elsewhere uses n i u b is m ne))
-    (cases_eq m n)
-
-pub whole_with_use : (uses : Uses) (n i k : ℕ) (u : SlotUse) (b : SlabUse) → slab_in uses n ≡ Some b → ((m : ℕ) (x : SlabUse) → slab_in uses m ≡ Some x → length x.slots ≡ k)
-    → (m : ℕ) (x : SlabUse) → slab_in (with_use uses n i u) m ≡ Some x → length x.slots ≡ k
-whole_with_use uses n i k u b is whole m x e =
-    ⊎_elim
-    (λ same. let x_is : x ≡ with_slot i u b = same_Some x _ (sym e ∙ ap (λ (q : ℕ). slab_in (with_use uses n i u) q) same ∙ slab_here uses n i u b is) in
-    ap (λ (x : SlabUse). length x.slots) x_is ∙ length-set b.slots i u ∙ whole n b is)
-    (λ ne. whole m x (sym (slab_elsewhere uses n i u b is m ne) ∙ e))
-    (cases_eq m n)

@@ -1,5 +1,5 @@
 -- What reading and writing a range comes to.
-use Rattle.std.specs.Prelude.{◌≡◌, ℕ, zero, suc, ◌+◌, nat_lt, Bool, IsTrue, not, ◌&&◌, if◌then◌else◌, List, length, Option, Some, None, is_some}
+use Rattle.std.specs.Prelude.{◌≡◌, ℕ, zero, suc, ◌+◌, nat_lt, Bool, IsTrue, not, ◌&&◌, if◌then◌else◌, List, length, Option, Some, None}
 use Rattle.hm_model.specs.Runs.{expand}
 use Rattle.hm_model.specs.declared.entry.Reply.{Reply}
 use Rattle.hm_model.specs.declared.entry.Reply.TheVariants as reply
@@ -14,11 +14,11 @@ use Rattle.hm_class.specs.declared.outcome.Outcome.{Outcome}
 use Rattle.hm_class.specs.declared.outcome.Outcome.TheVariants as outcome
 use Rattle.hm_class.specs.Kept.{Shows}
 use Rattle.hm_class.specs.Region.{HoldsSlabs}
-use Rattle.hm_class.specs.Uses.{Uses, slab_in}
+use Rattle.hm_class.specs.Uses.{Uses, open_at}
 
 -- the address lies in an open slab, and slabs have bytes
 abbrev pub is_accessible : Shape → Uses → ℕ → Bool
-is_accessible p uses q = has_bytes p && (not (nat_lt q p.first) && is_some (slab_in uses (slab_of p q)))
+is_accessible p uses q = has_bytes p && (not (nat_lt q p.first) && open_at uses (slab_of p q))
 
 -- the first of len addresses from a on that is not accessible
 abbrev pub trap_in : Shape → Uses → ℕ → ℕ → Option ℕ

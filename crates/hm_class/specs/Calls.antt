@@ -1,41 +1,40 @@
 -- What the calls of a class region change.
-use Rattle.std.specs.Prelude.{◌≡◌, ℕ, Some, None, [], ◌∷◌, ◌++◌, ⊤}
+use Rattle.std.specs.Prelude.{◌≡◌, ℕ, [], ◌∷◌, ◌++◌, ⊤}
 use Rattle.hm_model.specs.declared.entry.Entry.{Entry}
 use Rattle.hm_model.specs.declared.entry.Who.{Who}
 use Rattle.hm_model.specs.declared.entry.Call.{Call}
 use Rattle.hm_model.specs.declared.entry.Reply.{Reply}
 use Rattle.hm_model.specs.declared.entry.Reply.TheVariants.{Given, Overwritten, Exhausted, PagesFailed, Freed, NoSlot, Unused, DoubleFree, WrongSize, Canary, Usable, Bytes, Filled, Trap}
 use Rattle.hm_model.specs.declared.entry.Choices.{Choices}
+use Rattle.hm_model.specs.declared.entry.Draws.{Draws}
 use Rattle.hm_sizes.specs.declared.class.ClassId.{ClassId}
 use Rattle.hm_sizes.specs.declared.config.Config.{Config}
-use Rattle.hm_class_rules.specs.Rules.{chose}
 use Rattle.hm_class.specs.Region.{Region}
 
--- an entry whose call drew no words
-abbrev pub entry_of : Who → Call → Reply → Choices → ℕ → ℕ → Entry
-entry_of who call reply choices before now = record {
+-- no word, and one
+abbrev pub no_draws : Draws
+no_draws = record { used = 0; w0 = 0; w1 = 0; w2 = 0 }
+
+abbrev pub one_draw : ℕ → Draws
+one_draw word = record { used = 1; w0 = word; w1 = 0; w2 = 0 }
+
+abbrev pub entry_of : Who → Call → Reply → Choices → Draws → ℕ → ℕ → Entry
+entry_of who call reply choices draws before now = record {
   who = who;
   call = call;
   reply = reply;
   choices = choices;
-  draws = record { used = 0; w0 = 0; w1 = 0; w2 = 0 };
+  draws = draws;
   faults_before = before;
   faults_after = now;
 }
-
--- what is chosen where slab n is opened: its canary is 0
-abbrev pub chose_new : ℕ → Choices
-chose_new n = chose (Some 0) (Some n) None None None None
-
--- what is chosen where the slot at a is released
-abbrev pub chose_released : ℕ → Choices
-chose_released a = chose None None (Some a) None None None
 
 module _ {P : Type 0} where
   -- exactly this entry was added, with the counts of the pages at the call's start and end
   pub record Added (faults : P → ℕ) (old new : Region P) (who : Who) (call : Call) (reply : Reply) : Type 0 where
     pub choices : Choices
-    pub entries : new.entries ≡ old.entries ++ entry_of who call reply choices (faults old.pages) (faults new.pages) ∷ []
+    pub draws : Draws
+    pub entries : new.entries ≡ old.entries ++ entry_of who call reply choices draws (faults old.pages) (faults new.pages) ∷ []
 
   -- it is the region that it was
   pub record KeepsName (old new : Region P) : Type 0 where

@@ -1,66 +1,119 @@
--- What finding a slot for the next block changes.
-use Rattle.std.specs.Prelude.{◌≡◌, ℕ, ◌<◌, ◌≤◌, Bool, IsTrue, replicate, ⊤}
+-- What finding a slab for the next block changes, and what picking and giving a slot of it does.
+use Rattle.std.specs.Prelude.{◌≡◌, ℕ, ◌+◌, ◌<◌, ◌≤◌, Bool, true, false, IsTrue, if◌then◌else◌, Option, Some, None, is_some, length, reverse, option_map, unwrap_or, IfSome, ⊤}
 use Rattle.std.specs.FinMap as map
+use Rattle.hm_choice.specs.Stream.{Words, next_word, after_word, canary_of, drawn}
 use Rattle.hm_outside.specs.PageRuns.{PageRuns, zeros}
 use Rattle.hm_sizes.specs.declared.shape.Shape.{Shape}
-use Rattle.hm_sizes.specs.Shapes.{slab_at}
-use Rattle.hm_class.specs.declared.next_slot.NextSlot.{NextSlot}
-use Rattle.hm_class.specs.declared.next_slot.NextSlot.TheVariants as next
-use Rattle.hm_class.specs.declared.slab.SlotUse.TheVariants.{Never}
-use Rattle.hm_class.specs.declared.slabs.Slabs.{Slabs}
-use Rattle.hm_class.specs.declared.slabs.Source.TheVariants as from
-use Rattle.hm_class.specs.Kept.{SameSlabs}
-use Rattle.hm_class.specs.Sources.{Sources}
+use Rattle.hm_sizes.specs.Shapes.{slab_at, has_bytes}
+use Rattle.hm_class_rules.specs.Kinds.{Kind, Partial, Empty, Neither}
 use Rattle.hm_class_rules.specs.Rules.{chose_none}
+use Rattle.hm_class_rules.specs.Stepped.{listed}
+use Rattle.hm_class.specs.declared.next_slab.NextSlab.{NextSlab}
+use Rattle.hm_class.specs.declared.next_slab.NextSlab.TheVariants as next
+use Rattle.hm_class.specs.declared.outcome.Canary.{Canary}
 use Rattle.hm_class.specs.declared.outcome.Event.{Event}
+use Rattle.hm_class.specs.declared.outcome.Outcome.{Outcome}
 use Rattle.hm_class.specs.declared.outcome.Outcome.TheVariants as outcome
+use Rattle.hm_class.specs.declared.slabs.Slabs.{Slabs}
 use Rattle.hm_class.specs.declared.slabs.Slot.{Slot}
-use Rattle.hm_class.specs.Calls.{chose_new}
+use Rattle.hm_class.specs.declared.slabs.Source.TheVariants as from
+use Rattle.hm_class.specs.Calls.{one_draw}
 use Rattle.hm_class.specs.Gives.{Gives}
-use Rattle.hm_class.specs.Outcomes.{plain}
-use Rattle.hm_class.specs.Sources.{IsAvailable}
-use Rattle.hm_class.specs.Uses.{with_slab}
+use Rattle.hm_class.specs.Outcomes.{plain, canary_value, chose_opened, start_draws}
+use Rattle.hm_class.specs.Rooms.{HasRoom, SameLists}
+use Rattle.hm_class.specs.Sources.{Sources}
+use Rattle.hm_class.specs.Uses.{Uses, SlabUse, slab_in, use_at, occupied, kind_at, first_at, with_open, taken_uses, still_shut}
+
+-- ---- opening
+-- the runs once slab n was made accessible
+abbrev pub made_runs : Shape → ℕ → PageRuns → PageRuns
+made_runs p n runs = if has_bytes p then map.insert runs (slab_at p n) (zeros p.slab) else runs
+
+-- the canary that is drawn, and the stream after it
+abbrev pub drawn_canary : Shape → Words → Option Canary
+drawn_canary p stream = if has_bytes p then Some (record { low = next_word stream; high = next_word (after_word stream); canary = canary_of (next_word stream) (next_word (after_word stream)) }) else None
+
+abbrev pub canary_stream : Shape → Words → Words
+canary_stream p stream = if has_bytes p then after_word (after_word stream) else stream
+
+-- slab n can be opened
+pub record CanOpen (p : Shape) (k : Slabs) (n : ℕ) : Type 0 where
+  pub below : n < p.limit
+  pub there : is_some (slab_in (taken_uses p k.shut.items k.slabs.items) n) ≡ true
 
 module _ {P : Type 0} (told : P → Bool) (runs : P → PageRuns) (faults : P → ℕ) where
-  -- the slabs and the runs are as before
-  pub record KeepsRuns (old new : Slabs) (before now : P) : Type 0 where
-    pub slabs : SameSlabs old new
+  -- the slabs, the runs and the stream are as before
+  pub record KeepsRuns (old new : Slabs) (before now : P) (stream stream' : Words) : Type 0 where
+    pub slabs : new.slabs.items ≡ old.slabs.items
+    pub live : new.live ≡ old.live
+    pub lists : SameLists old new
     pub runs_same : IsTrue (told before) → runs now ≡ runs before
+    pub stream_same : stream' ≡ stream
 
   -- so is the count of faults
-  abbrev pub Stays : Slabs → Slabs → P → P → Type 0
-  Stays old new before now = KeepsRuns old new before now × (faults now ≡ faults before)
+  abbrev pub Stays : Slabs → Slabs → P → P → Words → Words → Type 0
+  Stays old new before now stream stream' = KeepsRuns old new before now stream stream' × (faults now ≡ faults before)
 
-  -- slab n was opened
-  pub record Opens (p : Shape) (n : ℕ) (old new : Slabs) (before now : P) : Type 0 where
-    pub slabs : new.slabs.items ≡ with_slab p old.slabs.items (record { slots = replicate p.slots Never; canary = 0 })
+  -- slab n was opened with this canary
+  pub record Opens (p : Shape) (n : ℕ) (canary : Option Canary) (old new : Slabs) (before now : P) (stream stream' : Words) : Type 0 where
+    pub slabs : new.slabs.items ≡ with_open (taken_uses p old.shut.items old.slabs.items) n (unwrap_or (canary_value canary) 0)
     pub live : new.live ≡ old.live
-    pub made : IsTrue (told before) → runs now ≡ map.insert (runs before) (slab_at p n) (zeros p.slab)
+    pub partial : new.partial ≡ old.partial
+    pub empty : new.empty ≡ old.empty
+    pub shut : new.shut.items ≡ still_shut old.shut.items
+    pub room : (m : ℕ) → HasRoom old m → HasRoom new m
+    pub made : IsTrue (told before) → runs now ≡ made_runs p n (runs before)
+    pub canary_is : canary ≡ drawn_canary p stream
+    pub stream_is : stream' ≡ canary_stream p stream
     pub later : faults before ≤ faults now
 
-  abbrev pub Finds : Shape → Slabs → Slabs → P → P → NextSlot → Type 0
-  Finds p old new before now (next.Open slot) = Sources p.limit old.slabs.items (from.Open slot) × Stays old new before now
-  Finds p old new before now (next.New slot) = Sources p.limit old.slabs.items (from.New slot.slab) × (slot.index ≡ 0) × Opens p slot.slab old new before now
-  Finds p old new before now next.Exhausted = Sources p.limit old.slabs.items from.Exhausted × Stays old new before now
-  Finds p old new before now next.PagesFailed = (n : ℕ) × Sources p.limit old.slabs.items (from.New n) × KeepsRuns old new before now × (faults before < faults now)
+  abbrev pub Finds : Shape → Slabs → Slabs → P → P → Words → Words → NextSlab → Type 0
+  Finds p old new before now stream stream' (next.Open n) = Sources p old (from.Open n) × Stays old new before now stream stream'
+  Finds p old new before now stream stream' (next.New n canary) = Sources p old (from.New n) × Opens p n canary old new before now stream stream'
+  Finds p old new before now stream stream' next.Exhausted = Sources p old from.Exhausted × Stays old new before now stream stream'
+  Finds p old new before now stream stream' next.PagesFailed =
+      (n : ℕ) × Sources p old (from.New n) × KeepsRuns old new before now stream stream' × (has_bytes p ≡ true) × (faults before < faults now)
 
--- ---- serving
+-- ---- picking
+-- from slot i on slab n has an available slot
+pub record HasFirst (p : Shape) (uses : Uses) (n i : ℕ) : Type 0 where
+  pub index : ℕ
+  pub is : first_at uses n i ≡ Some index
+  pub within : index < p.slots
+  pub available : option_map occupied (use_at uses n index) ≡ Some false
+
+-- a slot of slab n can be picked
+pub record CanPick (p : Shape) (k : Slabs) (n : ℕ) : Type 0 where
+  pub below : n < p.limit
+  pub whole : IfSome (slab_in k.slabs.items n) (λ (b : SlabUse). length b.slots ≡ p.slots)
+  pub first : (i : ℕ) → i < p.slots → HasFirst p k.slabs.items n i
+
+abbrev pub CanServe : Shape → Slabs → NextSlab → Type 0
+CanServe p k (next.Open n) = CanPick p k n
+CanServe p k (next.New n canary) = CanPick p k n
+CanServe p k next.Exhausted = ⊤
+CanServe p k next.PagesFailed = ⊤
+
+abbrev pub slot_in : ℕ → ℕ → Slot
+slot_in n i = record { slab = n; index = i }
+
 module _ {P : Type 0} (told : P → Bool) (runs : P → PageRuns) (faults : P → ℕ) where
-  -- the slot that was found can be given
-  pub record CanGive (p : Shape) (k : Slabs) (s : Slot) : Type 0 where
-    pub slab : s.slab < p.limit
-    pub index : s.index < p.slots
-    pub available : IsAvailable k.slabs.items s
+  -- a slot of slab n, which was of this kind, was picked by the next word, and given or condemned
+  pub record Serve (p : Shape) (n : ℕ) (kind : Kind) (old new : Slabs) (before now : P) (stream stream' : Words) (o : Outcome) : Type 0 where
+    pub index : ℕ
+    pub first : first_at old.slabs.items n (drawn p.slots (next_word stream)) ≡ Some index
+    pub gives : Gives told runs p old new before now (slot_in n index) o
+    pub partial : reverse new.partial.items ≡ listed Partial n kind (kind_at new.slabs.items n) (reverse old.partial.items)
+    pub empty : reverse new.empty.items ≡ listed Empty n kind (kind_at new.slabs.items n) (reverse old.empty.items)
+    pub shut : new.shut ≡ old.shut
+    pub room : (m : ℕ) → HasRoom old (m + 1) → HasRoom new m
+    pub stream_is : stream' ≡ after_word stream
 
-  abbrev pub CanServe : Shape → Slabs → NextSlot → Type 0
-  CanServe p k (next.Open slot) = CanGive p k slot
-  CanServe p k (next.New slot) = CanGive p k slot
-  CanServe p k next.Exhausted = ⊤
-  CanServe p k next.PagesFailed = ⊤
-
-  -- the slot is given or condemned; where there is none the slabs and the pages stay
-  abbrev pub Serves : Shape → Slabs → Slabs → P → P → NextSlot → Event → Type 0
-  Serves p old new before now (next.Open slot) e = Gives told runs p old new before now slot e.outcome × (e.choices ≡ chose_none)
-  Serves p old new before now (next.New slot) e = Gives told runs p old new before now slot e.outcome × (e.choices ≡ chose_new slot.slab)
-  Serves p old new before now next.Exhausted e = (e ≡ plain outcome.Exhausted) × KeepsRuns told runs faults old new before now
-  Serves p old new before now next.PagesFailed e = (e ≡ plain outcome.PagesFailed) × KeepsRuns told runs faults old new before now
+  -- where there is no slab all stays
+  abbrev pub Serves : Shape → Slabs → Slabs → P → P → Words → Words → NextSlab → Event → Type 0
+  Serves p old new before now stream stream' (next.Open n) e =
+      Serve p n (kind_at old.slabs.items n) old new before now stream stream' e.outcome × (e.choices ≡ chose_none) × (e.draws ≡ one_draw (next_word stream))
+  Serves p old new before now stream stream' (next.New n canary) e =
+      Serve p n Neither old new before now stream stream' e.outcome × (e.choices ≡ chose_opened n canary) × (e.draws ≡ start_draws canary (next_word stream))
+  Serves p old new before now stream stream' next.Exhausted e = (e ≡ plain outcome.Exhausted) × KeepsRuns told runs faults old new before now stream stream'
+  Serves p old new before now stream stream' next.PagesFailed e = (e ≡ plain outcome.PagesFailed) × KeepsRuns told runs faults old new before now stream stream'

@@ -1,10 +1,10 @@
 -- What giving a slot changes.
-use Rattle.std.specs.Prelude.{◌≡◌, ℕ, ◌+◌, Bool, IsTrue, List, Some, None}
+use Rattle.std.specs.Prelude.{◌≡◌, ℕ, ◌+◌, Bool, true, false, IsTrue, List, Option, Some, None}
 use Rattle.std.specs.Int.{to_le_bytes}
 use mir.Syntax.{w64}
 use Rattle.hm_outside.specs.PageRuns.{PageRuns, IsHeld, Reads, Writes}
 use Rattle.hm_sizes.specs.declared.shape.Shape.{Shape}
-use Rattle.hm_sizes.specs.Shapes.{place, usable}
+use Rattle.hm_sizes.specs.Shapes.{place, usable, has_bytes}
 use Rattle.hm_class_rules.specs.Bytes.{first_nonzero}
 use Rattle.hm_class.specs.declared.outcome.Outcome.{Outcome}
 use Rattle.hm_class.specs.declared.outcome.Outcome.TheVariants as outcome
@@ -14,18 +14,28 @@ use Rattle.hm_class.specs.declared.slabs.Slot.{Slot}
 use Rattle.hm_class.specs.Uses.{was_given, passes_at, canary_at, with_use}
 
 module _ {P : Type 0} (told : P → Bool) (runs : P → PageRuns) where
+  -- what is found among the usable bytes of the slot at a, where slots have bytes
+  pub record Stains (p : Shape) (pages : P) (a : ℕ) (found : Option (ℕ × ℕ)) : Type 0 where
+    pub none : has_bytes p ≡ false → found ≡ None
+    pub some : has_bytes p ≡ true → IsTrue (told pages) → IsHeld (runs pages) a (usable p) → (slice : List ℕ) × Reads (runs pages) a (usable p) slice × (found ≡ first_nonzero slice)
+
+  -- the canary was set behind them
+  pub record Seals (p : Shape) (before now : P) (a canary : ℕ) : Type 0 where
+    pub none : has_bytes p ≡ false → IsTrue (told before) → runs now ≡ runs before
+    pub some : has_bytes p ≡ true → IsTrue (told before) → IsHeld (runs before) (a + usable p) 8 → Writes (runs before) (a + usable p) 8 (to_le_bytes w64 canary) (runs now)
+
   -- all usable bytes are zero; the slot becomes live, and its last 8 bytes the canary
   pub record GivesSlot (p : Shape) (old new : Slabs) (before now : P) (s : Slot) (a size : ℕ) : Type 0 where
     pub addr_is : a ≡ place p s.slab s.index
     pub size_is : size ≡ usable p
-    pub clean : IsTrue (told before) → IsHeld (runs before) a size → (slice : List ℕ) × Reads (runs before) a size slice × (None ≡ first_nonzero slice)
+    pub clean : Stains p before a None
     pub slabs : new.slabs.items ≡ with_use old.slabs.items s.slab s.index Live
-    pub written : IsTrue (told before) → IsHeld (runs before) (a + size) 8 → Writes (runs before) (a + size) 8 (to_le_bytes w64 (canary_at old.slabs.items s.slab)) (runs now)
+    pub written : Seals p before now a (canary_at old.slabs.items s.slab)
 
   -- a usable byte is not zero; the slot is condemned
   pub record CondemnsSlot (p : Shape) (old new : Slabs) (before now : P) (s : Slot) (a at found : ℕ) : Type 0 where
     pub addr_is : a ≡ place p s.slab s.index
-    pub stained : IsTrue (told before) → IsHeld (runs before) a (usable p) → (slice : List ℕ) × Reads (runs before) a (usable p) slice × (Some (at, found) ≡ first_nonzero slice)
+    pub stained : Stains p before a (Some (at, found))
     pub slabs : new.slabs.items ≡ with_use old.slabs.items s.slab s.index (Condemned (passes_at was_given old.slabs.items s.slab s.index))
     pub same : IsTrue (told before) → runs now ≡ runs before
 

@@ -1,10 +1,12 @@
 pub mod Uses
 pub mod Sources
+pub mod Rooms
 pub mod Region
 pub mod Calls
 pub mod Kept
 pub mod Outcomes
 pub mod Gives
 pub mod Finds
+pub mod Frees
 pub mod Judgements
 pub mod Access

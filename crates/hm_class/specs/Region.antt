@@ -6,10 +6,12 @@ use Rattle.hm_model.specs.declared.entry.Entry.{Entry}
 use Rattle.hm_sizes.specs.declared.class.ClassId.{ClassId}
 use Rattle.hm_sizes.specs.declared.config.Config.{Config}
 use Rattle.hm_sizes.specs.declared.shape.Shape.{Shape}
-use Rattle.hm_sizes.specs.Shapes.{shape_of, slab_at, has_bytes}
+use Rattle.hm_sizes.specs.Shapes.{slab_at, has_bytes}
 use Rattle.hm_model.specs.Maps.{at}
 use Rattle.hm_class_rules.specs.Laws.{AllWhole, bytes_of_slab}
 use Rattle.hm_class_rules.specs.State.{State, Slab}
+use Rattle.hm_class_rules.specs.Draws.{drawn_shape}
+use Rattle.hm_class_rules.specs.Drawn.{IsDrawn}
 use Rattle.hm_class_rules.specs.Rules.{Terms, IsLegal, state, IsLiveBlock, wrong_size, wrong_canary}
 
 pub record Region (P : Type 0) : Type 0 where
@@ -23,9 +25,9 @@ pub record Region (P : Type 0) : Type 0 where
   pub pages : P
 
 module _ {P : Type 0} where
-  -- the gap is one page
+  -- the region begins where its first word says
   abbrev pub region_shape : Region P → Shape
-  region_shape r = shape_of r.config r.arena r.class 4096
+  region_shape r = drawn_shape r.number r.config r.arena r.class
 
   -- the bytes are told where the pages tell them
   abbrev pub terms : (P → Bool) → Region P → Terms
@@ -50,9 +52,10 @@ pub record HoldsSlabs (p : Shape) (opens : List (ℕ × Slab)) (runs : PageRuns)
   pub only : (q : ℕ) (bytes : List ℕ) → map.get runs q ≡ Some bytes → IsSlab p opens q bytes
   pub whole : AllWhole (bytes_of_slab p) opens
 
--- the history is legal, and the pages and the room for entries are what it says
+-- the history is legal, its choices are drawn, and the pages and the room for entries are what it says
 pub record IsRegion {P : Type 0} (told : P → Bool) (runs : P → PageRuns) (faults : P → ℕ) (r : Region P) : Type 0 where
   pub legal : IsLegal (terms told r) r.entries
+  pub drawn : IsDrawn r.number r.arena (terms told r) r.entries
   pub count : faults r.pages ≡ (region_state told r).faults
   pub slabs : IsTrue (told r.pages) → HoldsSlabs (region_shape r) (region_state told r).opens (runs r.pages)
   -- an entry for the free of each live block

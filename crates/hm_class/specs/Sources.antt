@@ -1,8 +1,11 @@
 -- Where a block comes from, and what is said of one that is given back.
-use Rattle.std.specs.Prelude.{◌≡◌, ℕ, ◌<◌, ◌≤◌, true, false, Some, length, ◌⊎◌, option_map}
+use Rattle.std.specs.Prelude.{◌≡◌, ℕ, true, false, Option, Some, None, length, reverse, option_map}
 use Rattle.hm_sizes.specs.declared.shape.Shape.{Shape}
 use Rattle.hm_sizes.specs.Shapes.{IsPlaceOf}
+use Rattle.hm_class_rules.specs.State.{unopened}
+use Rattle.hm_class_rules.specs.Stepped.{front}
 use Rattle.hm_class.specs.declared.slab.SlotUse.TheVariants.{Live}
+use Rattle.hm_class.specs.declared.slabs.Slabs.{Slabs}
 use Rattle.hm_class.specs.declared.slabs.Slot.{Slot}
 use Rattle.hm_class.specs.declared.slabs.Source.{Source}
 use Rattle.hm_class.specs.declared.slabs.Source.TheVariants.{Open, New, Exhausted}
@@ -11,23 +14,24 @@ use Rattle.hm_class.specs.declared.slabs.Verdict.TheVariants as verdict
 use Rattle.hm_class.specs.declared.slabs.Verdict.TheVariants.{Refused}
 use Rattle.hm_class.specs.declared.slabs.Refusal.{Refusal}
 use Rattle.hm_class.specs.declared.slabs.Refusal.TheVariants as refusal
-use Rattle.hm_class.specs.Uses.{Uses, occupied, lives, was_given, is_partly, is_unused, slab_in, use_at, passes_at}
+use Rattle.hm_class.specs.Uses.{Uses, occupied, lives, was_given, use_at, passes_at}
 
--- an available slot of an open slab
+-- an available slot
 abbrev pub IsAvailable : Uses → Slot → Type 0
 IsAvailable uses s = option_map occupied (use_at uses s.slab s.index) ≡ Some false
 
-abbrev pub NonePartly : Uses → Type 0
-NonePartly uses = (n : ℕ) → option_map is_partly (slab_in uses n) ≡ Some true → ⊥
+-- the open slab from which the next slot is picked
+abbrev pub front_of : Slabs → Option ℕ
+front_of k = front (reverse k.partial.items) (reverse k.empty.items)
 
-abbrev pub NoneUnused : Uses → Type 0
-NoneUnused uses = (n : ℕ) → option_map is_unused (slab_in uses n) ≡ Some true → ⊥
+-- the slab that is opened where there is none
+abbrev pub new_of : Shape → Slabs → Option ℕ
+new_of p k = unopened p k.shut.items (length k.slabs.items)
 
--- a slab that is partly used comes first, then an unused one, then a new one
-abbrev pub Sources : ℕ → Uses → Source → Type 0
-Sources limit uses (Open s) = IsAvailable uses s × ((option_map is_partly (slab_in uses s.slab) ≡ Some true) ⊎ (NonePartly uses × (option_map is_unused (slab_in uses s.slab) ≡ Some true)))
-Sources limit uses (New n) = NonePartly uses × NoneUnused uses × (n ≡ length uses) × (n < limit)
-Sources limit uses Exhausted = NonePartly uses × NoneUnused uses × (limit ≤ length uses)
+abbrev pub Sources : Shape → Slabs → Source → Type 0
+Sources p k (Open n) = front_of k ≡ Some n
+Sources p k (New n) = (front_of k ≡ None) × (new_of p k ≡ Some n)
+Sources p k Exhausted = (front_of k ≡ None) × (new_of p k ≡ None)
 
 -- why the address starts no live block
 abbrev pub Refuses : Shape → Uses → ℕ → Refusal → Type 0

@@ -1,46 +1,71 @@
 -- How the slots of slabs are used.
-use Rattle.std.specs.Prelude.{ℕ, ◌+◌, Bool, true, false, not, ◌&&◌, if◌then◌else◌, List, [], ◌∷◌, ◌++◌, length, Option, Some, None, slice_get, slice_set, option_map, is_some, sum_by, count_by}
+use Rattle.std.specs.Prelude.{ℕ, ◌+◌, take, drop, replicate, Bool, true, false, not, ◌&&◌, if◌then◌else◌, List, [], ◌∷◌, ◌++◌, length, Option, Some, None, slice_get, slice_set, option_map, sum_by, count_by}
 use Rattle.std.specs.List.{list_any, position}
 use Rattle.std.specs.Option.{option_and_then, option_map_or}
 use Rattle.hm_sizes.specs.declared.shape.Shape.{Shape}
 use Rattle.hm_sizes.specs.Shapes.{is_guard}
 use Rattle.hm_class.specs.declared.slab.SlotUse.{SlotUse}
-use Rattle.hm_class.specs.declared.slab.SlotUse.TheVariants.{Never, Free, Live, Condemned}
+use Rattle.hm_class.specs.declared.slab.SlotUse.TheVariants.{Never, Free, Live, Held, Condemned}
+use Rattle.hm_class.specs.declared.slab.SlabKind.{SlabKind}
+use Rattle.hm_class.specs.declared.slab.SlabKind.TheVariants as named
+use Rattle.hm_class_rules.specs.Kinds.{Kind, Partial, Empty, Neither}
 
 -- ---- one slot
 abbrev pub lives : SlotUse → Bool
 lives Never = false
 lives Free = false
 lives Live = true
+lives Held = false
 lives (Condemned given) = false
 
 abbrev pub was_given : SlotUse → Bool
 was_given Never = false
 was_given Free = true
 was_given Live = true
+was_given Held = true
 was_given (Condemned given) = given
 
 abbrev pub is_condemned : SlotUse → Bool
 is_condemned Never = false
 is_condemned Free = false
 is_condemned Live = false
+is_condemned Held = false
 is_condemned (Condemned given) = true
 
--- it is live or condemned
+abbrev pub is_held : SlotUse → Bool
+is_held Never = false
+is_held Free = false
+is_held Live = false
+is_held Held = true
+is_held (Condemned given) = false
+
+-- it is live, held or condemned
 abbrev pub occupied : SlotUse → Bool
 occupied Never = false
 occupied Free = false
 occupied Live = true
+occupied Held = true
 occupied (Condemned given) = true
 
 abbrev pub is_available : SlotUse → Bool
 is_available u = not (occupied u)
 
 -- ---- one slab
--- how its slots are used, and its canary
+-- how its slots are used, its canary, and whether it is open; the canary of one that is not is 0
 pub record SlabUse : Type 0 where
   pub slots : List SlotUse
   pub canary : ℕ
+  pub opened : Bool
+
+-- a slab whose slots were never given
+abbrev pub fresh_slab : ℕ → SlabUse
+fresh_slab slots = record { slots = replicate slots Never; canary = 0; opened = false }
+
+abbrev pub opened_slab : ℕ → SlabUse → SlabUse
+opened_slab canary b = record { slots = b.slots; canary = canary; opened = true }
+
+abbrev pub shut_slab : SlabUse → SlabUse
+shut_slab b = record { slots = b.slots; canary = 0; opened = false }
 
 abbrev pub has_occupied : List SlotUse → Bool
 has_occupied slots = list_any occupied slots
@@ -56,59 +81,94 @@ is_partly b = has_occupied b.slots && has_available b.slots
 abbrev pub is_unused : SlabUse → Bool
 is_unused b = not (has_occupied b.slots) && has_available b.slots
 
+-- what a slab is
+abbrev pub kind_named : SlabKind → Kind
+kind_named named.Partial = Partial
+kind_named named.Empty = Empty
+kind_named named.Neither = Neither
+
+abbrev pub kind_of : SlabUse → Kind
+kind_of b = if not b.opened then Neither else if is_partly b then Partial else if is_unused b then Empty else Neither
+
+-- the first available slot from slot i on, and else from the first on
+abbrev pub or_else : ℕ → Option ℕ → Option ℕ → Option ℕ
+or_else i (Some j) other = Some (i + j)
+or_else i None other = other
+
+abbrev pub first_from : ℕ → List SlotUse → Option ℕ
+first_from i slots = or_else i (position is_available (drop i slots)) (position is_available (take i slots))
+
 -- ---- all slabs, by number: a guard is None
 abbrev pub Uses : Type 0
 Uses = List (Option SlabUse)
-
-abbrev pub partly : Option SlabUse → Bool
-partly slab = option_map_or is_partly slab false
-
-abbrev pub unused : Option SlabUse → Bool
-unused slab = option_map_or is_unused slab false
 
 -- how many slots of a slab pass a test
 abbrev pub count_in : (SlotUse → Bool) → Option SlabUse → ℕ
 count_in test slab = option_map_or (λ (b : SlabUse). count_by test b.slots) slab 0
 
--- how many slots are live, and how many are occupied
+-- how many slots are live
 abbrev pub live_count : Uses → ℕ
 live_count uses = sum_by (count_in lives) uses
-
-abbrev pub occupied_count : Uses → ℕ
-occupied_count uses = sum_by (count_in occupied) uses
-
--- how many slabs are open
-abbrev pub open_count : Uses → ℕ
-open_count uses = count_by is_some uses
 
 -- slab n: none where it is a guard or was never opened
 abbrev pub slab_in : Uses → ℕ → Option SlabUse
 slab_in uses n = option_and_then (λ slab. slab) (slice_get uses n)
 
+-- whether slab n is open, and what it is
+abbrev pub open_at : Uses → ℕ → Bool
+open_at uses n = option_map_or (λ (b : SlabUse). b.opened) (slab_in uses n) false
+
+abbrev pub kind_at : Uses → ℕ → Kind
+kind_at uses n = option_map_or kind_of (slab_in uses n) Neither
+
 -- how slot i of slab n is used
 abbrev pub use_at : Uses → ℕ → ℕ → Option SlotUse
 use_at uses n i = option_and_then (λ (b : SlabUse). slice_get b.slots i) (slab_in uses n)
 
--- the first available slot of slab n
-abbrev pub first_available : Uses → ℕ → Option ℕ
-first_available uses n = option_and_then (λ (b : SlabUse). position is_available b.slots) (slab_in uses n)
+-- the first available slot of slab n from slot i on, and else from the first on
+abbrev pub first_at : Uses → ℕ → ℕ → Option ℕ
+first_at uses n i = option_and_then (λ (b : SlabUse). first_from i b.slots) (slab_in uses n)
 
 -- whether slot i of slab n is there and passes a test
 abbrev pub passes_at : (SlotUse → Bool) → Uses → ℕ → ℕ → Bool
 passes_at test uses n i = option_map_or test (use_at uses n i) false
 
--- the canary of slab n, 0 where it was never opened
+-- the canary of slab n, 0 where it is not open
 abbrev pub canary_at : Uses → ℕ → ℕ
 canary_at uses n = option_map_or (λ (b : SlabUse). b.canary) (slab_in uses n) 0
 
 -- ---- changes
+-- slab n is changed
+abbrev pub changed : Uses → ℕ → (SlabUse → SlabUse) → Uses
+changed uses n f = slice_set uses n (option_map f (slab_in uses n))
+
 abbrev pub with_slot : ℕ → SlotUse → SlabUse → SlabUse
-with_slot i u b = record { slots = slice_set b.slots i u; canary = b.canary }
+with_slot i u b = record { slots = slice_set b.slots i u; canary = b.canary; opened = b.opened }
 
 -- slot i of slab n is used so
 abbrev pub with_use : Uses → ℕ → ℕ → SlotUse → Uses
-with_use uses n i u = slice_set uses n (option_map (with_slot i u) (slab_in uses n))
+with_use uses n i u = changed uses n (with_slot i u)
 
--- a slab was opened at the next number; what follows it is made a guard where it is one
+-- slab n is opened, or shut
+abbrev pub with_open : Uses → ℕ → ℕ → Uses
+with_open uses n canary = changed uses n (opened_slab canary)
+
+abbrev pub with_shut : Uses → ℕ → Uses
+with_shut uses n = changed uses n shut_slab
+
+-- a slab is put at the next number; what follows it is made a guard where it is one
 abbrev pub with_slab : Shape → Uses → SlabUse → Uses
 with_slab p uses slab = (uses ++ Some slab ∷ []) ++ (if is_guard p (length uses + 1) then None ∷ [] else [])
+
+-- what is opened comes from those that are shut: the first of them; where there is none, a fresh slab is put at the next number
+abbrev pub ready_slab : List ℕ → ℕ → Option SlabUse
+ready_slab [] slots = Some (fresh_slab slots)
+ready_slab (m ∷ ms) slots = None
+
+abbrev pub still_shut : List ℕ → List ℕ
+still_shut [] = []
+still_shut (m ∷ ms) = ms
+
+abbrev pub taken_uses : Shape → List ℕ → Uses → Uses
+taken_uses p [] uses = with_slab p uses (fresh_slab p.slots)
+taken_uses p (m ∷ ms) uses = uses

@@ -1,19 +1,46 @@
-//! A slot is given: its usable bytes are looked at, and its canary is set. One with a byte that is not
-//! zero is condemned.
+//! A slot is picked and given: its usable bytes are looked at, and its canary is set. One with a byte that
+//! is not zero is condemned.
 ghost use Rattle.std.specs.Prelude.{◌≡◌, ◌<◌, ◌^◌};
+ghost use Rattle.hm_choice.specs.Stream.{next_word, after_word, drawn};
 ghost use Rattle.hm_sizes.specs.Shapes.{IsShape};
-ghost use Rattle.hm_class.specs.Finds.{CanServe, Serves};
-ghost use Rattle.hm_class.specs.Gives.{Gives};
+ghost use Rattle.hm_class.specs.Finds.{CanPick, CanServe, Serve, Serves, HasFirst, slot_in};
+ghost use Rattle.hm_class.specs.Gives.{Gives, Stains, Seals};
+ghost use Rattle.hm_class.specs.Rooms.{HasRoom, SameLists};
 ghost use Rattle.hm_class.specs.Sources.{IsAvailable};
-ghost use Rattle.hm_class.specs.Uses.{live_count};
+ghost use Rattle.hm_class.specs.Uses.{live_count, first_at, kind_named};
 
-use crate::next_slot::NextSlot;
-use crate::outcome::{Event, Outcome, opened_choices};
-use crate::slab::SlotUse;
+use crate::next_slab::NextSlab;
+use crate::outcome::{Event, NO_CHOICES, Outcome, one_draw, opened_choices, start_draws};
+use crate::slab::{SlabKind, SlotUse};
 use crate::slabs::{Slabs, Slot, address_of};
 use crate::slot_bytes::{first_nonzero, set_canary};
+use hm_choice::Stream;
 use hm_outside::Pages;
 use hm_sizes::Shape;
+
+// The first usable byte of a slot that is not zero, where slots have bytes.
+fn stain<P: Pages>(pages: &P, shape: &Shape, addr: u64) -> Option<(u64, u8)>
+    requires { IsShape shape.now }
+    ensures { Stains P.told P.runs shape.now pages.now addr result }
+{
+    if !shape.has_bytes() {
+        return None;
+    }
+    first_nonzero(pages, addr, shape.usable() as usize)
+}
+
+// Sets a slot's canary, where slots have bytes.
+fn seal<P: Pages>(pages: &mut P, shape: &Shape, addr: u64, canary: u64)
+    requires shape { IsShape shape.now }
+    requires below { addr < 2 ^ 48 }
+    ensures told { P.told pages.new ≡ P.told pages.old }
+    ensures count { P.faults pages.new ≡ P.faults pages.old }
+    ensures written { Seals P.told P.runs shape.now pages.old pages.new addr canary }
+{
+    if shape.has_bytes() {
+        set_canary(pages, addr + shape.usable(), canary);
+    }
+}
 
 /// Gives a slot, or condemns it.
 pub fn give<P: Pages>(slabs: &mut Slabs, pages: &mut P, shape: &Shape, slot: Slot) -> Outcome
@@ -25,43 +52,100 @@ pub fn give<P: Pages>(slabs: &mut Slabs, pages: &mut P, shape: &Shape, slot: Slo
     requires few { slabs.old.live < 2 ^ 63 }
     ensures told { P.told pages.new ≡ P.told pages.old }
     ensures count { P.faults pages.new ≡ P.faults pages.old }
+    ensures lists { SameLists slabs.old slabs.new }
     ensures counted { slabs.new.live ≡ live_count slabs.new.slabs.items }
     ensures given { Gives P.told P.runs shape.now slabs.old slabs.new pages.old pages.new slot result }
 {
     let addr = address_of(shape, slot);
-    let usable = shape.usable();
-    match first_nonzero(pages, addr, usable as usize) {
+    match stain(pages, shape, addr) {
         Some((at, found)) => {
             let given = slabs.was_given(slot);
             slabs.set(slot, SlotUse::Condemned { given });
             Outcome::Overwritten { addr, at, found }
         }
         None => {
-            set_canary(pages, addr + usable, slabs.canary_of(slot.slab));
+            seal(pages, shape, addr, slabs.canary_of(slot.slab));
             slabs.set(slot, SlotUse::Live);
-            Outcome::Given { addr, usable }
+            Outcome::Given {
+                addr,
+                usable: shape.usable(),
+            }
         }
     }
 }
 
-/// Gives the slot that was found, if one was.
-pub fn serve<P: Pages>(slabs: &mut Slabs, pages: &mut P, shape: &Shape, next: NextSlot) -> Event
+// Picks a slot of an open slab by the next word, and gives it. The slab was of this kind.
+fn serve_from<P: Pages>(
+    slabs: &mut Slabs,
+    pages: &mut P,
+    stream: &mut Stream,
+    shape: &Shape,
+    slab: u64,
+    before: SlabKind,
+) -> (Outcome, u32)
     requires shape { IsShape shape.now }
-    requires ready { CanServe P.told P.runs P.faults shape.now slabs.old next }
+    requires ready { CanPick shape.now slabs.old slab }
+    requires room { HasRoom slabs.old 1 }
     requires counted { slabs.old.live ≡ live_count slabs.old.slabs.items }
     requires few { slabs.old.live < 2 ^ 63 }
     ensures told { P.told pages.new ≡ P.told pages.old }
     ensures count { P.faults pages.new ≡ P.faults pages.old }
     ensures counted { slabs.new.live ≡ live_count slabs.new.slabs.items }
-    ensures served { Serves P.told P.runs P.faults shape.now slabs.old slabs.new pages.old pages.new next result }
+    ensures word { result.1 ≡ next_word stream.old }
+    ensures served { Serve P.told P.runs P.faults shape.now slab (kind_named before) slabs.old slabs.new pages.old pages.new stream.old stream.new result.0 }
+{
+    let (word, start) = stream.draw(shape.slots);
+    let Some(index) = slabs.first_from(slab as usize, start as usize) else {
+        unreachable!()
+    };
+    let slot = Slot {
+        slab: slab as usize,
+        index,
+    };
+    let outcome = give(slabs, pages, shape, slot);
+    let after = slabs.kind(slot.slab);
+    slabs.relist(slab, before, after);
+    (outcome, word)
+}
+
+/// Gives a slot of the slab that was found, if one was.
+pub fn serve<P: Pages>(
+    slabs: &mut Slabs,
+    pages: &mut P,
+    stream: &mut Stream,
+    shape: &Shape,
+    next: NextSlab,
+) -> Event
+    requires shape { IsShape shape.now }
+    requires ready { CanServe shape.now slabs.old next }
+    requires room { HasRoom slabs.old 1 }
+    requires counted { slabs.old.live ≡ live_count slabs.old.slabs.items }
+    requires few { slabs.old.live < 2 ^ 63 }
+    ensures told { P.told pages.new ≡ P.told pages.old }
+    ensures count { P.faults pages.new ≡ P.faults pages.old }
+    ensures counted { slabs.new.live ≡ live_count slabs.new.slabs.items }
+    ensures served { Serves P.told P.runs P.faults shape.now slabs.old slabs.new pages.old pages.new stream.old stream.new next result }
 {
     match next {
-        NextSlot::Exhausted => Event::plain(Outcome::Exhausted),
-        NextSlot::PagesFailed => Event::plain(Outcome::PagesFailed),
-        NextSlot::Open(slot) => Event::plain(give(slabs, pages, shape, slot)),
-        NextSlot::New(slot) => Event {
-            outcome: give(slabs, pages, shape, slot),
-            choices: opened_choices(slot.slab as u64),
-        },
+        NextSlab::Exhausted => Event::plain(Outcome::Exhausted),
+        NextSlab::PagesFailed => Event::plain(Outcome::PagesFailed),
+        NextSlab::Open(slab) => {
+            let before = slabs.kind(slab as usize);
+            let (outcome, word) = serve_from(slabs, pages, stream, shape, slab, before);
+            Event {
+                outcome,
+                choices: NO_CHOICES,
+                draws: one_draw(word),
+            }
+        }
+        NextSlab::New { slab, canary } => {
+            let before = SlabKind::Neither;
+            let (outcome, word) = serve_from(slabs, pages, stream, shape, slab, before);
+            Event {
+                outcome,
+                choices: opened_choices(slab, canary),
+                draws: start_draws(canary, word),
+            }
+        }
     }
 }

@@ -1,24 +1,28 @@
 //! A class region: what is kept of it, and its calls, each of which adds one entry to its history.
 ghost use Rattle.std.specs.Prelude.{◌≡◌, ◌<◌, ◌≤◌, ◌^◌, IsTrue, IsOk, IfOk, OnErr, None, length};
 ghost use Rattle.std.specs.FinMap as map;
-ghost use Rattle.hm_sizes.specs.Classes.{class_size};
+ghost use Rattle.hm_sizes.specs.Classes.{class_count, class_size};
+ghost use Rattle.hm_choice.specs.Stream.{after_word};
 ghost use Rattle.hm_sizes.specs.Configs.{IsValid};
 ghost use Rattle.hm_sizes.specs.Shapes.{IsShape};
+ghost use Rattle.hm_class_rules.specs.Draws.{stream_of, drawn_shape};
+ghost use Rattle.hm_class_rules.specs.Rules.{chose_none};
 ghost use Rattle.hm_sizes.specs.Sizes.{raised};
 ghost use Rattle.hm_model.specs.Runs.{expand};
 ghost use Rattle.hm_class.specs.Region.{region_shape, IsRegion, IsTakenBack};
-ghost use Rattle.hm_class.specs.Calls.{entry_of, Added, KeepsName, IsBuilt, IsAllotReply, IsGiveBackReply, IsMeasureReply, IsFetchReply, IsFillReply};
+ghost use Rattle.hm_class.specs.Calls.{entry_of, no_draws, Added, KeepsName, IsBuilt, IsAllotReply, IsGiveBackReply, IsMeasureReply, IsFetchReply, IsFillReply};
 
 use crate::access::{fetch, fill, replies};
 use crate::give::serve;
 use crate::judge::{Judgement, judge, measure};
-use crate::next_slot::find_slot;
-use crate::outcome::{NO_CHOICES, released_choices};
-use crate::slab::SlotUse;
+use crate::next_slab::find_slab;
+use crate::outcome::{Event, NO_CHOICES, NO_DRAWS};
 use crate::slabs::Slabs;
-use crate::slot_bytes::clear;
-use hm_model::{Call, Choices, Draws, Entry, Reply, Runs, Who};
+use crate::take_back::{hold, settle, slab_of};
+use hm_choice::Stream;
+use hm_model::{Call, Entry, Reply, Runs, Who};
 use hm_outside::{NoMemory, Pages};
+use hm_quarantine::Quarantine;
 use hm_sizes::{ClassId, Config, Shape, shape_of};
 use std::alloc::Global;
 use std::marker::Model;
@@ -32,6 +36,10 @@ pub struct ClassHeap<P: Pages> {
     arena: u32,
     shape: Shape,
     slabs: Slabs,
+    stream: Stream,
+    quarantine: Quarantine,
+    /// The slabs that were retired lately, each in its parking place.
+    parking: Vec<Option<u64>>,
     entries: Vec<Entry>,
     pages: P,
 }
@@ -41,6 +49,7 @@ impl<P: Pages> Model for ClassHeap<P> {
     ghost use Rattle.hm_model.specs.Runs.{expand};
     ghost use Rattle.hm_class.specs.Region.{Region};
     ghost use Rattle.hm_class.specs.Kept.{IsKept};
+    ghost use Rattle.hm_class.specs.Rooms.{HasRoom};
 
     ghost Value = { Region P };
 
@@ -54,33 +63,58 @@ impl<P: Pages> Model for ClassHeap<P> {
       pages = h.pages;
     } };
 
-    ghost invariant = { λ h. IsKept (P.told h.pages) (P.runs h.pages) (P.faults h.pages) h.config h.arena h.shape h.entries.items h.slabs
-        × (h.slabs.live ≤ h.entries.cap - h.entries.len) };
+    ghost invariant = { λ h. IsKept (P.told h.pages) (P.runs h.pages) (P.faults h.pages) h.config h.number h.arena h.shape h.entries.items h.slabs h.stream h.quarantine h.parking.items
+        × (h.slabs.live ≤ h.entries.cap - h.entries.len) × HasRoom h.slabs h.slabs.live };
 }
 
-// The distance from the start of the region's address space to its first slab.
-const GAP: u64 = 4096;
+const PAGE: u64 = 4096;
 
-const NO_DRAWS: Draws = Draws {
-    used: 0,
-    w0: 0,
-    w1: 0,
-    w2: 0,
-};
+const CLASSES: u64 = 49;
 
 // An entry. The counts of page faults are those at the call's start and its end.
-fn entry(who: Who, call: Call, reply: Reply, choices: Choices, before: u64, now: u64) -> Entry
-    ensures { result ≡ entry_of who call reply choices before now }
+fn entry(who: Who, call: Call, reply: Reply, event: Event, before: u64, now: u64) -> Entry
+    ensures { result ≡ entry_of who call reply event.choices event.draws before now }
 {
     Entry {
         who,
         call,
         reply,
-        choices,
-        draws: NO_DRAWS,
+        choices: event.choices,
+        draws: event.draws,
         faults_before: before,
         faults_after: now,
     }
+}
+
+// An entry of a call that chose and drew nothing, and during which no page failed.
+fn still(who: Who, call: Call, reply: Reply, faults: u64) -> Entry
+    ensures { result ≡ entry_of who call reply chose_none no_draws faults faults }
+{
+    Entry {
+        who,
+        call,
+        reply,
+        choices: NO_CHOICES,
+        draws: NO_DRAWS,
+        faults_before: faults,
+        faults_after: faults,
+    }
+}
+
+// The stream of a region, of which the gap's word is taken, and the region's numbers.
+fn begin(config: &Config, seed: u64, arena: u32, class: ClassId) -> (Stream, Shape)
+    requires valid { IsValid config.now }
+    requires arena { arena < config.now.arenas }
+    requires class { class.0 < class_count }
+    ensures stream { result.0 ≡ after_word (stream_of seed arena class) }
+    ensures shape { result.1 ≡ drawn_shape seed config.now arena class }
+    ensures fits { IsShape result.1 }
+{
+    let mut stream = Stream::start(seed, u64::from(arena) * CLASSES + u64::from(class.0));
+    let (_word, pages) = stream.draw((config.class_region / PAGE) as u32);
+    let gap = (u64::from(pages) + 1) * PAGE;
+    let shape = shape_of(config, arena, class, gap);
+    (stream, shape)
 }
 
 impl<P: Pages> ClassHeap<P> {
@@ -95,25 +129,25 @@ impl<P: Pages> ClassHeap<P> {
     ) -> Result<ClassHeap<P>, NoMemory>
         requires valid { IsValid config.now }
         requires arena { arena < config.now.arenas }
-        requires class { class.0 ≡ 7 }
-        requires no_array { config.now.array_base ≡ 0 }
-        requires no_ring { config.now.ring_base ≡ 0 }
+        requires class { class.0 < class_count }
         requires nothing { IsTrue (P.told pages) → P.runs pages ≡ map.empty }
         requires count { P.faults pages ≡ 0 }
         ensures built { IfOk result (λ region. IsBuilt config.now seed arena class pages region) }
         ensures region { IfOk result (λ region. IsRegion P.told P.runs P.faults region) }
     {
-        let shape = shape_of(config, arena, class, GAP);
+        let (stream, shape) = begin(config, seed, arena, class);
+        let quarantine = Quarantine::build(alloc, shape.array, shape.ring)?;
+        let parking = vec![in alloc; None; config.park_length as usize]?;
         Ok(ClassHeap {
             alloc,
             config: *config,
             number: seed,
             arena,
             shape,
-            slabs: Slabs {
-                slabs: Vec::new(alloc),
-                live: 0,
-            },
+            slabs: Slabs::none(alloc),
+            stream,
+            quarantine,
+            parking,
             entries: Vec::new(alloc),
             pages,
         })
@@ -182,6 +216,9 @@ impl<P: Pages> ClassHeap<P> {
             arena: _,
             shape: _,
             slabs: _,
+            stream: _,
+            quarantine: _,
+            parking: _,
             entries,
             pages,
         } = self;
@@ -198,20 +235,32 @@ impl<P: Pages> ClassHeap<P> {
         ensures region { IsRegion P.told P.runs P.faults self.new }
     {
         self.entries.reserve(self.slabs.live + 2)?;
+        self.slabs.reserve()?;
         let before = self.pages.faults();
-        let next = find_slot(&mut self.slabs, &mut self.pages, self.alloc, &self.shape)?;
-        let event = serve(&mut self.slabs, &mut self.pages, &self.shape, next);
+        let next = find_slab(
+            &mut self.slabs,
+            &mut self.pages,
+            &mut self.stream,
+            self.alloc,
+            &self.shape,
+        )?;
+        let event = serve(
+            &mut self.slabs,
+            &mut self.pages,
+            &mut self.stream,
+            &self.shape,
+            next,
+        );
         let now = self.pages.faults();
         let call = Call::Allot { asked, align: 1 };
         let reply = event.outcome.reply();
         self.entries
-            .push_reserved(entry(who, call, reply, event.choices, before, now));
+            .push_reserved(entry(who, call, reply, event, before, now));
         Ok(event.outcome.reply())
     }
 
     /// Takes a block back. An accepted one takes no memory.
     pub fn give_back(&mut self, who: Who, addr: u64, stated: Option<u64>) -> Result<Reply, NoMemory>
-        requires few { length self.old.entries < 1000 }
         ensures added { IfOk result (λ reply. Added P.faults self.old self.new who (Call.GiveBack addr stated) reply) }
         ensures replies { IfOk result IsGiveBackReply }
         ensures memory { OnErr result (self.new.entries ≡ self.old.entries) }
@@ -219,24 +268,39 @@ impl<P: Pages> ClassHeap<P> {
         ensures name { KeepsName self.old self.new }
         ensures region { IsRegion P.told P.runs P.faults self.new }
     {
-        let faults = self.pages.faults();
+        let before = self.pages.faults();
         match judge(&self.slabs, &self.pages, &self.shape, addr, stated) {
             Judgement::Refused(outcome) => {
                 self.entries.reserve(self.slabs.live + 1)?;
                 let call = Call::GiveBack { addr, stated };
                 let reply = outcome.reply();
-                self.entries
-                    .push_reserved(entry(who, call, reply, NO_CHOICES, faults, faults));
+                self.entries.push_reserved(still(who, call, reply, before));
                 Ok(outcome.reply())
             }
             Judgement::Accepted(slot) => {
-                clear(&mut self.pages, addr, self.shape.usable() as usize);
-                self.slabs.set(slot, SlotUse::Free);
+                let (released, word) = hold(
+                    &mut self.slabs,
+                    &mut self.quarantine,
+                    &mut self.stream,
+                    &mut self.pages,
+                    &self.shape,
+                    addr,
+                    slot,
+                );
+                let emptied = settle(
+                    &mut self.slabs,
+                    &mut self.stream,
+                    &mut self.parking,
+                    &mut self.pages,
+                    &self.shape,
+                    released,
+                );
+                let slab = slab_of(&self.shape, released);
+                let event = Event::freed(word, released, slab, emptied);
+                let now = self.pages.faults();
                 let call = Call::GiveBack { addr, stated };
-                let reply = Reply::Freed;
-                let choices = released_choices(addr);
                 self.entries
-                    .push_reserved(entry(who, call, reply, choices, faults, faults));
+                    .push_reserved(entry(who, call, Reply::Freed, event, before, now));
                 Ok(Reply::Freed)
             }
         }
@@ -255,8 +319,7 @@ impl<P: Pages> ClassHeap<P> {
         let outcome = measure(&self.slabs, &self.shape, addr);
         let call = Call::Measure { addr };
         let reply = outcome.reply();
-        self.entries
-            .push_reserved(entry(who, call, reply, NO_CHOICES, faults, faults));
+        self.entries.push_reserved(still(who, call, reply, faults));
         Ok(outcome.reply())
     }
 
@@ -276,8 +339,7 @@ impl<P: Pages> ClassHeap<P> {
         let fetched = fetch(&self.slabs, &self.pages, self.alloc, &self.shape, addr, len)?;
         let (reply, answer) = replies(self.alloc, fetched)?;
         let call = Call::Fetch { addr, len };
-        self.entries
-            .push_reserved(entry(who, call, reply, NO_CHOICES, faults, faults));
+        self.entries.push_reserved(still(who, call, reply, faults));
         Ok(answer)
     }
 
@@ -300,8 +362,7 @@ impl<P: Pages> ClassHeap<P> {
         let outcome = fill(&self.slabs, &mut self.pages, &self.shape, addr, &bytes);
         let call = Call::Fill { addr, runs };
         let reply = outcome.reply();
-        self.entries
-            .push_reserved(entry(who, call, reply, NO_CHOICES, faults, faults));
+        self.entries.push_reserved(still(who, call, reply, faults));
         Ok(outcome.reply())
     }
 }

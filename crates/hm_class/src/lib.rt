@@ -5,12 +5,13 @@ mod access;
 mod give;
 mod heap;
 mod judge;
-mod next_slot;
+mod next_slab;
 mod outcome;
 #[cfg(test)]
 mod region_tests;
 mod slab;
 mod slabs;
 mod slot_bytes;
+mod take_back;
 
 pub use heap::ClassHeap;

@@ -1,9 +1,9 @@
 //! What a call of a region comes to, but for the bytes that a fetch gives.
 ghost use Rattle.std.specs.Prelude.{◌≡◌};
-ghost use Rattle.hm_class.specs.Calls.{chose_new, chose_released};
-ghost use Rattle.hm_class.specs.Outcomes.{plain, reply_of};
+ghost use Rattle.hm_class.specs.Calls.{no_draws, one_draw};
+ghost use Rattle.hm_class.specs.Outcomes.{plain, reply_of, chose_opened, start_draws, freed, freed_choices, freed_draws};
 
-use hm_model::{Choices, Reply};
+use hm_model::{Choices, Draws, Reply};
 
 /// The reply of a call. The numbers are those of the reply of the same name.
 #[derive(Clone, Copy, Drop)]
@@ -23,11 +23,31 @@ pub enum Outcome {
     Trap { addr: u64 },
 }
 
-/// What a call comes to, and what was chosen with it.
+/// What a call comes to, what was chosen with it, and the words that it drew.
 #[derive(Clone, Copy, Drop)]
 pub struct Event {
     pub outcome: Outcome,
     pub choices: Choices,
+    pub draws: Draws,
+}
+
+/// A canary, and the two words of which it is made.
+#[derive(Clone, Copy, Drop)]
+pub struct Canary {
+    pub low: u32,
+    pub high: u32,
+    pub canary: u64,
+}
+
+/// What becomes of a slab of which a slot was released.
+#[derive(Clone, Copy, Drop)]
+pub enum Emptied {
+    /// It serves on.
+    Kept,
+    /// It is retired. `word` names its parking place, and `unparked` is the slab that stood there.
+    Retired { word: u32, unparked: Option<u64> },
+    /// Its pages did not go, and their bytes were made zero.
+    Purged,
 }
 
 /// Nothing is chosen.
@@ -41,35 +61,113 @@ pub const NO_CHOICES: Choices = Choices {
     guard: None,
 };
 
-/// What is chosen where a slab is opened. Its canary is 0.
-pub fn opened_choices(slab: u64) -> Choices
-    ensures { result ≡ chose_new slab }
+/// Nothing is drawn.
+pub const NO_DRAWS: Draws = Draws {
+    used: 0,
+    w0: 0,
+    w1: 0,
+    w2: 0,
+};
+
+/// One word is drawn.
+pub fn one_draw(word: u32) -> Draws
+    ensures { result ≡ one_draw word }
 {
+    Draws {
+        used: 1,
+        w0: word,
+        ..NO_DRAWS
+    }
+}
+
+/// The words that are drawn as a slot is picked: those of the canary of a slab that is opened for it, and
+/// the start slot's.
+pub fn start_draws(canary: Option<Canary>, word: u32) -> Draws
+    ensures { result ≡ start_draws canary word }
+{
+    match canary {
+        None => one_draw(word),
+        Some(canary) => Draws {
+            used: 3,
+            w0: canary.low,
+            w1: canary.high,
+            w2: word,
+        },
+    }
+}
+
+/// What is chosen where a slab is opened.
+pub fn opened_choices(slab: u64, canary: Option<Canary>) -> Choices
+    ensures { result ≡ chose_opened slab canary }
+{
+    let canary = match canary {
+        Some(canary) => Some(canary.canary),
+        None => None,
+    };
     Choices {
-        canary: Some(0),
+        canary,
         opened: Some(slab),
         ..NO_CHOICES
     }
 }
 
-/// What is chosen where a slot is released.
-pub fn released_choices(addr: u64) -> Choices
-    ensures { result ≡ chose_released addr }
+// What is chosen as a block is taken back.
+fn freed_choices(released: Option<u64>, slab: u64, emptied: Emptied) -> Choices
+    ensures { result ≡ freed_choices released slab emptied }
 {
+    let (retired, purged, unparked) = match emptied {
+        Emptied::Kept => (None, None, None),
+        Emptied::Retired { word: _, unparked } => (Some(slab), None, unparked),
+        Emptied::Purged => (None, Some(slab), None),
+    };
     Choices {
-        released: Some(addr),
+        released,
+        retired,
+        purged,
+        unparked,
         ..NO_CHOICES
     }
 }
 
+// The words that are drawn as a block is taken back: that of the array's place, where there is an array,
+// and that of the parking place.
+fn freed_draws(array: Option<u32>, emptied: Emptied) -> Draws
+    ensures { result ≡ freed_draws array emptied }
+{
+    match (array, emptied) {
+        (None, Emptied::Retired { word, .. }) => one_draw(word),
+        (None, Emptied::Kept | Emptied::Purged) => NO_DRAWS,
+        (Some(array), Emptied::Retired { word, .. }) => Draws {
+            used: 2,
+            w0: array,
+            w1: word,
+            w2: 0,
+        },
+        (Some(array), Emptied::Kept | Emptied::Purged) => one_draw(array),
+    }
+}
+
 impl Event {
-    /// An outcome with which nothing was chosen.
+    /// An outcome with which nothing was chosen and drawn.
     pub fn plain(outcome: Outcome) -> Event
         ensures { result ≡ plain outcome }
     {
         Event {
             outcome,
             choices: NO_CHOICES,
+            draws: NO_DRAWS,
+        }
+    }
+
+    /// A block was taken back. `array` is the word of its place of the quarantine's array, `released` the
+    /// slot that left the quarantine, and `slab` that slot's slab.
+    pub fn freed(array: Option<u32>, released: Option<u64>, slab: u64, emptied: Emptied) -> Event
+        ensures { result ≡ freed array released slab emptied }
+    {
+        Event {
+            outcome: Outcome::Freed,
+            choices: freed_choices(released, slab, emptied),
+            draws: freed_draws(array, emptied),
         }
     }
 }

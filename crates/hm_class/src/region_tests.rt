@@ -1,16 +1,23 @@
-//! Examples of a region of class 7 over pages in memory.
-ghost use Rattle.std.specs.Prelude.{◌≡◌, ◌≤◌, [], IfOk, IsTrue};
+//! Examples of regions over pages in memory. A test names the class by the size of its requests, and
+//! looks at replies and at what the entries chose and drew.
+ghost use Rattle.std.specs.Prelude.{◌≡◌, ◌≤◌, ◌<◌, IsTrue};
 ghost use Rattle.std.specs.FinMap as map;
+ghost use Rattle.hm_sizes.specs.Classes.{class_count};
 
 use crate::ClassHeap;
-use hm_model::{Reply, Runs, Who};
+use hm_model::{Draws, Reply, Runs, Who};
 use hm_outside::{FailingPages, NoMemory, Pages, PlainPages};
-use hm_sizes::{ClassId, Config};
+use hm_sizes::{ClassId, Config, Kind, class_of};
 use std::alloc::Global;
 use std::test::Fail;
 
-/// Where slab 0 of class 7 begins in arena 0: 2^40 + 7 * 2^36 + 4096.
-const FIRST: u64 = 1_580_547_969_024;
+/// Where slab 0 of class 7 begins in arena 0 of run 0, and the first block there.
+const FIRST: u64 = 1_592_101_122_048;
+
+const BLOCK: u64 = 1_592_101_124_736;
+
+/// The last address that a call may name.
+const LAST: u64 = (1 << 47) - 1;
 
 const WHO: Who = Who {
     caller: 1,
@@ -20,202 +27,485 @@ const WHO: Who = Who {
     part: 1,
 };
 
-/// Class 7 of the standard configuration without a quarantine, with a guard after so many slabs.
-fn class_seven<P: Pages>(
+/// A region in arena 0 of a run, whose quarantine has this base.
+fn region_of<P: Pages>(
     alloc: Global,
+    run: u64,
+    class: u8,
+    base: u32,
     pages: P,
-    guard_interval: u32,
 ) -> Result<ClassHeap<P>, NoMemory>
-    requires guards_some { 1 ≤ guard_interval }
-    requires guards_most { guard_interval ≤ 8 }
+    requires class { class < class_count }
+    requires base { base ≤ 1 }
     requires nothing { IsTrue (P.told pages) → P.runs pages ≡ map.empty }
     requires count { P.faults pages ≡ 0 }
-    ensures class { IfOk result (λ region. region.class.0 ≡ 7) }
-    ensures entries { IfOk result (λ region. region.entries ≡ []) }
 {
     let config = Config {
-        array_base: 0,
-        ring_base: 0,
-        guard_interval,
+        array_base: base,
+        ring_base: base,
         ..Config::standard()
     };
-    ClassHeap::build(alloc, &config, 0, 0, ClassId(7), pages)
+    ClassHeap::build(alloc, &config, run, 0, ClassId(class), pages)
 }
 
-#[test]
-fn blocks_come_and_go(rt: HostRuntime) -> Result<(), Fail> {
-    let alloc = rt.alloc();
-    let mut region = class_seven(alloc, PlainPages::new(alloc), 1)?;
-    assert!(rt;
-        matches!(
-            region.allot(WHO, 100)?,
-            Reply::Given {
-                addr: FIRST,
-                usable: 104
-            }
-        )
-    );
-    assert!(rt;
-        matches!(
-            region.allot(WHO, 104)?,
-            Reply::Given {
-                addr: 1_580_547_969_136,
-                usable: 104
-            }
-        )
-    );
-    assert!(rt; matches!(region.give_back(WHO, FIRST, None)?, Reply::Freed));
-    assert!(rt; matches!(region.give_back(WHO, FIRST, None)?, Reply::DoubleFree));
-    assert!(rt; matches!(region.give_back(WHO, FIRST + 8, None)?, Reply::NoSlot));
-    assert!(rt;
-        matches!(region.give_back(WHO, FIRST + 4096, None)?, Reply::NoSlot),
-        "a guard"
-    );
-    assert!(rt; matches!(region.give_back(WHO, FIRST + 224, None)?, Reply::Unused));
-    assert!(rt;
-        matches!(
-            region.allot(WHO, 89)?,
-            Reply::Given {
-                addr: FIRST,
-                usable: 104
-            }
-        )
-    );
-    assert_eq!(rt; region.faults(), 0);
-    assert_eq!(rt; region.entries().len(), 8);
-    assert!(rt; region.spare() >= 2);
-    Ok(())
+/// The same in run 0.
+fn region<P: Pages>(alloc: Global, class: u8, base: u32, pages: P) -> Result<ClassHeap<P>, NoMemory>
+    requires class { class < class_count }
+    requires base { base ≤ 1 }
+    requires nothing { IsTrue (P.told pages) → P.runs pages ≡ map.empty }
+    requires count { P.faults pages ≡ 0 }
+{
+    region_of(alloc, 0, class, base, pages)
 }
 
-#[test]
-fn the_second_slab_follows_a_guard(rt: HostRuntime) -> Result<(), Fail> {
-    let alloc = rt.alloc();
-    let mut region = class_seven(alloc, PlainPages::new(alloc), 1)?;
-    for _ in 0..36 {
-        let _given = region.allot(WHO, 100)?;
+/// The reply to a request, which must be one of the region's class.
+fn allot<P: Pages>(region: &mut ClassHeap<P>, asked: u64) -> Result<Reply, Fail> {
+    match class_of(asked) {
+        Kind::Small(class) if class.0 == region.class().0 => Ok(region.allot(WHO, asked)?),
+        _ => Err(Fail::new("a request of another class")),
     }
-    assert!(rt;
-        matches!(
-            region.allot(WHO, 100)?,
-            Reply::Given {
-                addr: 1_580_547_977_216,
-                usable: 104
-            }
-        )
-    );
-    let (entries, _pages) = region.into_entries();
-    assert_eq!(rt; entries.len(), 37);
+}
+
+/// The address of the block that is given.
+fn given<P: Pages>(region: &mut ClassHeap<P>, asked: u64) -> Result<u64, Fail> {
+    match allot(region, asked)? {
+        Reply::Given { addr, .. } => Ok(addr),
+        _ => Err(Fail::new("no block")),
+    }
+}
+
+/// Takes a block back.
+fn free<P: Pages>(region: &mut ClassHeap<P>, addr: u64) -> Result<(), Fail> {
+    match region.give_back(WHO, addr, None)? {
+        Reply::Freed => Ok(()),
+        _ => Err(Fail::new("not freed")),
+    }
+}
+
+/// Writes the byte 0x41 at an address.
+fn stain<P: Pages>(alloc: Global, region: &mut ClassHeap<P>, addr: u64) -> Result<(), Fail> {
+    let runs = Runs::same(alloc, 0x41, 1)?;
+    match region.fill(WHO, addr.min(LAST), &runs)? {
+        Reply::Filled => Ok(()),
+        _ => Err(Fail::new("not written")),
+    }
+}
+
+/// The slabs that a call opened, retired and purged.
+type Moved = (Option<u64>, Option<u64>, Option<u64>);
+
+/// What the call of this number did to slabs, the first call being 0.
+fn moved<P: Pages>(region: &ClassHeap<P>, at: usize) -> Option<Moved> {
+    let choices = region.entries().get(at)?.choices;
+    Some((choices.opened, choices.retired, choices.purged))
+}
+
+/// The address that left the quarantine in a call.
+fn released<P: Pages>(region: &ClassHeap<P>, at: usize) -> Option<u64> {
+    region.entries().get(at)?.choices.released
+}
+
+/// The canary of the slab that a call opened.
+fn canary<P: Pages>(region: &ClassHeap<P>, at: usize) -> Option<u64> {
+    region.entries().get(at)?.choices.canary
+}
+
+/// The words that a call drew.
+fn drawn<P: Pages>(region: &ClassHeap<P>, at: usize) -> Option<Draws> {
+    Some(region.entries().get(at)?.draws)
+}
+
+/// The counts of page faults at the start and the end of a call.
+fn faults<P: Pages>(region: &ClassHeap<P>, at: usize) -> Option<(u64, u64)> {
+    let entry = region.entries().get(at)?;
+    Some((entry.faults_before, entry.faults_after))
+}
+
+/// The block that a request of 130,000 bytes is given, where no page fails.
+fn block<P: Pages>(region: &mut ClassHeap<P>) -> Result<Option<u64>, Fail> {
+    match allot(region, 130_000)? {
+        Reply::Given { addr, .. } => Ok(Some(addr)),
+        Reply::PagesFailed => Ok(None),
+        _ => Err(Fail::new("no block")),
+    }
+}
+
+/// Takes a block back, if there is one.
+fn free_some<P: Pages>(region: &mut ClassHeap<P>, block: Option<u64>) -> Result<(), Fail> {
+    match block {
+        Some(addr) => free(region, addr),
+        None => Ok(()),
+    }
+}
+
+/// Takes a block back and then writes to it, if there is one.
+fn free_and_stain<P: Pages>(
+    alloc: Global,
+    region: &mut ClassHeap<P>,
+    block: Option<u64>,
+) -> Result<(), Fail> {
+    match block {
+        Some(addr) => {
+            free(region, addr)?;
+            stain(alloc, region, addr)
+        }
+        None => Ok(()),
+    }
+}
+
+/// Three blocks are given and taken back, and the first one is written to once it is free. Two more
+/// requests follow, the replies to which are answered.
+fn stained_block<P: Pages>(
+    alloc: Global,
+    region: &mut ClassHeap<P>,
+) -> Result<(Reply, Reply), Fail> {
+    let a = block(region)?;
+    let b = block(region)?;
+    let c = block(region)?;
+    free_and_stain(alloc, region, a)?;
+    free_some(region, b)?;
+    free_some(region, c)?;
+    let d = allot(region, 130_000)?;
+    let e = allot(region, 130_000)?;
+    Ok((d, e))
+}
+
+/// The same, with the call on the pages of this number failing. The count of faults is answered too.
+fn failing_once(alloc: Global, call: u64) -> Result<(Reply, Reply, u64), Fail> {
+    let mut fail_calls = Vec::new(alloc);
+    fail_calls.push(call)?;
+    let pages = FailingPages::build(alloc, fail_calls);
+    let mut region = region(alloc, 48, 1, pages)?;
+    let (d, e) = stained_block(alloc, &mut region)?;
+    Ok((d, e, region.faults()))
+}
+
+/// Gives so many blocks of no bytes, and takes them back in the same order.
+fn come_and_go<P: Pages>(
+    alloc: Global,
+    region: &mut ClassHeap<P>,
+    count: usize,
+) -> Result<(), Fail> {
+    let blocks = empty_blocks(alloc, region, count)?;
+    for addr in &blocks {
+        free(region, *addr)?;
+    }
+    Ok(())
+}
+
+/// So many blocks of no bytes.
+fn empty_blocks<P: Pages>(
+    alloc: Global,
+    region: &mut ClassHeap<P>,
+    count: usize,
+) -> Result<Vec<u64>, Fail> {
+    let mut blocks = Vec::new(alloc);
+    for _ in 0..count {
+        blocks.push(given(region, 0)?)?;
+    }
+    Ok(blocks)
+}
+
+/// Two blocks are given and taken back, and two more are given.
+fn two_and_two<P: Pages>(region: &mut ClassHeap<P>) -> Result<[u64; 4], Fail> {
+    let a = given(region, 130_000)?;
+    let b = given(region, 130_000)?;
+    free(region, a)?;
+    free(region, b)?;
+    let c = given(region, 130_000)?;
+    let d = given(region, 130_000)?;
+    Ok([a, b, c, d])
+}
+
+/// Four blocks are given and taken back, and the second one is written to once it is free. Two more are
+/// given. The first, the second and the fifth are answered.
+fn stained_second<P: Pages>(
+    alloc: Global,
+    region: &mut ClassHeap<P>,
+) -> Result<(u64, u64, u64), Fail> {
+    let z = given(region, 130_000)?;
+    let a = given(region, 130_000)?;
+    let b = given(region, 130_000)?;
+    let c = given(region, 130_000)?;
+    free(region, z)?;
+    free_and_stain(alloc, region, Some(a))?;
+    free(region, b)?;
+    free(region, c)?;
+    let d = given(region, 130_000)?;
+    let _e = given(region, 130_000)?;
+    Ok((z, a, d))
+}
+
+/// The first address of a byte that cannot be read, if it cannot.
+fn trap<P: Pages>(region: &mut ClassHeap<P>, addr: u64) -> Result<Option<u64>, Fail> {
+    match region.fetch(WHO, addr.min(LAST), 1)? {
+        Reply::Trap { addr } => Ok(Some(addr)),
+        _ => Ok(None),
+    }
+}
+
+/// A block of 100 bytes is given and taken back.
+fn one_block<P: Pages>(region: &mut ClassHeap<P>) -> Result<u64, Fail> {
+    let block = given(region, 100)?;
+    free(region, block)?;
+    Ok(block)
+}
+
+/// Why an address is not taken back.
+#[derive(Clone, Copy, Debug, PartialEq, Eq, Drop)]
+enum Refused {
+    NoSlot,
+    Unused,
+    DoubleFree,
+}
+
+/// Why giving back an address is refused.
+fn refusal_of<P: Pages>(region: &mut ClassHeap<P>, addr: u64) -> Result<Refused, Fail> {
+    match region.give_back(WHO, addr, None)? {
+        Reply::NoSlot => Ok(Refused::NoSlot),
+        Reply::Unused => Ok(Refused::Unused),
+        Reply::DoubleFree => Ok(Refused::DoubleFree),
+        _ => Err(Fail::new("not refused")),
+    }
+}
+
+#[test]
+fn first_block_of_run_zero(rt: HostRuntime) -> Result<(), Fail> {
+    let alloc = rt.alloc();
+    let mut region = region(alloc, 7, 1, PlainPages::new(alloc))?;
+    assert_eq!(rt; given(&mut region, 100)?, BLOCK);
+    assert!(rt; matches!(region.measure(WHO, BLOCK)?, Reply::Usable(104)));
     Ok(())
 }
 
 #[test]
-fn a_page_fails_once(rt: HostRuntime) -> Result<(), Fail> {
+fn words_of_run_zero(rt: HostRuntime) -> Result<(), Fail> {
     let alloc = rt.alloc();
-    let fail_calls = vec![in alloc; 1]?;
-    let mut region = class_seven(alloc, FailingPages::build(alloc, fail_calls), 1)?;
-    assert!(rt; matches!(region.allot(WHO, 100)?, Reply::PagesFailed));
-    assert_eq!(rt; region.faults(), 1);
-    assert!(rt;
-        matches!(
-            region.allot(WHO, 100)?,
-            Reply::Given {
-                addr: FIRST,
-                usable: 104
-            }
-        )
-    );
-    assert_eq!(rt; region.faults(), 1);
+    let mut region = region(alloc, 7, 1, PlainPages::new(alloc))?;
+    let _block = one_block(&mut region)?;
+    let opened = Draws {
+        used: 3,
+        w0: 3_231_088_256,
+        w1: 3_392_945_114,
+        w2: 2_935_142_444,
+    };
+    assert_eq!(rt; drawn(&region, 0), Some(opened));
+    let freed = Draws {
+        used: 1,
+        w0: 2_409_532_924,
+        w1: 0,
+        w2: 0,
+    };
+    assert_eq!(rt; drawn(&region, 1), Some(freed));
+    assert_eq!(rt; canary(&region, 0), Some(14_572_588_304_984_079_872));
+    assert_eq!(rt; released(&region, 1), None);
     Ok(())
 }
 
 #[test]
-fn a_size_is_stated(rt: HostRuntime) -> Result<(), Fail> {
+fn another_size_is_stated(rt: HostRuntime) -> Result<(), Fail> {
     let alloc = rt.alloc();
-    let mut region = class_seven(alloc, PlainPages::new(alloc), 1)?;
-    let _given = region.allot(WHO, 100)?;
+    let mut region = region(alloc, 7, 1, PlainPages::new(alloc))?;
+    let block = given(&mut region, 100)?;
     assert!(rt;
         matches!(
-            region.give_back(WHO, FIRST, Some(105))?,
+            region.give_back(WHO, block, Some(105))?,
             Reply::WrongSize {
                 block: 112,
                 stated: 128
             }
         )
     );
-    assert!(rt; matches!(region.measure(WHO, FIRST)?, Reply::Usable(104)));
-    assert!(rt; matches!(region.give_back(WHO, FIRST, Some(97))?, Reply::Freed));
-    assert!(rt; matches!(region.measure(WHO, FIRST)?, Reply::DoubleFree));
     Ok(())
 }
 
 #[test]
-fn a_write_after_a_free_is_told(rt: HostRuntime) -> Result<(), Fail> {
+fn refused_frees(rt: HostRuntime) -> Result<(), Fail> {
     let alloc = rt.alloc();
-    let mut region = class_seven(alloc, PlainPages::new(alloc), 1)?;
-    let _given = region.allot(WHO, 100)?;
-    assert!(rt; matches!(region.give_back(WHO, FIRST, None)?, Reply::Freed));
-    let stain = Runs::same(alloc, 0x41, 2)?;
-    assert!(rt; matches!(region.fill(WHO, FIRST + 102, &stain)?, Reply::Filled));
-    assert!(rt;
-        matches!(
-            region.allot(WHO, 100)?,
-            Reply::Overwritten {
-                addr: FIRST,
-                at: 102,
-                found: 0x41
-            }
-        )
-    );
-    assert!(rt;
-        matches!(
-            region.allot(WHO, 100)?,
-            Reply::Given {
-                addr: 1_580_547_969_136,
-                usable: 104
-            }
-        ),
-        "the slot is not given again"
-    );
+    let mut region = region(alloc, 7, 1, PlainPages::new(alloc))?;
+    let block = one_block(&mut region)?;
+    assert_eq!(rt; refusal_of(&mut region, block)?, Refused::DoubleFree);
+    assert_eq!(rt; refusal_of(&mut region, BLOCK + 8)?, Refused::NoSlot);
+    assert_eq!(rt; refusal_of(&mut region, FIRST)?, Refused::Unused);
     Ok(())
 }
 
 #[test]
-fn ranges_cross_slabs_and_stop_at_guards(rt: HostRuntime) -> Result<(), Fail> {
+fn guard_is_no_slot(rt: HostRuntime) -> Result<(), Fail> {
     let alloc = rt.alloc();
-    let mut region = class_seven(alloc, PlainPages::new(alloc), 2)?;
-    for _ in 0..37 {
-        let _given = region.allot(WHO, 100)?;
+    let mut region = region(alloc, 7, 1, PlainPages::new(alloc))?;
+    let _block = one_block(&mut region)?;
+    assert_eq!(rt; refusal_of(&mut region, FIRST + 4096)?, Refused::NoSlot);
+    Ok(())
+}
+
+#[test]
+fn readings(rt: HostRuntime) -> Result<(), Fail> {
+    let alloc = rt.alloc();
+    let mut region = region(alloc, 7, 1, PlainPages::new(alloc))?;
+    let block = given(&mut region, 100)?;
+    assert_eq!(rt; region.number(), 0);
+    assert_eq!(rt; region.class(), ClassId(7));
+    assert_eq!(rt; region.shape().first, FIRST);
+    assert_eq!(rt; region.faults(), 0);
+    assert!(rt; region.spare() >= 1, "room for the free");
+    assert!(rt; region.pages().holds(block, 112));
+    let (entries, pages) = region.into_entries();
+    assert_eq!(rt; entries.len(), 1);
+    assert!(rt; !pages.holds(FIRST, 4097), "a guard");
+    Ok(())
+}
+
+#[test]
+fn second_empty_slab_is_retired(rt: HostRuntime) -> Result<(), Fail> {
+    let alloc = rt.alloc();
+    let mut region = region(alloc, 48, 0, PlainPages::new(alloc))?;
+    let [a, b, c, _d] = two_and_two(&mut region)?;
+    assert_eq!(rt; c, a);
+    assert_eq!(rt; released(&region, 2), Some(a));
+    assert_eq!(rt; released(&region, 3), Some(b));
+    assert_eq!(rt; moved(&region, 1), Some((Some(2), None, None)));
+    assert_eq!(rt; moved(&region, 2), Some((None, None, None)));
+    assert_eq!(rt; moved(&region, 3), Some((None, Some(2), None)));
+    assert_eq!(rt; moved(&region, 5), Some((Some(4), None, None)));
+    Ok(())
+}
+
+#[test]
+fn second_empty_slab_is_retired_in_each_run(rt: HostRuntime) -> Result<(), Fail> {
+    let alloc = rt.alloc();
+    for run in [1, 2, u64::MAX] {
+        let mut region = region_of(alloc, run, 48, 0, PlainPages::new(alloc))?;
+        let [a, b, c, _d] = two_and_two(&mut region)?;
+        assert_eq!(rt; c, a, "run {run}");
+        assert_eq!(rt; released(&region, 3), Some(b), "run {run}");
+        assert_eq!(rt; moved(&region, 3), Some((None, Some(2), None)), "run {run}");
+        assert_eq!(rt; moved(&region, 5), Some((Some(4), None, None)), "run {run}");
     }
-    let ten = Runs::same(alloc, 0x41, 10)?;
-    assert!(rt; matches!(region.fill(WHO, FIRST + 4090, &ten)?, Reply::Filled));
-    let read = match region.fetch(WHO, FIRST + 4089, 12)? {
-        Reply::Bytes(runs) => runs,
-        _ => return Err(Fail::new("the bytes of two slabs")),
-    };
-    let bytes: [(u8, u64); 3] = [(0, 1), (0x41, 10), (0, 1)];
-    assert_eq!(rt; read.pairs(), bytes.as_slice());
+    Ok(())
+}
+
+#[test]
+fn slab_that_stays_is_purged(rt: HostRuntime) -> Result<(), Fail> {
+    let alloc = rt.alloc();
+    let pages = FailingPages::build(alloc, vec![in alloc; 3]?);
+    let mut region = region(alloc, 48, 0, pages)?;
+    let [a, b, c, d] = two_and_two(&mut region)?;
+    assert_eq!(rt; (c, d), (b, a));
+    assert_eq!(rt; moved(&region, 3), Some((None, None, Some(2))));
+    assert_eq!(rt; faults(&region, 3), Some((0, 1)));
+    assert_eq!(rt; moved(&region, 4), Some((None, None, None)));
+    assert_eq!(rt; moved(&region, 5), Some((None, None, None)));
+    Ok(())
+}
+
+#[test]
+fn write_after_a_free_is_found(rt: HostRuntime) -> Result<(), Fail> {
+    let alloc = rt.alloc();
+    let mut region = region(alloc, 48, 1, PlainPages::new(alloc))?;
+    let (d, e) = stained_block(alloc, &mut region)?;
     assert!(rt;
         matches!(
-            region.fill(WHO, FIRST + 8186, &ten)?,
-            Reply::Trap {
-                addr: 1_580_547_977_216
+            d,
+            Reply::Overwritten {
+                at: 0,
+                found: 0x41,
+                ..
             }
         )
     );
-    let kept = match region.fetch(WHO, FIRST + 8186, 6)? {
-        Reply::Bytes(runs) => runs,
-        _ => return Err(Fail::new("the bytes before the guard")),
-    };
-    let zeros: [(u8, u64); 1] = [(0, 6)];
-    assert_eq!(rt; kept.pairs(), zeros.as_slice());
     assert!(rt;
         matches!(
-            region.fetch(WHO, FIRST + 8186, 10)?,
-            Reply::Trap {
-                addr: 1_580_547_977_216
+            e,
+            Reply::Given {
+                usable: 131_064,
+                ..
             }
         )
     );
-    assert!(rt; matches!(region.fetch(WHO, FIRST - 1, 1)?, Reply::Trap { .. }));
+    assert_eq!(rt; moved(&region, 8), Some((Some(6), None, None)));
+    Ok(())
+}
+
+#[test]
+fn retired_slab_forgets_its_bytes(rt: HostRuntime) -> Result<(), Fail> {
+    let alloc = rt.alloc();
+    let mut region = region(alloc, 48, 1, PlainPages::new(alloc))?;
+    let (z, a, d) = stained_second(alloc, &mut region)?;
+    assert_eq!(rt; d, z);
+    assert_eq!(rt; moved(&region, 10), Some((Some(8), None, None)));
+    assert_eq!(rt; trap(&mut region, a)?, Some(a));
+    Ok(())
+}
+
+#[test]
+fn each_opening_fails_once(rt: HostRuntime) -> Result<(), Fail> {
+    let alloc = rt.alloc();
+    for call in 1..4 {
+        let (d, e, faults) = failing_once(alloc, call)?;
+        assert!(rt;
+            matches!(
+                d,
+                Reply::Given {
+                    usable: 131_064,
+                    ..
+                }
+            ),
+            "call {call}"
+        );
+        assert!(rt;
+            matches!(
+                e,
+                Reply::Given {
+                    usable: 131_064,
+                    ..
+                }
+            ),
+            "call {call}"
+        );
+        assert_eq!(rt; faults, 1, "call {call}");
+    }
+    Ok(())
+}
+
+#[test]
+fn last_opening_fails(rt: HostRuntime) -> Result<(), Fail> {
+    let (d, e, faults) = failing_once(rt.alloc(), 4)?;
+    assert!(rt;
+        matches!(
+            d,
+            Reply::Overwritten {
+                at: 0,
+                found: 0x41,
+                ..
+            }
+        )
+    );
+    assert!(rt; matches!(e, Reply::PagesFailed));
+    assert_eq!(rt; faults, 1);
+    Ok(())
+}
+
+#[test]
+fn failed_page_draws_nothing(rt: HostRuntime) -> Result<(), Fail> {
+    let alloc = rt.alloc();
+    let pages = FailingPages::build(alloc, vec![in alloc; 1]?);
+    let mut region = region(alloc, 7, 1, pages)?;
+    assert!(rt; matches!(allot(&mut region, 100)?, Reply::PagesFailed));
+    assert_eq!(rt; given(&mut region, 100)?, BLOCK);
+    assert_eq!(rt; faults(&region, 0), Some((0, 1)));
+    assert_eq!(rt; faults(&region, 1), Some((1, 1)));
+    Ok(())
+}
+
+// A slab of class 0 counts as one page: 32 of them stay empty.
+#[test]
+fn slabs_of_no_bytes(rt: HostRuntime) -> Result<(), Fail> {
+    let alloc = rt.alloc();
+    let mut region = region(alloc, 0, 0, PlainPages::new(alloc))?;
+    come_and_go(alloc, &mut region, 40 * 256)?;
+    assert_eq!(rt; canary(&region, 0), None);
+    assert_eq!(rt; moved(&region, 18_431), Some((None, None, None)));
+    assert_eq!(rt; moved(&region, 18_687), Some((None, Some(64), None)));
     Ok(())
 }

@@ -1,13 +1,13 @@
-//! The slabs of a region by number, and which slot serves next or stands at an address.
-ghost use Rattle.std.specs.Prelude.{◌≡◌, ◌+◌, ◌<◌, ◌≤◌, ◌^◌, Some, None, true, option_map, is_some, IsTrue, MatchOption, OnOk, IfOk, replicate, vec_len, vec_capacity};
-ghost use Rattle.std.specs.List.{position};
-ghost use Rattle.hm_sizes.specs.Shapes.{IsShape, place};
-ghost use Rattle.hm_class.specs.Kept.{SameSlabs};
-ghost use Rattle.hm_class.specs.Sources.{IsAvailable, NonePartly, NoneUnused, Sources, Judges};
-ghost use Rattle.hm_class.specs.Uses.{partly, unused, is_partly, is_unused, slab_in, use_at, passes_at, lives, was_given, canary_at, first_available, with_use, with_slab, live_count};
-ghost use Rattle.hm_class.specs.declared.slab.SlotUse.TheVariants.{Never};
+//! The slabs of a region by number, the lists of those that serve next, and what stands at an address.
+ghost use Rattle.std.specs.Prelude.{◌≡◌, ◌+◌, ◌<◌, ◌≤◌, ◌^◌, ℕ, Some, None, true, length, reverse, is_some, IsTrue, OnOk, IfOk, IfSome, vec_len, vec_capacity};
+ghost use Rattle.hm_sizes.specs.Shapes.{IsShape, place, slab_of, slot_of};
+ghost use Rattle.hm_class_rules.specs.Kinds.{Kind};
+ghost use Rattle.hm_class_rules.specs.Stepped.{listed};
+ghost use Rattle.hm_class.specs.Rooms.{IsNone, HasRoom, SameLists, SameSlabs, Relists};
+ghost use Rattle.hm_class.specs.Sources.{front_of, new_of, Sources, Judges};
+ghost use Rattle.hm_class.specs.Uses.{slab_in, open_at, kind_at, kind_named, use_at, passes_at, lives, was_given, canary_at, first_at, with_use, with_open, with_shut, ready_slab, taken_uses, still_shut, live_count};
 
-use crate::slab::{Slab, SlotUse};
+use crate::slab::{Slab, SlabKind, SlotUse};
 use hm_sizes::{Shape, place_of};
 use std::alloc::{AllocError, Global};
 
@@ -21,9 +21,9 @@ pub struct Slot {
 /// Where a block comes from.
 #[derive(Clone, Copy, Drop)]
 pub enum Source {
-    /// An available slot of an open slab.
-    Open(Slot),
-    /// The first slot of a new slab.
+    /// An open slab.
+    Open(u64),
+    /// A slab that is to be opened.
     New(u64),
     Exhausted,
 }
@@ -50,6 +50,11 @@ pub struct Slabs {
     pub slabs: Vec<Option<Slab>>,
     /// How many slots are live.
     pub live: usize,
+    /// The partial slabs and the empty ones. The last serves first.
+    pub partial: Vec<u64>,
+    pub empty: Vec<u64>,
+    /// The slabs that were retired and stand in no parking place. The first is opened first.
+    pub shut: Vec<u64>,
 }
 
 /// The address of a slot.
@@ -62,73 +67,102 @@ pub fn address_of(shape: &Shape, slot: Slot) -> u64
     shape.first + slot.slab as u64 * shape.slab + slot.index as u64 * shape.slot
 }
 
-/// The first slab that is partly used.
-fn first_partial(slabs: &[Option<Slab>]) -> Option<usize>
-    ensures { result ≡ position partly slabs.now }
+/// The slot at an address.
+pub fn slot_at(shape: &Shape, addr: u64) -> Slot
+    requires shape { IsShape shape.now }
+    requires from { shape.now.first ≤ addr }
+    ensures slab { result.slab ≡ slab_of shape.now addr }
+    ensures index { result.index ≡ slot_of shape.now addr }
 {
-    slabs.iter().position(|slab| match slab {
-        Some(slab) => slab.is_partial(),
-        None => false,
-    })
+    let offset = addr - shape.first;
+    Slot {
+        slab: (offset / shape.slab) as usize,
+        index: (offset % shape.slab / shape.slot) as usize,
+    }
 }
 
-/// The first slab that is unused.
-fn first_empty(slabs: &[Option<Slab>]) -> Option<usize>
-    ensures { result ≡ position unused slabs.now }
+// One list of the slabs of a kind, once slab n was `before` and is `after`.
+fn relist(list: &mut Vec<u64>, wanted: SlabKind, slab: u64, before: SlabKind, after: SlabKind)
+    requires room { vec_len list.old < vec_capacity list.old }
+    ensures items { reverse list.new.items ≡ listed (kind_named wanted) slab (kind_named before) (kind_named after) (reverse list.old.items) }
+    ensures capacity { vec_capacity list.new ≡ vec_capacity list.old }
+    ensures len { vec_len list.new ≤ vec_len list.old + 1 }
 {
-    slabs.iter().position(|slab| match slab {
-        Some(slab) => slab.is_empty(),
-        None => false,
-    })
+    if after.is(before) {
+        return;
+    }
+    if after.is(wanted) {
+        list.push_reserved(slab);
+    } else if before.is(wanted) {
+        list.retain(|other| *other != slab);
+    }
 }
 
 impl Slabs {
-    /// Where the next block comes from.
-    pub fn source(&self, limit: u64) -> Source
-        ensures { Sources limit self.now.slabs.items result }
+    /// No slab.
+    pub fn none(alloc: Global) -> Slabs
+        ensures { IsNone result }
     {
-        if let Some(slot) = self.partial_slot() {
-            return Source::Open(slot);
+        Slabs {
+            slabs: Vec::new(alloc),
+            live: 0,
+            partial: Vec::new(alloc),
+            empty: Vec::new(alloc),
+            shut: Vec::new(alloc),
         }
-        if let Some(slot) = self.empty_slot() {
-            return Source::Open(slot);
+    }
+
+    /// Where the next block comes from.
+    pub fn source(&self, shape: &Shape) -> Source
+        ensures { Sources shape.now self.now result }
+    {
+        if let Some(slab) = self.front() {
+            return Source::Open(slab);
+        }
+        match self.unopened(shape) {
+            Some(slab) => Source::New(slab),
+            None => Source::Exhausted,
+        }
+    }
+
+    // The last partial slab; where there is none, the last empty one.
+    fn front(&self) -> Option<u64>
+        ensures { result ≡ front_of self.now }
+    {
+        match self.partial.last() {
+            Some(slab) => Some(*slab),
+            None => self.empty.last().copied(),
+        }
+    }
+
+    // The slab that is opened next.
+    fn unopened(&self, shape: &Shape) -> Option<u64>
+        ensures { result ≡ new_of shape.now self.now }
+    {
+        if let Some(slab) = self.shut.first() {
+            return Some(*slab);
         }
         let next = self.slabs.len() as u64;
-        if next < limit {
-            Source::New(next)
-        } else {
-            Source::Exhausted
+        if next < shape.limit { Some(next) } else { None }
+    }
+
+    /// What a slab is.
+    pub fn kind(&self, slab: usize) -> SlabKind
+        ensures { kind_named result ≡ kind_at self.now.slabs.items slab }
+    {
+        match self.slabs.get(slab) {
+            Some(Some(slab)) => slab.kind(),
+            Some(None) | None => SlabKind::Neither,
         }
     }
 
-    /// A slot of a slab that is partly used.
-    fn partial_slot(&self) -> Option<Slot>
-        ensures { MatchOption result (NonePartly self.now.slabs.items)
-            (λ s. IsAvailable self.now.slabs.items s
-            × (option_map is_partly (slab_in self.now.slabs.items s.slab) ≡ Some true)) }
-    {
-        let slab = first_partial(&self.slabs)?;
-        let index = self.first_slot(slab)?;
-        Some(Slot { slab, index })
-    }
-
-    /// A slot of an unused slab.
-    fn empty_slot(&self) -> Option<Slot>
-        ensures { MatchOption result (NoneUnused self.now.slabs.items)
-            (λ s. IsAvailable self.now.slabs.items s
-            × (option_map is_unused (slab_in self.now.slabs.items s.slab) ≡ Some true)) }
-    {
-        let slab = first_empty(&self.slabs)?;
-        let index = self.first_slot(slab)?;
-        Some(Slot { slab, index })
-    }
-
-    /// The first available slot of a slab.
-    fn first_slot(&self, slab: usize) -> Option<usize>
-        ensures { result ≡ first_available self.now.slabs.items slab }
+    /// The first available slot of a slab from one on, and else from the first on.
+    pub fn first_from(&self, slab: usize, start: usize) -> Option<usize>
+        requires { IfSome (slab_in self.now.slabs.items slab) (λ b. start ≤ length b.slots) }
+        ensures { result ≡ first_at self.now.slabs.items slab start }
     {
         match self.slabs.get(slab) {
-            Some(Some(slab)) => slab.first_free(),
+            Some(Some(slab)) => slab.first_from(start),
             Some(None) | None => None,
         }
     }
@@ -166,12 +200,15 @@ impl Slabs {
 
     /// Whether a slab is open.
     pub fn is_open(&self, slab: usize) -> bool
-        ensures { result ≡ is_some (slab_in self.now.slabs.items slab) }
+        ensures { result ≡ open_at self.now.slabs.items slab }
     {
-        matches!(self.slabs.get(slab), Some(Some(_)))
+        match self.slabs.get(slab) {
+            Some(Some(slab)) => slab.is_open(),
+            Some(None) | None => false,
+        }
     }
 
-    /// The canary of a slab: 0 where it was never opened.
+    /// The canary of a slab: 0 where it is not open.
     pub fn canary_of(&self, slab: usize) -> u64
         ensures { result ≡ canary_at self.now.slabs.items slab }
     {
@@ -201,27 +238,93 @@ impl Slabs {
         }
     }
 
-    /// A slab whose slots were never given, and room for it and a guard after it.
-    pub fn ready(&mut self, alloc: Global, slots: u32, canary: u64) -> Result<Slab, AllocError>
+    /// Makes room in each list for the slabs that change with each live block and the next.
+    pub fn reserve(&mut self) -> Result<(), AllocError>
+        requires few { self.old.live < 2 ^ 63 }
         ensures same { SameSlabs self.old self.new }
-        ensures slab { IfOk result (λ slab. slab ≡ (record { slots = replicate slots Never; canary = canary })) }
+        ensures table { self.new.slabs ≡ self.old.slabs }
+        ensures room { OnOk result (HasRoom self.new (self.old.live + 2)) }
+        ensures kept { (n : ℕ) → HasRoom self.old n → HasRoom self.new n }
+    {
+        let more = self.live + 2;
+        self.partial.reserve(more)?;
+        self.empty.reserve(more)?;
+        self.shut.reserve(more)
+    }
+
+    /// Room for one more slab; and a fresh one, unless one that is shut comes first.
+    pub fn ready(&mut self, alloc: Global, slots: u32) -> Result<Option<Slab>, AllocError>
+        ensures same { self.new.slabs.items ≡ self.old.slabs.items }
+        ensures live { self.new.live ≡ self.old.live }
+        ensures lists { SameLists self.old self.new }
+        ensures slab { IfOk result (λ slab. slab ≡ ready_slab self.old.shut.items slots) }
         ensures room { OnOk result (vec_len self.new.slabs + 2 ≤ vec_capacity self.new.slabs) }
     {
         self.slabs.reserve(2)?;
-        Slab::fresh(alloc, slots, canary)
+        if self.shut.is_empty() {
+            Ok(Some(Slab::fresh(alloc, slots)?))
+        } else {
+            Ok(None)
+        }
     }
 
-    /// Puts a slab at the next number. It takes no memory.
-    pub fn open(&mut self, shape: &Shape, slab: Slab)
+    /// Takes the first slab of those that are shut, or puts the fresh one at the next number. It takes no
+    /// memory.
+    pub fn take_new(&mut self, shape: &Shape, slab: Option<Slab>)
         requires guards_most { shape.now.guard_interval ≤ 8 }
         requires room { vec_len self.old.slabs + 2 ≤ vec_capacity self.old.slabs }
-        ensures slabs { self.new.slabs.items ≡ with_slab shape.now self.old.slabs.items slab }
+        requires ready { slab ≡ ready_slab self.old.shut.items shape.now.slots }
+        ensures slabs { self.new.slabs.items ≡ taken_uses shape.now self.old.shut.items self.old.slabs.items }
         ensures live { self.new.live ≡ self.old.live }
+        ensures partial { self.new.partial ≡ self.old.partial }
+        ensures empty { self.new.empty ≡ self.old.empty }
+        ensures shut { self.new.shut.items ≡ still_shut self.old.shut.items }
+        ensures shut_room { (vec_capacity self.new.shut ≡ vec_capacity self.old.shut) × (vec_len self.new.shut ≤ vec_len self.old.shut) }
     {
+        let Some(slab) = slab else {
+            let _taken = self.shut.remove(0);
+            return;
+        };
         self.slabs.push_reserved(Some(slab));
         if shape.is_guard(self.slabs.len() as u64) {
             self.slabs.push_reserved(None);
         }
+    }
+
+    /// Opens a slab.
+    pub fn open(&mut self, slab: usize, canary: u64)
+        requires there { is_some (slab_in self.old.slabs.items slab) ≡ true }
+        ensures slabs { self.new.slabs.items ≡ with_open self.old.slabs.items slab canary }
+        ensures live { self.new.live ≡ self.old.live }
+        ensures lists { SameLists self.old self.new }
+    {
+        match &mut self.slabs[slab] {
+            Some(slab) => slab.open(canary),
+            None => unreachable!(),
+        }
+    }
+
+    /// Shuts a slab.
+    pub fn close(&mut self, slab: usize)
+        requires there { is_some (slab_in self.old.slabs.items slab) ≡ true }
+        ensures slabs { self.new.slabs.items ≡ with_shut self.old.slabs.items slab }
+        ensures live { self.new.live ≡ self.old.live }
+        ensures lists { SameLists self.old self.new }
+    {
+        match &mut self.slabs[slab] {
+            Some(slab) => slab.shut(),
+            None => unreachable!(),
+        }
+    }
+
+    /// A slab was `before` and is `after`: it joins or leaves the lists. That takes no memory.
+    pub fn relist(&mut self, slab: u64, before: SlabKind, after: SlabKind)
+        requires partial { vec_len self.old.partial < vec_capacity self.old.partial }
+        requires empty { vec_len self.old.empty < vec_capacity self.old.empty }
+        ensures { Relists slab (kind_named before) (kind_named after) self.old self.new }
+    {
+        relist(&mut self.partial, SlabKind::Partial, slab, before, after);
+        relist(&mut self.empty, SlabKind::Empty, slab, before, after);
     }
 
     /// A slot is used otherwise.
@@ -230,6 +333,7 @@ impl Slabs {
         requires counted { self.old.live ≡ live_count self.old.slabs.items }
         requires few { self.old.live < 2 ^ 63 }
         ensures slabs { self.new.slabs.items ≡ with_use self.old.slabs.items slot.slab slot.index new }
+        ensures lists { SameLists self.old self.new }
         ensures counted { self.new.live ≡ live_count self.new.slabs.items }
     {
         let live = self.live_after(slot, new);
@@ -251,6 +355,7 @@ impl Slabs {
     fn put(&mut self, slot: Slot, new: SlotUse)
         requires { is_some (use_at self.old.slabs.items slot.slab slot.index) ≡ true }
         ensures slabs { self.new.slabs.items ≡ with_use self.old.slabs.items slot.slab slot.index new }
+        ensures lists { SameLists self.old self.new }
     {
         match &mut self.slabs[slot.slab] {
             Some(slab) => slab.set(slot.index, new),

@@ -1,15 +1,20 @@
-use Rattle.std.proofs.Common.{refl, arith}
-use Rattle.hm_class.proofs.Entries.{kept_built, served_of, region_of}
+use Rattle.std.proofs.Common.{◌≡◌, refl, arith, rules, replicate, None}
+use Rattle.hm_class.proofs.Built.{kept_built}
+use Rattle.hm_class.proofs.Roomy.{room_less}
+use Rattle.hm_class.proofs.Entries.{region_of}
 use Rattle.hm_class.proofs.heap.ClassHeap.build.Goals as goal
 
 pub invariant_of-result : goal.invariant_of-result
 invariant_of-result g c =
-    let served = served_of c.args.config.now c.args.arena c.args.class c.shape_of-shape.result c.shape_of-shape.ensures.value c.shape_of-shape.ensures.fits c.requires.class c.requires.no_array c.requires.no_ring c.requires.valid.reuse in (
-      kept_built (g.P.Pages.told c.args.pages) (g.P.Pages.runs c.args.pages) (g.P.Pages.faults c.args.pages) c.args.config.now c.args.arena c.shape_of-shape.result c.new-2.result.items _ served c.requires.nothing c.requires.count c.new-2.ensures.items c.new.ensures.items refl,
-      omega arith,
+    let places : c.in_ok-parking.parking.items ≡ replicate c.args.config.now.park_length None = search rules in (
+      kept_built (g.P.Pages.told c.args.pages) (g.P.Pages.runs c.args.pages) (g.P.Pages.faults c.args.pages) c.args.config.now c.args.seed c.args.arena c.args.class c.begin-stream.result.1 c.new.result.items c.none.result c.begin-stream.result.0
+          c.in_ok-quarantine.quarantine c.in_ok-parking.parking.items c.requires.valid c.requires.arena c.requires.class c.begin-stream.ensures.shape c.begin-stream.ensures.fits c.requires.nothing c.requires.count c.new.ensures.items c.none.ensures
+          c.begin-stream.ensures.stream c.in_ok-quarantine.ensures places,
+      omega (arith, c.none.ensures.live),
+      room_less c.none.result 0 c.none.result.live (omega (arith, c.none.ensures.live)) c.none.ensures.room,
     )
 
 pub returns-clause-region : goal.returns-clause-region
 returns-clause-region g c =
     let kept = invariant_of-result g c in
-    region_of g.P.Pages.told g.P.Pages.runs g.P.Pages.faults _ c.shape_of-shape.result _ refl kept.0 kept.1
+    region_of g.P.Pages.told g.P.Pages.runs g.P.Pages.faults _ c.begin-stream.result.1 _ _ _ _ refl kept.0 kept.1

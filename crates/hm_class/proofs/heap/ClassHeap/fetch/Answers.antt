@@ -1,34 +1,51 @@
-use Rattle.std.proofs.Common.{◌≡◌, ◌∙◌, List, [], ◌∷◌, ◌++◌, refl, subst, sym, arith}
+use Rattle.std.proofs.Common.{◌≡◌, ◌∙◌, List, [], ◌∷◌, ◌++◌, ap, refl, subst, sym, arith}
 use Rattle.hm_model.specs.declared.entry.Call.TheVariants as call
 use Rattle.hm_model.specs.declared.entry.Entry.{Entry}
+use Rattle.hm_model.specs.declared.entry.Reply.{Reply}
 use Rattle.hm_class_rules.specs.Rules.{chose_none}
-use Rattle.hm_class.specs.Calls.{entry_of}
+use Rattle.hm_class.specs.Calls.{entry_of, no_draws}
 use Rattle.hm_class.specs.Kept.{IsKept}
-use Rattle.hm_class.proofs.Entries.{kept_fetched, added_of, appended, region_of, same_entry}
+use Rattle.hm_class.proofs.Entries.{kept_fetched, added_of, appended, region_of}
 use Rattle.hm_class.proofs.heap.ClassHeap.fetch.Goals as goal
 
 pub invariant_of-self-2 : goal.invariant_of-self-2
 invariant_of-self-2 g c =
     let h = c.self.inside in
     let f = c.faults-faults.result in
-    let e = entry_of c.args.who (call.Fetch c.args.addr c.args.len) c.in_ok-reply.reply chose_none f f in
-    let all : c.push_reserved.new.self.items ≡ h.entries.items ++ e ∷ [] = appended _ _ _ _ _ c.push_reserved.ensures.items c.reserve.ensures.items c.entry.ensures in (
-      subst (λ (l : List Entry). IsKept (g.P.Pages.told h.pages) (g.P.Pages.runs h.pages) (g.P.Pages.faults h.pages) h.config h.arena h.shape l h.slabs) (sym all)
-          (kept_fetched (g.P.Pages.told h.pages) (g.P.Pages.runs h.pages) (g.P.Pages.faults h.pages) h.config h.arena h.shape h.entries.items h.slabs c.self.invariant.0
+    let e = entry_of c.args.who (call.Fetch c.args.addr c.args.len) c.in_ok-reply.reply chose_none no_draws f f in
+    let all : c.push_reserved.new.self.items ≡ h.entries.items ++ e ∷ [] = appended _ _ _ _ _ c.push_reserved.ensures.items c.reserve.ensures.items c.still.ensures in (
+      subst (λ (l : List Entry). IsKept (g.P.Pages.told h.pages) (g.P.Pages.runs h.pages) (g.P.Pages.faults h.pages) h.config h.number h.arena h.shape l h.slabs h.stream h.quarantine h.parking.items) (sym all)
+          (kept_fetched (g.P.Pages.told h.pages) (g.P.Pages.runs h.pages) (g.P.Pages.faults h.pages) h.config h.number h.arena h.shape h.entries.items h.slabs h.stream h.quarantine h.parking.items c.self.invariant.0
           c.args.who c.args.addr f c.faults-faults.ensures c.requires.below c.args.len c.in_ok-fetched.fetched c.in_ok-reply.reply c.requires.some c.requires.most c.in_ok-fetched.ensures c.in_ok-reply.ensures.1),
       omega (arith, c.self.invariant.1, c.in_ok-reserve.ensures.ok, c.reserve.ensures.len, c.push_reserved.ensures.len, c.push_reserved.ensures.capacity),
+      c.self.invariant.2,
     )
 
 pub returns-clause-added : goal.returns-clause-added
 returns-clause-added g c =
     let h = c.self.inside in
     let f = c.faults-faults.result in
-    let all : c.push_reserved.new.self.items ≡ h.entries.items ++ entry_of c.args.who (call.Fetch c.args.addr c.args.len) c.in_ok-reply.answer chose_none f f ∷ [] =
+    let all : c.push_reserved.new.self.items ≡ h.entries.items ++ entry_of c.args.who (call.Fetch c.args.addr c.args.len) c.in_ok-reply.answer chose_none no_draws f f ∷ [] =
     appended _ _ _ _ _ c.push_reserved.ensures.items c.reserve.ensures.items
-    (c.entry.ensures ∙ same_entry c.args.who (call.Fetch c.args.addr c.args.len) _ _ _ _ f f c.in_ok-reply.ensures.0 refl) in
-    added_of g.P.Pages.faults c.args.self.now _ _ c.args.who (call.Fetch c.args.addr c.args.len) c.in_ok-reply.answer chose_none f f c.self.view_is all c.faults-faults.ensures c.faults-faults.ensures
+    (c.still.ensures ∙ ap (λ (y : Reply). entry_of c.args.who (call.Fetch c.args.addr c.args.len) y chose_none no_draws f f) c.in_ok-reply.ensures.0) in
+    added_of g.P.Pages.faults c.args.self.now _ _ c.args.who (call.Fetch c.args.addr c.args.len) c.in_ok-reply.answer chose_none no_draws f f c.self.view_is all c.faults-faults.ensures c.faults-faults.ensures
 
 pub returns-clause-region : goal.returns-clause-region
 returns-clause-region g c =
     let kept = invariant_of-self-2 g c in
-    region_of g.P.Pages.told g.P.Pages.runs g.P.Pages.faults _ c.self.inside.shape _ refl kept.0 kept.1
+    region_of g.P.Pages.told g.P.Pages.runs g.P.Pages.faults _ c.self.inside.shape _ _ _ _ refl kept.0 kept.1
+
+pub returns-in_err-reserve-clause-region : goal.returns-in_err-reserve-clause-region
+returns-in_err-reserve-clause-region g c = region_of g.P.Pages.told g.P.Pages.runs g.P.Pages.faults _ c.self.inside.shape _ _ _ _ refl
+    (let h = c.self.inside in subst (λ (l : List Entry). IsKept (g.P.Pages.told h.pages) (g.P.Pages.runs h.pages) (g.P.Pages.faults h.pages) h.config h.number h.arena h.shape l h.slabs h.stream h.quarantine h.parking.items) (sym c.reserve.ensures.items) c.self.invariant.0)
+    (omega (arith, c.self.invariant.1, c.reserve.ensures.len, c.reserve.ensures.capacity))
+
+pub returns-in_err-fetched-clause-region : goal.returns-in_err-fetched-clause-region
+returns-in_err-fetched-clause-region g c = region_of g.P.Pages.told g.P.Pages.runs g.P.Pages.faults _ c.self.inside.shape _ _ _ _ refl
+    (let h = c.self.inside in subst (λ (l : List Entry). IsKept (g.P.Pages.told h.pages) (g.P.Pages.runs h.pages) (g.P.Pages.faults h.pages) h.config h.number h.arena h.shape l h.slabs h.stream h.quarantine h.parking.items) (sym c.reserve.ensures.items) c.self.invariant.0)
+    (omega (arith, c.self.invariant.1, c.reserve.ensures.len, c.reserve.ensures.capacity))
+
+pub returns-in_err-reply-clause-region : goal.returns-in_err-reply-clause-region
+returns-in_err-reply-clause-region g c = region_of g.P.Pages.told g.P.Pages.runs g.P.Pages.faults _ c.self.inside.shape _ _ _ _ refl
+    (let h = c.self.inside in subst (λ (l : List Entry). IsKept (g.P.Pages.told h.pages) (g.P.Pages.runs h.pages) (g.P.Pages.faults h.pages) h.config h.number h.arena h.shape l h.slabs h.stream h.quarantine h.parking.items) (sym c.reserve.ensures.items) c.self.invariant.0)
+    (omega (arith, c.self.invariant.1, c.reserve.ensures.len, c.reserve.ensures.capacity))

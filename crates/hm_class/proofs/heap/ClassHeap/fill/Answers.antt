@@ -1,12 +1,13 @@
 use Rattle.std.proofs.Common.{◌≡◌, ◌∙◌, ℕ, Bool, List, [], ◌∷◌, ◌++◌, ap, refl, subst, sym, arith}
 use Rattle.hm_model.specs.declared.entry.Call.TheVariants as call
 use Rattle.hm_model.specs.declared.entry.Entry.{Entry}
-use Rattle.hm_model.specs.Runs.{expand}
+use Rattle.hm_model.specs.declared.entry.Reply.{Reply}
 use Rattle.hm_class_rules.specs.Rules.{chose_none}
-use Rattle.hm_class.specs.Calls.{entry_of}
+use Rattle.hm_class.specs.Calls.{entry_of, no_draws}
 use Rattle.hm_class.specs.Kept.{IsKept}
 use Rattle.hm_class.specs.Outcomes.{reply_of}
-use Rattle.hm_class.proofs.Entries.{kept_filled, added_of, appended, region_of, same_entry}
+use Rattle.hm_model.specs.Runs.{expand}
+use Rattle.hm_class.proofs.Entries.{kept_filled, added_of, appended, region_of}
 use Rattle.hm_class.proofs.heap.ClassHeap.fill.Goals as goal
 
 pub invariant_of-self-2 : goal.invariant_of-self-2
@@ -16,18 +17,19 @@ invariant_of-self-2 g c =
     let o = c.fill-outcome.result in
     let pages = c.fill-outcome.new.pages in
     let rs : List (ℕ × ℕ) = c.args.runs.now in
-    let e = entry_of c.args.who (call.Fill c.args.addr rs) (reply_of o) chose_none f f in
+    let e = entry_of c.args.who (call.Fill c.args.addr rs) (reply_of o) chose_none no_draws f f in
     let all : c.push_reserved.new.self.items ≡ h.entries.items ++ e ∷ [] =
     appended _ _ _ _ _ c.push_reserved.ensures.items c.reserve.ensures.items
-    (c.entry.ensures ∙ same_entry c.args.who (call.Fill c.args.addr c.in_ok-runs.runs) _ _ _ _ f f c.reply-reply.ensures refl
-    ∙ ap (λ (x : List (ℕ × ℕ)). entry_of c.args.who (call.Fill c.args.addr x) (reply_of o) chose_none f f) c.in_ok-runs.ensures) in
+    (c.still.ensures ∙ ap (λ (y : Reply). entry_of c.args.who (call.Fill c.args.addr c.in_ok-runs.runs) y chose_none no_draws f f) c.reply-reply.ensures
+    ∙ ap (λ (x : List (ℕ × ℕ)). entry_of c.args.who (call.Fill c.args.addr x) (reply_of o) chose_none no_draws f f) c.in_ok-runs.ensures) in
     let bytes : c.deref.result.now ≡ expand rs = c.deref.ensures.value ∙ c.in_ok-bytes.ensures ∙ ap (λ (x : List (ℕ × ℕ)). expand x) c.in_ok-runs.ensures in (
-      subst (λ (b : Bool). IsKept b (g.P.Pages.runs pages) (g.P.Pages.faults pages) h.config h.arena h.shape c.push_reserved.new.self.items h.slabs) (sym c.fill-outcome.ensures.told)
-          (subst (λ (l : List Entry). IsKept (g.P.Pages.told h.pages) (g.P.Pages.runs pages) (g.P.Pages.faults pages) h.config h.arena h.shape l h.slabs) (sym all)
-          (subst (λ (n : ℕ). IsKept (g.P.Pages.told h.pages) (g.P.Pages.runs pages) n h.config h.arena h.shape (h.entries.items ++ e ∷ []) h.slabs) (sym c.fill-outcome.ensures.count)
-          (kept_filled (g.P.Pages.told h.pages) (g.P.Pages.runs h.pages) (g.P.Pages.faults h.pages) h.config h.arena h.shape h.entries.items h.slabs c.self.invariant.0
+      subst (λ (b : Bool). IsKept b (g.P.Pages.runs pages) (g.P.Pages.faults pages) h.config h.number h.arena h.shape c.push_reserved.new.self.items h.slabs h.stream h.quarantine h.parking.items) (sym c.fill-outcome.ensures.told)
+          (subst (λ (l : List Entry). IsKept (g.P.Pages.told h.pages) (g.P.Pages.runs pages) (g.P.Pages.faults pages) h.config h.number h.arena h.shape l h.slabs h.stream h.quarantine h.parking.items) (sym all)
+          (subst (λ (n : ℕ). IsKept (g.P.Pages.told h.pages) (g.P.Pages.runs pages) n h.config h.number h.arena h.shape (h.entries.items ++ e ∷ []) h.slabs h.stream h.quarantine h.parking.items) (sym c.fill-outcome.ensures.count)
+          (kept_filled (g.P.Pages.told h.pages) (g.P.Pages.runs h.pages) (g.P.Pages.faults h.pages) h.config h.number h.arena h.shape h.entries.items h.slabs h.stream h.quarantine h.parking.items c.self.invariant.0
           c.args.who c.args.addr f c.faults-faults.ensures c.requires.below (g.P.Pages.runs pages) rs c.deref.result.now o bytes c.requires.some c.requires.most c.fill-outcome.ensures.filled))),
       omega (arith, c.self.invariant.1, c.in_ok-reserve.ensures.ok, c.reserve.ensures.len, c.push_reserved.ensures.len, c.push_reserved.ensures.capacity),
+      c.self.invariant.2,
     )
 
 pub returns-clause-added : goal.returns-clause-added
@@ -36,13 +38,28 @@ returns-clause-added g c =
     let f = c.faults-faults.result in
     let rs : List (ℕ × ℕ) = c.args.runs.now in
     let answer : c.reply-reply.result ≡ c.reply.result = c.reply-reply.ensures ∙ sym c.reply.ensures in
-    let all : c.push_reserved.new.self.items ≡ h.entries.items ++ entry_of c.args.who (call.Fill c.args.addr rs) c.reply.result chose_none f f ∷ [] =
+    let all : c.push_reserved.new.self.items ≡ h.entries.items ++ entry_of c.args.who (call.Fill c.args.addr rs) c.reply.result chose_none no_draws f f ∷ [] =
     appended _ _ _ _ _ c.push_reserved.ensures.items c.reserve.ensures.items
-    (c.entry.ensures ∙ same_entry c.args.who (call.Fill c.args.addr c.in_ok-runs.runs) _ _ _ _ f f answer refl
-    ∙ ap (λ (x : List (ℕ × ℕ)). entry_of c.args.who (call.Fill c.args.addr x) c.reply.result chose_none f f) c.in_ok-runs.ensures) in
-    added_of g.P.Pages.faults c.args.self.now _ _ c.args.who (call.Fill c.args.addr rs) c.reply.result chose_none f f c.self.view_is all c.faults-faults.ensures (c.faults-faults.ensures ∙ sym c.fill-outcome.ensures.count)
+    (c.still.ensures ∙ ap (λ (y : Reply). entry_of c.args.who (call.Fill c.args.addr c.in_ok-runs.runs) y chose_none no_draws f f) answer
+    ∙ ap (λ (x : List (ℕ × ℕ)). entry_of c.args.who (call.Fill c.args.addr x) c.reply.result chose_none no_draws f f) c.in_ok-runs.ensures) in
+    added_of g.P.Pages.faults c.args.self.now _ _ c.args.who (call.Fill c.args.addr rs) c.reply.result chose_none no_draws f f c.self.view_is all c.faults-faults.ensures (c.faults-faults.ensures ∙ sym c.fill-outcome.ensures.count)
 
 pub returns-clause-region : goal.returns-clause-region
 returns-clause-region g c =
     let kept = invariant_of-self-2 g c in
-    region_of g.P.Pages.told g.P.Pages.runs g.P.Pages.faults _ c.self.inside.shape _ refl kept.0 kept.1
+    region_of g.P.Pages.told g.P.Pages.runs g.P.Pages.faults _ c.self.inside.shape _ _ _ _ refl kept.0 kept.1
+
+pub returns-in_err-reserve-clause-region : goal.returns-in_err-reserve-clause-region
+returns-in_err-reserve-clause-region g c = region_of g.P.Pages.told g.P.Pages.runs g.P.Pages.faults _ c.self.inside.shape _ _ _ _ refl
+    (let h = c.self.inside in subst (λ (l : List Entry). IsKept (g.P.Pages.told h.pages) (g.P.Pages.runs h.pages) (g.P.Pages.faults h.pages) h.config h.number h.arena h.shape l h.slabs h.stream h.quarantine h.parking.items) (sym c.reserve.ensures.items) c.self.invariant.0)
+    (omega (arith, c.self.invariant.1, c.reserve.ensures.len, c.reserve.ensures.capacity))
+
+pub returns-in_err-runs-clause-region : goal.returns-in_err-runs-clause-region
+returns-in_err-runs-clause-region g c = region_of g.P.Pages.told g.P.Pages.runs g.P.Pages.faults _ c.self.inside.shape _ _ _ _ refl
+    (let h = c.self.inside in subst (λ (l : List Entry). IsKept (g.P.Pages.told h.pages) (g.P.Pages.runs h.pages) (g.P.Pages.faults h.pages) h.config h.number h.arena h.shape l h.slabs h.stream h.quarantine h.parking.items) (sym c.reserve.ensures.items) c.self.invariant.0)
+    (omega (arith, c.self.invariant.1, c.reserve.ensures.len, c.reserve.ensures.capacity))
+
+pub returns-in_err-bytes-clause-region : goal.returns-in_err-bytes-clause-region
+returns-in_err-bytes-clause-region g c = region_of g.P.Pages.told g.P.Pages.runs g.P.Pages.faults _ c.self.inside.shape _ _ _ _ refl
+    (let h = c.self.inside in subst (λ (l : List Entry). IsKept (g.P.Pages.told h.pages) (g.P.Pages.runs h.pages) (g.P.Pages.faults h.pages) h.config h.number h.arena h.shape l h.slabs h.stream h.quarantine h.parking.items) (sym c.reserve.ensures.items) c.self.invariant.0)
+    (omega (arith, c.self.invariant.1, c.reserve.ensures.len, c.reserve.ensures.capacity))

@@ -19,7 +19,7 @@ returns-then-self-eq0 c =
     ap (λ (n : ℕ). nat_lt live n) len
     ∙ tested live (length us) c.if-self-eq0.true
     ∙ ap (λ (n : ℕ). not (nat_lt 0 n) && nat_lt n (length us)) c.self.invariant
-    ∙ sym (unused_counted (record { slots = us; canary = c.self.inside.canary }))
+    ∙ sym (unused_counted (record { slots = us; canary = c.self.inside.canary; opened = c.self.inside.opened }))
     ∙ ap is_unused c.self.view_is
 
 pub returns-else-self-eq0 : goal.returns-else-self-eq0
@@ -28,5 +28,5 @@ returns-else-self-eq0 c =
     let live : ℕ = c.self.inside.taken in
     apart live (length us) c.if-self-eq0.false
     ∙ ap (λ (n : ℕ). not (nat_lt 0 n) && nat_lt n (length us)) c.self.invariant
-    ∙ sym (unused_counted (record { slots = us; canary = c.self.inside.canary }))
+    ∙ sym (unused_counted (record { slots = us; canary = c.self.inside.canary; opened = c.self.inside.opened }))
     ∙ ap is_unused c.self.view_is

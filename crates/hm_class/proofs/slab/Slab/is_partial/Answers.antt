@@ -19,7 +19,7 @@ returns-then-self-gt0 c =
     ap (λ (n : ℕ). nat_lt live n) len
     ∙ some live (length us) c.if-self-gt0.true
     ∙ ap (λ (n : ℕ). nat_lt 0 n && nat_lt n (length us)) c.self.invariant
-    ∙ sym (partly_counted (record { slots = us; canary = c.self.inside.canary }))
+    ∙ sym (partly_counted (record { slots = us; canary = c.self.inside.canary; opened = c.self.inside.opened }))
     ∙ ap is_partly c.self.view_is
 
 pub returns-else-self-gt0 : goal.returns-else-self-gt0
@@ -28,5 +28,5 @@ returns-else-self-gt0 c =
     let live : ℕ = c.self.inside.taken in
     none live (length us) c.if-self-gt0.false
     ∙ ap (λ (n : ℕ). nat_lt 0 n && nat_lt n (length us)) c.self.invariant
-    ∙ sym (partly_counted (record { slots = us; canary = c.self.inside.canary }))
+    ∙ sym (partly_counted (record { slots = us; canary = c.self.inside.canary; opened = c.self.inside.opened }))
     ∙ ap is_partly c.self.view_is

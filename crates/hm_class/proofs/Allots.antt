@@ -1,0 +1,223 @@
+-- The entry of an allotment: what is kept follows.
+use Rattle.std.proofs.Common.{◌≡◌, ℕ, zero, suc, ◌+◌, ◌<◌, ◌≤◌, Bool, true, false, IsTrue, cond, not, ◌&&◌, List, [], ◌∷◌, ◌++◌, length, reverse, Option, Some, None, is_some, unwrap_or, option_map, sym, ◌∙◌, ap, subst, refl, arith, true≢false}
+use Rattle.hm_choice.specs.Stream.{Words, next_word, after_word, canary_of, drawn}
+use Rattle.hm_quarantine.specs.Quarantine.{Kept}
+use Rattle.hm_outside.specs.PageRuns.{PageRuns}
+use Rattle.hm_model.specs.declared.entry.Entry.{Entry}
+use Rattle.hm_model.specs.declared.entry.Who.{Who}
+use Rattle.hm_model.specs.declared.entry.Call.TheVariants.{Allot}
+use Rattle.hm_model.specs.declared.entry.Reply.{Reply}
+use Rattle.hm_model.specs.declared.entry.Reply.TheVariants as reply
+use Rattle.hm_model.specs.Entries.{AreDraws}
+use Rattle.hm_model.specs.declared.entry.Choices.{Choices}
+use Rattle.hm_model.specs.declared.entry.Draws.{Draws}
+use Rattle.hm_sizes.specs.declared.config.Config.{Config}
+use Rattle.hm_sizes.specs.declared.shape.Shape.{Shape}
+use Rattle.hm_sizes.specs.Shapes.{IsShape, place, has_bytes, class_size_of}
+use Rattle.hm_sizes.specs.Sizes.{raised}
+use Rattle.hm_class_rules.specs.State.{State, is_open, unopened}
+use Rattle.hm_class_rules.specs.Kinds.{Kind, Neither, kind}
+use Rattle.hm_class_rules.specs.Steps.{step, opened, taken_new}
+use Rattle.hm_class_rules.specs.Drawn.{first_free}
+use Rattle.hm_class_rules.specs.Draws.{Undrawn, event_of, after_words}
+use Rattle.hm_class_rules.specs.Rules.{Terms, Allows, Source, NoneServes, state, chose_none}
+use Rattle.hm_class_rules.specs.Stepped.{IsSteppedEntry}
+use Rattle.hm_class.specs.declared.next_slab.NextSlab.{NextSlab}
+use Rattle.hm_class.specs.declared.next_slab.NextSlab.TheVariants as next
+use Rattle.hm_class.specs.declared.outcome.Canary.{Canary}
+use Rattle.hm_class.specs.declared.outcome.Event.{Event}
+use Rattle.hm_class.specs.declared.slabs.Slabs.{Slabs}
+use Rattle.hm_class.specs.Uses.{Uses, SlabUse, lives, slab_in, opened_slab, fresh_slab, kind_at, live_count, with_open, taken_uses, still_shut}
+use Rattle.hm_class.specs.Calls.{entry_of, no_draws, one_draw}
+use Rattle.hm_class.specs.Finds.{Finds, Serves, KeepsRuns, CanOpen, made_runs, drawn_canary, canary_stream}
+use Rattle.hm_class.specs.Outcomes.{reply_of, canary_value, chose_opened, start_draws}
+use Rattle.hm_class.specs.Rooms.{SameSlabs}
+use Rattle.hm_class.specs.Sources.{new_of, front_of}
+use Rattle.hm_class.specs.Region.{HoldsSlabs}
+use Rattle.hm_class.specs.Kept.{Shows, Follows, IsKept, terms_of, cells_of}
+use Rattle.hm_class.proofs.Allotted.{kept_serve}
+use Rattle.hm_class.proofs.Drawn.{stepped_open, stepped_new, after_new, new_draws_are, one_draw_are}
+use Rattle.hm_class.proofs.Followed.{shows_count}
+use Rattle.hm_class.proofs.Listed.{next_undrawn, stepped_undrawn, same_cells}
+use Rattle.hm_class.proofs.Paged.{holds_made}
+use Rattle.hm_class.proofs.Permitted.{IsNew, IsServing, allowed_of, open_place}
+use Rattle.hm_class.proofs.Shown.{kind_is, kind_shut}
+use Rattle.hm_class.proofs.Used.{count_changed, count_with_slab, none_new}
+use Rattle.hm_class.proofs.Served.{is_new, serving, serving_open, opened_shows, opened_serves, opened_open}
+use Rattle.hm_class.proofs.Entries.{pushed, sound_now, allows_now, no_draws_are}
+
+-- ---- what an opened slab leaves
+no_canary : (b : Bool) → false ≡ (b && false)
+no_canary true = refl
+no_canary false = refl
+
+canary_there : (p : Shape) (stream : Words) → is_some (canary_value (drawn_canary p stream)) ≡ (has_bytes p && true)
+canary_there p stream = of (has_bytes p)
+  where
+    of : (b : Bool) → is_some (canary_value (cond {A = Option Canary} b (Some (record { low = next_word stream; high = next_word (after_word stream); canary = canary_of (next_word stream) (next_word (after_word stream)) })) None)) ≡ (b && true)
+    of true = refl
+    of false = refl
+
+new_shut : (p : Shape) (l : List ℕ) (s : State) → s.shut ≡ l → still_shut l ≡ (taken_new p l s).shut
+new_shut p [] s e = sym e
+new_shut p (m ∷ ms) s e = refl
+
+shut_after : (p : Shape) (s : State) → still_shut s.shut ≡ (taken_new p s.shut s).shut
+shut_after p s = new_shut p s.shut s refl
+
+new_live : (p : Shape) (l : List ℕ) (s : State) → (taken_new p l s).live ≡ s.live
+new_live p [] s = refl
+new_live p (m ∷ ms) s = refl
+
+opened_live : (p : Shape) (o canary : Option ℕ) (s : State) → (opened p o canary s).live ≡ s.live
+opened_live p None canary s = refl
+opened_live p (Some n) canary s = new_live p s.shut s
+
+kind_off : (p : Shape) (s : State) (n : ℕ) → IsShape p → is_open s n ≡ false → kind p s n ≡ Neither
+kind_off p s n shape off = kind_shut p s n shape off
+
+from_some : (o : Option SlabUse) → is_some o ≡ true → (b : SlabUse) × (o ≡ Some b)
+from_some None e = absurd (true≢false (sym e))
+from_some (Some b) e = (b, refl)
+
+live_taken : (p : Shape) (l : List ℕ) (all : Uses) → live_count (taken_uses p l all) ≡ live_count all
+live_taken p [] all = omega (arith, count_with_slab p all (fresh_slab p.slots) lives, none_new lives p.slots refl)
+live_taken p (m ∷ ms) all = refl
+
+live_opened : (p : Shape) (l : List ℕ) (all : Uses) (n canary : ℕ) → is_some (slab_in (taken_uses p l all) n) ≡ true → live_count (with_open (taken_uses p l all) n canary) ≡ live_count all
+live_opened p l all n canary there =
+    let b = from_some (slab_in (taken_uses p l all) n) there in
+    omega (arith, count_changed (taken_uses p l all) n (opened_slab canary) b.0 b.1 lives, live_taken p l all)
+
+-- how many are live once a slab was found
+pub found_counted : {P : Type 0} (tells : P → Bool) (runs_of : P → PageRuns) (faults_of : P → ℕ) (p : Shape) (k k₁ : Slabs) (begun mid : P) (stream stream₁ : Words) → ((n : ℕ) → new_of p k ≡ Some n → CanOpen p k n) → k.live ≡ live_count k.slabs.items
+    → (n : NextSlab) → Finds tells runs_of faults_of p k k₁ begun mid stream stream₁ n → k₁.live ≡ live_count k₁.slabs.items
+found_counted tells runs_of faults_of p k k₁ begun mid stream stream₁ opens counted (next.Open n) f = f.1.0.live ∙ counted ∙ ap live_count (sym f.1.0.slabs)
+found_counted tells runs_of faults_of p k k₁ begun mid stream stream₁ opens counted (next.New n canary) f = f.1.live ∙ counted ∙ sym (ap live_count f.1.slabs ∙ live_opened p k.shut.items k.slabs.items n (unwrap_or (canary_value canary) 0) (opens n f.0.1).there)
+found_counted tells runs_of faults_of p k k₁ begun mid stream stream₁ opens counted next.Exhausted f = f.1.0.live ∙ counted ∙ ap live_count (sym f.1.0.slabs)
+found_counted tells runs_of faults_of p k k₁ begun mid stream stream₁ opens counted next.PagesFailed f = f.2.live ∙ counted ∙ ap live_count (sym f.2.slabs)
+
+-- slabs that are as before
+pub same_slabs : {P : Type 0} (tells : P → Bool) (runs_of : P → PageRuns) (faults_of : P → ℕ) (k k₁ : Slabs) (begun mid : P) (stream stream₁ : Words) → KeepsRuns tells runs_of faults_of k k₁ begun mid stream stream₁ → SameSlabs k k₁
+same_slabs tells runs_of faults_of k k₁ begun mid stream stream₁ q = record {
+  slabs = q.slabs;
+  live = q.live;
+  partial = ap (λ v. v.items) q.lists.partial;
+  empty = ap (λ v. v.items) q.lists.empty;
+  shut = ap (λ v. v.items) q.lists.shut;
+}
+
+module _ (told : Bool) (runs : PageRuns) (faults : ℕ) (c : Config) (number arena : ℕ) (p : Shape) (es : List Entry) (k : Slabs) (stream : Words) (quarantine : Kept) (parking : List (Option ℕ))
+    (kept : IsKept told runs faults c number arena p es k stream quarantine parking)
+    {P : Type 0} (tells : P → Bool) (runs_of : P → PageRuns) (faults_of : P → ℕ) (begun mid now : P) (k₁ k' : Slabs) (stream₁ stream' : Words) (who : Who) (asked : ℕ)
+    (told_begun : tells begun ≡ told) (told_mid : tells mid ≡ tells begun) (runs_begun : runs_of begun ≡ runs) (is : faults_of begun ≡ faults) (same : faults_of now ≡ faults_of mid)
+    (asks : raised asked ≤ class_size_of p) (live : k'.live ≡ live_count k'.slabs.items) where
+  abbrev first : State
+  first = state (terms_of told c p) es
+
+  abbrev Ends : Event → Type 0
+  Ends e = IsKept told (runs_of now) (faults_of now) c number arena p (es ++ entry_of who (Allot asked 1) (reply_of e.outcome) e.choices e.draws (faults_of begun) (faults_of now) ∷ []) k' stream' quarantine parking
+
+  tell : IsTrue told → IsTrue (tells mid)
+  tell y = told_mid ∙ told_begun ∙ y
+
+  -- no slab was found: an entry that draws nothing
+  unserved : (answer : Reply) → event_of (Allot asked 1) answer ≡ Undrawn → Allows (terms_of told c p) first (faults_of begun) (faults_of now) chose_none (Allot asked 1) answer → faults_of begun ≤ faults_of now
+      → step p first (entry_of who (Allot asked 1) answer chose_none no_draws (faults_of begun) (faults_of now)) ≡ record first { faults = faults_of now }
+      → (IsTrue told → runs_of now ≡ runs) → k'.slabs.items ≡ k.slabs.items → k'.live ≡ k.live → k'.partial.items ≡ k.partial.items → k'.empty.items ≡ k.empty.items → k'.shut.items ≡ k.shut.items → stream' ≡ stream
+      → IsKept told (runs_of now) (faults_of now) c number arena p (es ++ entry_of who (Allot asked 1) answer chose_none no_draws (faults_of begun) (faults_of now) ∷ []) k' stream' quarantine parking
+  unserved answer undrawn allows later after runs_same items live_same partial empty shut stream_same =
+      let t : Terms = terms_of told c p in
+      let e : Entry = entry_of who (Allot asked 1) answer chose_none no_draws (faults_of begun) (faults_of now) in
+      let s' : State = record first { faults = faults_of now } in
+      let shows' : Shows p k.slabs.items (step p first e) = subst (λ (s : State). Shows p k.slabs.items s) (sym after) (shows_count p k.slabs.items first (faults_of now) kept.follows.shows) in
+      pushed told runs faults c number arena p es k stream quarantine parking kept (runs_of now) (faults_of now) k' stream' quarantine parking e
+      (allowed_of t first who (Allot asked 1) answer chose_none no_draws (faults_of begun) (faults_of now) no_draws_are (asks, refl) (is ∙ kept.count) later allows)
+      (stepped_undrawn t (cells_of first k stream quarantine parking) e undrawn refl refl) refl
+      (record {
+        shows = subst (λ (u : Uses). Shows p u (step p first e)) (sym items) shows';
+        shut = shut ∙ kept.follows.shut ∙ ap (λ (s : State). s.shut) (sym after);
+        counted = live;
+        live_all = omega (arith, kept.follows.live_all, live_same, ap (λ (s : State). length s.live) after);
+      })
+      (λ y. subst (λ (s : State). HoldsSlabs p s.opens (runs_of now)) (sym after) (subst (λ (r : PageRuns). HoldsSlabs p first.opens r) (sym (runs_same y)) (kept.slabs y)))
+      (next_undrawn t first k stream quarantine parking e kept.served.shape undrawn refl kept.follows.shows shows'
+      ∙ same_cells (step p first e) stream stream' (reverse k.partial.items) (reverse k'.partial.items) (reverse k.empty.items) (reverse k'.empty.items) quarantine quarantine parking parking
+      (sym stream_same) (ap (λ (l : List ℕ). reverse l) (sym partial)) (ap (λ (l : List ℕ). reverse l) (sym empty)) refl refl)
+
+  none_serves : front_of k ≡ None → NoneServes p first
+  none_serves e = (allows_now told runs faults c number arena p es k stream quarantine parking kept).no_source e
+
+  next_new : (o : Option ℕ) → new_of p k ≡ o → unopened p first.shut first.next ≡ o
+  next_new o e = ap (λ (l : List ℕ). unopened p l first.next) (sym kept.follows.shut) ∙ ap (λ (m : ℕ). unopened p k.shut.items m) kept.follows.shows.next ∙ e
+
+  runs_as : (x : P) → (IsTrue (tells begun) → runs_of x ≡ runs_of begun) → IsTrue told → runs_of x ≡ runs
+  runs_as x e y = e (told_begun ∙ y) ∙ runs_begun
+
+  pub kept_allotted : (n : NextSlab) (e : Event) → Finds tells runs_of faults_of p k k₁ begun mid stream stream₁ n → Serves tells runs_of faults_of p k₁ k' mid now stream₁ stream' n e → Ends e
+  kept_allotted next.Exhausted e f v =
+      let q = f.1.0 in
+      let w = v.1 in
+      subst (λ (x : Event). Ends x) (sym v.0)
+      (unserved reply.Exhausted refl (none_serves f.0.0, next_new None f.0.1, refl) (omega (arith, same, f.1.1)) refl
+      (λ y. w.runs_same (tell y) ∙ runs_as mid q.runs_same y) (w.slabs ∙ q.slabs) (w.live ∙ q.live) (ap (λ v. v.items) (w.lists.partial ∙ q.lists.partial)) (ap (λ v. v.items) (w.lists.empty ∙ q.lists.empty)) (ap (λ v. v.items) (w.lists.shut ∙ q.lists.shut)) (w.stream_same ∙ q.stream_same))
+  kept_allotted next.PagesFailed e f v =
+      let q = f.2 in
+      let w = v.1 in
+      subst (λ (x : Event). Ends x) (sym v.0)
+      (unserved reply.PagesFailed refl (none_serves f.1.0, ap (λ (o : Option ℕ). is_some o) (next_new (Some f.0) f.1.1), f.3, omega (arith, same, f.4), refl) (omega (arith, same, f.4)) refl
+      (λ y. w.runs_same (tell y) ∙ runs_as mid q.runs_same y) (w.slabs ∙ q.slabs) (w.live ∙ q.live) (ap (λ v. v.items) (w.lists.partial ∙ q.lists.partial)) (ap (λ v. v.items) (w.lists.empty ∙ q.lists.empty)) (ap (λ v. v.items) (w.lists.shut ∙ q.lists.shut)) (w.stream_same ∙ q.stream_same))
+  kept_allotted (next.Open n) e f v =
+      let t : Terms = terms_of told c p in
+      let q = f.1.0 in
+      let on = serving_open told runs faults c number arena p es k stream quarantine parking kept n f.0 in
+      let at = open_place p first n 0 (sound_now told runs faults c number arena p es k stream quarantine parking kept) on (omega (arith, kept.served.shape.slots_some)) in
+      subst (λ (x : Choices). Ends (record { outcome = e.outcome; choices = x; draws = e.draws })) (sym v.1)
+      (subst (λ (x : Draws). Ends (record { outcome = e.outcome; choices = chose_none; draws = x })) (sym v.2)
+      (kept_serve told runs faults c number arena p es k stream quarantine parking kept tells runs_of faults_of mid now k₁ k' stream₁ stream' n (kind_at k₁.slabs.items n) chose_none (one_draw (next_word stream₁)) who asked (faults_of begun) (faults_of now)
+      tell asks is (omega (arith, same, f.1.1))
+      (subst (λ (u : Uses). IsServing u n) (sym q.slabs) (serving told runs faults c number arena p es k stream quarantine parking kept n f.0)) at.below at.no_guard on
+      (subst (λ (u : Uses). Shows p u first) (sym q.slabs) kept.follows.shows)
+      (λ y. subst (λ (r : PageRuns). HoldsSlabs p first.opens r) (sym (runs_as mid q.runs_same y)) (kept.slabs y))
+      (q.live ∙ kept.follows.counted ∙ ap live_count (sym q.slabs)) live (omega (arith, kept.follows.live_all, q.live))
+      (ap (λ v. v.items) q.lists.shut ∙ kept.follows.shut) (ap (λ v. v.items) q.lists.partial) (ap (λ v. v.items) q.lists.empty)
+      (kind_is p k.slabs.items first n kept.served.shape kept.follows.shows ∙ ap (λ (u : Uses). kind_at u n) (sym q.slabs))
+      (one_draw_are (next_word stream₁)) (ap (λ (x : Words). after_word x) (sym q.stream_same))
+      ((allows_now told runs faults c number arena p es k stream quarantine parking kept).source n f.0) (no_canary (has_bytes p)) refl
+      (λ a slab here answer picks. subst (λ (x : Words). IsSteppedEntry t (cells_of first k stream quarantine parking) (entry_of who (Allot asked 1) answer chose_none (one_draw (next_word x)) (faults_of begun) (faults_of now))) (sym q.stream_same)
+      (stepped_open t (cells_of first k stream quarantine parking) first who asked a n (faults_of begun) (faults_of now) answer refl kept.served.valid.random picks slab
+      (subst (λ (x : Words). first_free p first n (drawn p.slots (next_word x)) ≡ Some a) q.stream_same here) f.0))
+      e.outcome v.0))
+  kept_allotted (next.New n canary) e f v =
+      let t : Terms = terms_of told c p in
+      let q = f.1 in
+      let cv : Option ℕ = canary_value canary in
+      let fresh = is_new told runs faults c number arena p es k stream quarantine parking kept n f.0.1 in
+      let s₁ : State = opened p (Some n) cv first in
+      let uses₁ : Uses = with_open (taken_uses p first.shut k.slabs.items) n (unwrap_or cv 0) in
+      let items : k₁.slabs.items ≡ uses₁ = q.slabs ∙ ap (λ (l : List ℕ). with_open (taken_uses p l k.slabs.items) n (unwrap_or cv 0)) kept.follows.shut in
+      let shows₁ : Shows p uses₁ s₁ = opened_shows told runs faults c number arena p es k stream quarantine parking kept n cv f.0.1 in
+      let live₁ : k₁.live ≡ live_count k₁.slabs.items = q.live ∙ kept.follows.counted ∙ sym (ap live_count items ∙ live_opened p first.shut k.slabs.items n (unwrap_or cv 0) fresh.there) in
+      subst (λ (x : Choices). Ends (record { outcome = e.outcome; choices = x; draws = e.draws })) (sym v.1)
+      (subst (λ (x : Draws). Ends (record { outcome = e.outcome; choices = chose_opened n canary; draws = x })) (sym v.2)
+      (kept_serve told runs faults c number arena p es k stream quarantine parking kept tells runs_of faults_of mid now k₁ k' stream₁ stream' n Neither (chose_opened n canary) (start_draws canary (next_word stream₁)) who asked (faults_of begun) (faults_of now)
+      tell asks is (omega (arith, same, q.later))
+      (subst (λ (u : Uses). IsServing u n) (sym items) (opened_serves told runs faults c number arena p es k stream quarantine parking kept n cv f.0.1)) fresh.below fresh.no_guard
+      (opened_open told runs faults c number arena p es k stream quarantine parking kept n cv f.0.1)
+      (subst (λ (u : Uses). Shows p u s₁) (sym items) shows₁)
+      (λ y. subst (λ (r : PageRuns). HoldsSlabs p s₁.opens r) (sym (q.made (told_begun ∙ y) ∙ ap (λ (r : PageRuns). made_runs p n r) runs_begun)) (holds_made p first.opens n (unwrap_or cv 0) runs kept.served.shape (kept.slabs y)))
+      live₁ live (omega (arith, kept.follows.live_all, q.live, ap (λ (l : List (ℕ × ℕ)). length l) (opened_live p (Some n) cv first)))
+      (q.shut ∙ ap (λ (l : List ℕ). still_shut l) kept.follows.shut ∙ shut_after p first) (ap (λ v. v.items) q.partial) (ap (λ v. v.items) q.empty)
+      (kind_off p first n kept.served.shape fresh.off)
+      (subst (λ (x : Option Canary). AreDraws (start_draws x (next_word stream₁))) (sym q.canary_is) (new_draws_are p stream (next_word stream₁)))
+      (subst (λ (x : Words). after_words stream (start_draws canary (next_word x)).used ≡ after_word x) (sym q.stream_is)
+      (subst (λ (x : Option Canary). after_words stream (start_draws x (next_word (canary_stream p stream))).used ≡ after_word (canary_stream p stream)) (sym q.canary_is) (after_new p stream)))
+      (refl, none_serves f.0.0, next_new (Some n) f.0.1)
+      (ap (λ (x : Option Canary). is_some (canary_value x)) q.canary_is ∙ canary_there p stream) refl
+      (λ a slab here answer picks.
+      subst (λ (x : Words). IsSteppedEntry t (cells_of first k stream quarantine parking) (entry_of who (Allot asked 1) answer (chose_opened n canary) (start_draws canary (next_word x)) (faults_of begun) (faults_of now))) (sym q.stream_is)
+      (subst (λ (x : Option Canary). IsSteppedEntry t (cells_of first k stream quarantine parking) (entry_of who (Allot asked 1) answer (chose_opened n x) (start_draws x (next_word (canary_stream p stream))) (faults_of begun) (faults_of now))) (sym q.canary_is)
+      (stepped_new t (cells_of first k stream quarantine parking) first who asked a n (faults_of begun) (faults_of now) answer refl kept.served.valid.random picks slab
+      (subst (λ (x : Option Canary). first_free p (opened p (Some n) (canary_value x) first) n (drawn p.slots (next_word (canary_stream p stream))) ≡ Some a) q.canary_is
+      (subst (λ (x : Words). first_free p s₁ n (drawn p.slots (next_word x)) ≡ Some a) q.stream_is here)))))
+      e.outcome v.0))

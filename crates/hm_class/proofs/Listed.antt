@@ -1,0 +1,118 @@
+-- How the lists, the stream, the quarantine and the parking places follow the cells, entry by entry.
+use Rattle.std.proofs.Common.{◌≡◌, ℕ, zero, suc, ◌+◌, ◌*◌, ◌/◌, ◌^◌, ◌<◌, ◌≤◌, ◌==◌, Bool, true, false, cond, not, ◌&&◌, nat_lt, List, [], ◌∷◌, ◌++◌, length, reverse, slice_get, slice_set, slice_index_or, Option, Some, None, is_some, unwrap_or, sym, ◌∙◌, ap, subst, refl, arith, true≢false}
+use Rattle.std.specs.Option.{option_and_then, option_map_or}
+use Rattle.std.proofs.lemmas.Bool.Decides.{nat_tests}
+use Rattle.std.proofs.lemmas.List.{length-reverse}
+use Rattle.hm_choice.specs.Stream.{Words, next_word, after_word, canary_of, drawn}
+use Rattle.hm_quarantine.specs.Quarantine.{Kept, let_go, kept_with}
+use Rattle.hm_model.specs.declared.entry.Entry.{Entry}
+use Rattle.hm_sizes.specs.declared.shape.Shape.{Shape}
+use Rattle.hm_sizes.specs.Shapes.{IsShape, slab_of, has_bytes}
+use Rattle.hm_class_rules.specs.State.{State, is_partial, is_empty, empty_slabs}
+use Rattle.hm_class_rules.specs.Kinds.{Kind, Partial, Empty, Neither, kind, same_kind}
+use Rattle.hm_class_rules.specs.Draws.{words_of, words_from, after_words, Event, Picked, Returned, Undrawn, event, word_count, array_place, parking_place}
+use Rattle.hm_class_rules.specs.Rules.{Terms, surplus}
+use Rattle.hm_class_rules.specs.Steps.{step}
+use Rattle.hm_class_rules.specs.Stepped.{Cells, next, listed, touched, quarantine_with, parking_after, parking_with, IsSteppedEntry, IsSteppedEvent}
+use Rattle.hm_class_rules.proofs.Changes.{kind_empty, kind_by}
+use Rattle.hm_class.specs.declared.slabs.Slabs.{Slabs}
+use Rattle.hm_class.specs.Uses.{Uses, kind_at}
+use Rattle.hm_class.specs.Kept.{Shows, cells_of}
+use Rattle.hm_class.proofs.Shown.{kind_is}
+
+-- ---- kinds
+pub same_itself : (k : Kind) → same_kind k k ≡ true
+same_itself Partial = refl
+same_itself Empty = refl
+same_itself Neither = refl
+
+-- a slab that stays what it is changes no list
+pub listed_same : (wanted k : Kind) (n : ℕ) (list : List ℕ) → listed wanted n k k list ≡ list
+listed_same wanted Partial n list = refl
+listed_same wanted Empty n list = refl
+listed_same wanted Neither n list = refl
+
+-- ---- cells
+-- cells that are equal part by part
+pub same_cells : (s : State) (stream stream' : Words) (partial partial' empty empty' : List ℕ) (q q' : Kept) (parking parking' : List (Option ℕ)) → stream ≡ stream' → partial ≡ partial' → empty ≡ empty' → q ≡ q' → parking ≡ parking'
+    → (let x : Cells = record { state = s; stream = stream; partial = partial; empty = empty; quarantine = q; parking = parking } in
+    let y : Cells = record { state = s; stream = stream'; partial = partial'; empty = empty'; quarantine = q'; parking = parking' } in x ≡ y)
+same_cells s stream stream' partial partial' empty empty' q q' parking parking' e f g h i = cc
+
+-- the cells after an entry, by what it is and the state after it
+abbrev next_by : Terms → Cells → Entry → Event → State → Cells
+next_by t c e ev after = record {
+  state = after;
+  stream = after_words c.stream e.draws.used;
+  partial = listed Partial (touched t.shape e.choices.released ev) (kind t.shape c.state (touched t.shape e.choices.released ev)) (kind t.shape after (touched t.shape e.choices.released ev)) c.partial;
+  empty = listed Empty (touched t.shape e.choices.released ev) (kind t.shape c.state (touched t.shape e.choices.released ev)) (kind t.shape after (touched t.shape e.choices.released ev)) c.empty;
+  quarantine = quarantine_with t.shape e ev c.quarantine;
+  parking = parking_after t e ev c.parking;
+}
+
+next_is : (t : Terms) (c : Cells) (e : Entry) (ev : Event) → event e ≡ ev → next t c e ≡ next_by t c e ev (step t.shape c.state e)
+next_is t c e ev is = ap (λ (x : Event). next_by t c e x (step t.shape c.state e)) is
+
+-- the lists, where slab n, which was `before`, is `after`
+pub listed_as : (wanted : Kind) (p : Shape) (s after : State) (m n : ℕ) (before then : Kind) (list list' : List ℕ) → m ≡ n → kind p s n ≡ before → kind p after n ≡ then → list' ≡ listed wanted n before then list
+    → listed wanted m (kind p s m) (kind p after m) list ≡ list'
+listed_as wanted p s after m n before then list list' same was is new =
+    ap (λ (k : ℕ). listed wanted k (kind p s k) (kind p after k) list) same
+    ∙ ap (λ (k : Kind). listed wanted n k (kind p after n) list) was
+    ∙ ap (λ (k : Kind). listed wanted n before k list) is
+    ∙ sym new
+
+-- ---- an entry that draws nothing
+pub next_undrawn : (t : Terms) (s : State) (k : Slabs) (stream : Words) (q : Kept) (parking : List (Option ℕ)) (e : Entry) → IsShape t.shape → event e ≡ Undrawn → e.draws.used ≡ 0 → Shows t.shape k.slabs.items s → Shows t.shape k.slabs.items (step t.shape s e)
+    → next t (cells_of s k stream q parking) e ≡ cells_of (step t.shape s e) k stream q parking
+next_undrawn t s k stream q parking e shape is none h h' =
+    let same : kind t.shape (step t.shape s e) 0 ≡ kind t.shape s 0 = kind_is t.shape k.slabs.items (step t.shape s e) 0 shape h' ∙ sym (kind_is t.shape k.slabs.items s 0 shape h) in
+    let at0 : (wanted : Kind) (list : List ℕ) → listed wanted 0 (kind t.shape s 0) (kind t.shape (step t.shape s e) 0) list ≡ list =
+    λ wanted list. ap (λ (x : Kind). listed wanted 0 (kind t.shape s 0) x list) same ∙ listed_same wanted (kind t.shape s 0) 0 list in
+    next_is t (cells_of s k stream q parking) e Undrawn is
+    ∙ same_cells (step t.shape s e) _ _ _ _ _ _ _ _ _ _ (ap (λ (n : ℕ). after_words stream n) none) (at0 Partial (reverse k.partial.items)) (at0 Empty (reverse k.empty.items)) refl refl
+
+pub stepped_undrawn : (t : Terms) (c : Cells) (e : Entry) → event e ≡ Undrawn → e.draws.used ≡ 0 → words_of e.draws ≡ [] → IsSteppedEntry t c e
+stepped_undrawn t c e is none no_words = record {
+  count = none ∙ ap (λ (ev : Event). word_count t e.choices ev) (sym is);
+  words = no_words ∙ ap (λ (n : ℕ). words_from c.stream n) (sym none);
+  choices = subst (λ (ev : Event). IsSteppedEvent t c e ev) (sym is) tt;
+}
+
+-- ---- a slot was picked
+pub next_picked : (t : Terms) (s : State) (k k' : Slabs) (stream stream' : Words) (q : Kept) (parking : List (Option ℕ)) (e : Entry) (a n : ℕ) (before : Kind) → IsShape t.shape → event e ≡ Picked a → slab_of t.shape a ≡ n
+    → kind t.shape s n ≡ before → Shows t.shape k'.slabs.items (step t.shape s e) → after_words stream e.draws.used ≡ stream'
+    → reverse k'.partial.items ≡ listed Partial n before (kind_at k'.slabs.items n) (reverse k.partial.items) → reverse k'.empty.items ≡ listed Empty n before (kind_at k'.slabs.items n) (reverse k.empty.items)
+    → next t (cells_of s k stream q parking) e ≡ cells_of (step t.shape s e) k' stream' q parking
+next_picked t s k k' stream stream' q parking e a n before shape is slab was h' taken partial empty =
+    let now : kind t.shape (step t.shape s e) n ≡ kind_at k'.slabs.items n = kind_is t.shape k'.slabs.items (step t.shape s e) n shape h' in
+    next_is t (cells_of s k stream q parking) e (Picked a) is
+    ∙ same_cells (step t.shape s e) _ _ _ _ _ _ _ _ _ _ taken
+    (listed_as Partial t.shape s (step t.shape s e) (slab_of t.shape a) n before (kind_at k'.slabs.items n) (reverse k.partial.items) (reverse k'.partial.items) slab was now partial)
+    (listed_as Empty t.shape s (step t.shape s e) (slab_of t.shape a) n before (kind_at k'.slabs.items n) (reverse k.empty.items) (reverse k'.empty.items) slab was now empty) refl refl
+
+-- ---- a slot was freed
+pub next_freed : (t : Terms) (s : State) (k k' : Slabs) (stream stream' : Words) (q q' : Kept) (parking parking' : List (Option ℕ)) (e : Entry) (a n : ℕ) (before then : Kind) → event e ≡ Returned a → touched t.shape e.choices.released (Returned a) ≡ n
+    → kind t.shape s n ≡ before → kind t.shape (step t.shape s e) n ≡ then → after_words stream e.draws.used ≡ stream'
+    → reverse k'.partial.items ≡ listed Partial n before then (reverse k.partial.items) → reverse k'.empty.items ≡ listed Empty n before then (reverse k.empty.items)
+    → q' ≡ kept_with q a (array_place t.shape e.draws) → parking' ≡ parking_with (parking_place t e.draws) e.choices.retired parking
+    → next t (cells_of s k stream q parking) e ≡ cells_of (step t.shape s e) k' stream' q' parking'
+next_freed t s k k' stream stream' q q' parking parking' e a n before then is slab was now taken partial empty kept places =
+    next_is t (cells_of s k stream q parking) e (Returned a) is
+    ∙ same_cells (step t.shape s e) _ _ _ _ _ _ _ _ _ _ taken
+    (listed_as Partial t.shape s (step t.shape s e) (touched t.shape e.choices.released (Returned a)) n before then (reverse k.partial.items) (reverse k'.partial.items) slab was now partial)
+    (listed_as Empty t.shape s (step t.shape s e) (touched t.shape e.choices.released (Returned a)) n before then (reverse k.empty.items) (reverse k'.empty.items) slab was now empty)
+    (sym kept) (sym places)
+
+-- ---- too many empty slabs
+-- a slab is empty where its kind is that
+pub empty_kind : (p : Shape) (s : State) (n : ℕ) → same_kind (kind p s n) Empty ≡ is_empty p s n
+empty_kind p s n = of (is_empty p s n) refl
+  where
+    of : (t : Bool) → is_empty p s n ≡ t → same_kind (kind p s n) Empty ≡ t
+    of true e = ap (λ (k : Kind). same_kind k Empty) (kind_empty p s n e)
+    of false e = ap (λ (b : Bool). same_kind (cond {A = Kind} (is_partial p s n) Partial (cond b Empty Neither)) Empty) e ∙ never (is_partial p s n)
+      where
+        never : (b : Bool) → same_kind (cond {A = Kind} b Partial Neither) Empty ≡ false
+        never true = refl
+        never false = refl

@@ -1,0 +1,165 @@
+-- A slot was picked: the entry of an allotment is allowed, its choices are drawn, and what is kept follows.
+use Rattle.std.proofs.Common.{◌≡◌, ℕ, zero, suc, ◌+◌, ◌-◌, ◌*◌, ◌/◌, ◌^◌, ◌<◌, ◌≤◌, Bool, true, false, IsTrue, cond, not, ◌&&◌, List, [], ◌∷◌, ◌++◌, length, reverse, slice_get, Option, Some, None, is_some, unwrap_or, option_map, sym, ◌∙◌, ap, subst, refl, arith, true≢false}
+use Rattle.std.specs.Option.{option_and_then, option_map_or}
+use Rattle.std.specs.Int.{to_le_bytes}
+use mir.Syntax.{w64}
+use Rattle.std.proofs.lemmas.Option.{none-some, same_Some}
+use Rattle.hm_choice.specs.Stream.{Words, next_word, after_word, canary_of, drawn}
+use Rattle.hm_quarantine.specs.Quarantine.{Kept}
+use Rattle.hm_outside.specs.PageRuns.{PageRuns, IsHeld, Reads, Writes}
+use Rattle.hm_model.specs.declared.entry.Entry.{Entry}
+use Rattle.hm_model.specs.declared.entry.Who.{Who}
+use Rattle.hm_model.specs.declared.entry.Call.TheVariants.{Allot}
+use Rattle.hm_model.specs.declared.entry.Reply.{Reply}
+use Rattle.hm_model.specs.declared.entry.Reply.TheVariants as reply
+use Rattle.hm_model.specs.declared.entry.Choices.{Choices}
+use Rattle.hm_model.specs.declared.entry.Draws.{Draws}
+use Rattle.hm_model.specs.Entries.{AreDraws}
+use Rattle.hm_sizes.specs.declared.config.Config.{Config}
+use Rattle.hm_sizes.specs.declared.shape.Shape.{Shape}
+use Rattle.hm_sizes.specs.Shapes.{IsShape, place, slab_of, has_bytes, usable, class_size_of}
+use Rattle.hm_sizes.specs.Sizes.{raised}
+use Rattle.hm_class_rules.specs.State.{State, is_open}
+use Rattle.hm_class_rules.specs.Kinds.{Kind, Partial, Empty, kind}
+use Rattle.hm_class_rules.specs.Steps.{step, opened, gives, condemns}
+use Rattle.hm_class_rules.specs.Bytes.{first_nonzero, usable_bytes, bytes_from, overlaid_slabs}
+use Rattle.hm_class_rules.specs.Draws.{Event, Picked, event, event_of, after_words}
+use Rattle.hm_class_rules.specs.Rules.{Terms, Allowed, Picks, state, reuse_finds}
+use Rattle.hm_class_rules.specs.Stepped.{Cells, next, IsSteppedEntry, listed}
+use Rattle.hm_class_rules.specs.Laws.{bytes_of_slab}
+use Rattle.hm_class_rules.proofs.Whole.{whole_write}
+use Rattle.hm_class.specs.declared.outcome.Outcome.{Outcome}
+use Rattle.hm_class.specs.declared.outcome.Outcome.TheVariants as outcome
+use Rattle.hm_class.specs.declared.slab.SlotUse.{SlotUse}
+use Rattle.hm_class.specs.declared.slab.SlotUse.TheVariants.{Live, Condemned}
+use Rattle.hm_class.specs.declared.slabs.Slabs.{Slabs}
+use Rattle.hm_class.specs.Uses.{Uses, SlabUse, slab_in, lives, was_given, occupied, kind_at, use_at, passes_at, canary_at, with_use, live_count, first_at}
+use Rattle.hm_class.specs.Calls.{entry_of}
+use Rattle.hm_class.specs.Outcomes.{reply_of}
+use Rattle.hm_class.specs.Gives.{Gives, Stains, Seals}
+use Rattle.hm_class.specs.Finds.{Serve, slot_in}
+use Rattle.hm_class.specs.Region.{HoldsSlabs}
+use Rattle.hm_class.specs.Kept.{Shows, Follows, IsKept, terms_of, cells_of}
+use Rattle.hm_class.proofs.Counts.{weight}
+use Rattle.hm_class.proofs.Entered.{length_removed}
+use Rattle.hm_class.proofs.Followed.{shows_count, shows_given, shows_condemned, available_is}
+use Rattle.hm_class.proofs.Listed.{next_picked}
+use Rattle.hm_class.proofs.Paged.{holds_write, holds_without}
+use Rattle.hm_class.proofs.Permitted.{allowed_of, first_found, kept_is, canary_held, usable_held}
+use Rattle.hm_class.proofs.Places.{slab_of_place}
+use Rattle.hm_class.proofs.Used.{found, counted}
+use Rattle.hm_class.proofs.Entries.{pushed}
+
+-- where reuse is checked, what it finds
+finds_is : (c : Config) (p : Shape) (s : State) (a : ℕ) (found : Option (ℕ × ℕ)) → c.check_reuse ≡ true → first_nonzero (usable_bytes p s a) ≡ found → reuse_finds c p s a ≡ found
+finds_is c p s a found checks is = ap (λ (b : Bool). cond b (first_nonzero (usable_bytes p s a)) None) checks ∙ is
+
+-- where there are no usable bytes none is found
+no_usable : (p : Shape) (s : State) (a : ℕ) → has_bytes p ≡ false → first_nonzero (usable_bytes p s a) ≡ None
+no_usable p s a off =
+    let none : usable p ≡ 0 = ap (λ (b : Bool). cond b (p.slot - 8) 0) off in
+    ap (λ (n : ℕ). first_nonzero (bytes_from p s a n)) none
+
+-- ---- what is found, and what is written
+module _ {P : Type 0} (tells : P → Bool) (runs_of : P → PageRuns) (p : Shape) (all : Uses) (s : State) (n i : ℕ) (mid now : P) (told : Bool) (tell : IsTrue told → IsTrue (tells mid))
+    (shape : IsShape p) (on : is_open s n ≡ true) (lt : i < p.slots) (shows : Shows p all s) (slabs : IsTrue told → HoldsSlabs p s.opens (runs_of mid)) where
+  pub found_told : (a : ℕ) (found : Option (ℕ × ℕ)) → a ≡ place p n i → Stains tells runs_of p mid a found → IsTrue told → first_nonzero (usable_bytes p s a) ≡ found
+  found_told a found is stains t = of (has_bytes p) refl
+    where
+      of : (own : Bool) → has_bytes p ≡ own → first_nonzero (usable_bytes p s a) ≡ found
+      of true own = ap (λ (x : ℕ). first_nonzero (usable_bytes p s x)) is ∙ first_found p s n i (runs_of mid) found shape own on lt (slabs t)
+          (subst (λ (x : ℕ). IsHeld (runs_of mid) x (usable p) → (slice : List ℕ) × Reads (runs_of mid) x (usable p) slice × (found ≡ first_nonzero slice)) is (stains.some own (tell t)))
+      of false off = no_usable p s a off ∙ sym (stains.none off)
+
+  -- the pages with the slot's canary
+  pub given_slabs : (a asked : ℕ) → a ≡ place p n i → Seals tells runs_of p mid now a (canary_at all n) → IsTrue told → HoldsSlabs p (gives p (place p n i) asked s).opens (runs_of now)
+  given_slabs a asked is seals t = of (has_bytes p) refl
+    where
+      q : ℕ
+      q = place p n i
+
+      w : List ℕ
+      w = to_le_bytes w64 (canary_at all n)
+
+      same : HoldsSlabs p (overlaid_slabs p (q + usable p) w s.opens) (runs_of now) → HoldsSlabs p (gives p q asked s).opens (runs_of now)
+      same h = subst (λ (k : ℕ). HoldsSlabs p (overlaid_slabs p (q + usable p) (to_le_bytes w64 k) s.opens) (runs_of now)) (sym (kept_is p all s n i shape lt shows)) h
+
+      of : (own : Bool) → has_bytes p ≡ own → HoldsSlabs p (gives p q asked s).opens (runs_of now)
+      of true own = same (holds_write p s.opens (q + usable p) 8 w (runs_of mid) (runs_of now) shape refl (slabs t)
+          (subst (λ (x : ℕ). Writes (runs_of mid) (x + usable p) 8 w (runs_of now)) is (seals.some own (tell t) (subst (λ (x : ℕ). IsHeld (runs_of mid) (x + usable p) 8) (sym is) (canary_held p s n i (runs_of mid) shape own on lt (slabs t))))))
+      of false off = same (subst (λ (r : PageRuns). HoldsSlabs p (overlaid_slabs p (q + usable p) w s.opens) r) (sym (seals.none off (tell t)))
+          (holds_without p s.opens (overlaid_slabs p (q + usable p) w s.opens) (runs_of mid) off (whole_write (bytes_of_slab p) p (q + usable p) w s.opens (slabs t).whole) (slabs t)))
+
+-- ---- how many are live
+more_live : (all all' : Uses) (n i : ℕ) (u v : SlotUse) → use_at all n i ≡ Some v → all' ≡ with_use all n i u → live_count all' + weight lives v ≡ live_count all + weight lives u
+more_live all all' n i u v was items = omega (arith, ap live_count items, counted lives all n i u v was)
+
+-- ---- a slot of slab n is given, or condemned
+module _ (told : Bool) (runs : PageRuns) (faults : ℕ) (c : Config) (number arena : ℕ) (p : Shape) (es : List Entry) (k : Slabs) (stream : Words) (quarantine : Kept) (parking : List (Option ℕ))
+    (kept : IsKept told runs faults c number arena p es k stream quarantine parking)
+    {P : Type 0} (tells : P → Bool) (runs_of : P → PageRuns) (mid now : P) (k₁ k' : Slabs) (stream' : Words) (n i : ℕ) (kind₀ : Kind) (b : SlabUse) (choices : Choices) (draws : Draws) (who : Who) (asked f f' : ℕ)
+    (tell : IsTrue told → IsTrue (tells mid)) (asks : raised asked ≤ class_size_of p) (is : f ≡ faults) (later : f ≤ f')
+    (lt : i < p.slots) (is_slab : slab_in k₁.slabs.items n ≡ Some b) (v : SlotUse) (was : use_at k₁.slabs.items n i ≡ Some v) (free : occupied v ≡ false)
+    (on : is_open (opened p choices.opened choices.canary (state (terms_of told c p) es)) n ≡ true)
+    (shows : Shows p k₁.slabs.items (opened p choices.opened choices.canary (state (terms_of told c p) es)))
+    (slabs : IsTrue told → HoldsSlabs p (opened p choices.opened choices.canary (state (terms_of told c p) es)).opens (runs_of mid))
+    (live_mid : k₁.live ≡ live_count k₁.slabs.items) (live_now : k'.live ≡ live_count k'.slabs.items)
+    (live_all : length (opened p choices.opened choices.canary (state (terms_of told c p) es)).live ≤ k₁.live)
+    (shut : k'.shut.items ≡ (opened p choices.opened choices.canary (state (terms_of told c p) es)).shut)
+    (partial : reverse k'.partial.items ≡ listed Partial n kind₀ (kind_at k'.slabs.items n) (reverse k.partial.items))
+    (empty : reverse k'.empty.items ≡ listed Empty n kind₀ (kind_at k'.slabs.items n) (reverse k.empty.items))
+    (was_kind : kind p (state (terms_of told c p) es) n ≡ kind₀)
+    (are : AreDraws draws) (taken : after_words stream draws.used ≡ stream')
+    (picks : Picks p (state (terms_of told c p) es) (opened p choices.opened choices.canary (state (terms_of told c p) es)) choices (place p n i))
+    (stepped : (r : Reply) → event_of (Allot asked 1) r ≡ Picked (place p n i) → IsSteppedEntry (terms_of told c p) (cells_of (state (terms_of told c p) es) k stream quarantine parking) (entry_of who (Allot asked 1) r choices draws f f'))
+  where
+    abbrev then : State
+    then = opened p choices.opened choices.canary (state (terms_of told c p) es)
+
+    pub kept_gives : (o : Outcome) → Gives tells runs_of p k₁ k' mid now (slot_in n i) o
+        → IsKept told (runs_of now) f' c number arena p (es ++ entry_of who (Allot asked 1) (reply_of o) choices draws f f' ∷ []) k' stream' quarantine parking
+    kept_gives (outcome.Given a size) g =
+        let t : Terms = terms_of told c p in
+        let q : ℕ = place p n i in
+        let e : Entry = entry_of who (Allot asked 1) (reply.Given q size) choices draws f f' in
+        let off = available_is v free in
+        let dead : weight lives v ≡ 0 = ap (λ (b : Bool). cond {A = ℕ} b 1 0) off.0 in
+        let shows' : Shows p k'.slabs.items (record (gives p q asked then) { faults = f' }) = shows_count p k'.slabs.items (gives p q asked then) f'
+        (subst (λ (u : Uses). Shows p u (gives p q asked then)) (sym g.slabs) (shows_given p k₁.slabs.items then n i b v kept.served.shape lt is_slab was shows asked free)) in
+        subst (λ (x : ℕ). IsKept told (runs_of now) f' c number arena p (es ++ entry_of who (Allot asked 1) (reply.Given x size) choices draws f f' ∷ []) k' stream' quarantine parking) (sym g.addr_is)
+        (pushed told runs faults c number arena p es k stream quarantine parking kept (runs_of now) f' k' stream' quarantine parking e
+        (allowed_of t (state t es) who (Allot asked 1) (reply.Given q size) choices draws f f' are (asks, refl) (is ∙ kept.count) later
+        (picks, g.size_is, λ y. finds_is c p then q None kept.served.valid.reuse (ap (λ (x : ℕ). first_nonzero (usable_bytes p then x)) (sym g.addr_is) ∙ found_told tells runs_of p k₁.slabs.items then n i mid now told tell kept.served.shape on lt shows slabs a None g.addr_is g.clean y)))
+        (stepped (reply.Given q size) refl) refl
+        (record {
+          shows = shows';
+          shut = shut;
+          counted = live_now;
+          live_all = omega (arith, live_all, live_mid, live_now, more_live k₁.slabs.items k'.slabs.items n i Live v was g.slabs, dead, length_removed q then.live);
+        })
+        (given_slabs tells runs_of p k₁.slabs.items then n i mid now told tell kept.served.shape on lt shows slabs a asked g.addr_is g.written)
+        (next_picked t (state t es) k k' stream stream' quarantine parking e q n kind₀ kept.served.shape refl (slab_of_place p n i kept.served.shape lt) was_kind shows' taken partial empty))
+    kept_gives (outcome.Overwritten a at found) g =
+        let t : Terms = terms_of told c p in
+        let q : ℕ = place p n i in
+        let e : Entry = entry_of who (Allot asked 1) (reply.Overwritten q at found) choices draws f f' in
+        let off = available_is v free in
+        let dead : weight lives v ≡ 0 = ap (λ (b : Bool). cond {A = ℕ} b 1 0) off.0 in
+        let given : passes_at was_given k₁.slabs.items n i ≡ was_given v = ap (λ (o : Option SlotUse). option_map_or was_given o false) was in
+        let items : k'.slabs.items ≡ with_use k₁.slabs.items n i (Condemned (was_given v)) = g.slabs ∙ ap (λ (b : Bool). with_use k₁.slabs.items n i (Condemned b)) given in
+        let shows' : Shows p k'.slabs.items (record (condemns q then) { faults = f' }) = shows_count p k'.slabs.items (condemns q then) f'
+        (subst (λ (u : Uses). Shows p u (condemns q then)) (sym items) (shows_condemned p k₁.slabs.items then n i b v kept.served.shape lt is_slab was shows free)) in
+        subst (λ (x : ℕ). IsKept told (runs_of now) f' c number arena p (es ++ entry_of who (Allot asked 1) (reply.Overwritten x at found) choices draws f f' ∷ []) k' stream' quarantine parking) (sym g.addr_is)
+        (pushed told runs faults c number arena p es k stream quarantine parking kept (runs_of now) f' k' stream' quarantine parking e
+        (allowed_of t (state t es) who (Allot asked 1) (reply.Overwritten q at found) choices draws f f' are (asks, refl) (is ∙ kept.count) later
+        (picks, kept.served.valid.reuse, λ y. finds_is c p then q (Some (at, found)) kept.served.valid.reuse (ap (λ (x : ℕ). first_nonzero (usable_bytes p then x)) (sym g.addr_is) ∙ found_told tells runs_of p k₁.slabs.items then n i mid now told tell kept.served.shape on lt shows slabs a (Some (at, found)) g.addr_is g.stained y)))
+        (stepped (reply.Overwritten q at found) refl) refl
+        (record {
+          shows = shows';
+          shut = shut;
+          counted = live_now;
+          live_all = omega (arith, live_all, live_mid, live_now, more_live k₁.slabs.items k'.slabs.items n i (Condemned (was_given v)) v was items, dead);
+        })
+        (λ y. subst (λ (r : PageRuns). HoldsSlabs p then.opens r) (sym (g.same (tell y))) (slabs y))
+        (next_picked t (state t es) k k' stream stream' quarantine parking e q n kind₀ kept.served.shape refl (slab_of_place p n i kept.served.shape lt) was_kind shows' taken partial empty))
+    kept_gives other g = absurd g
