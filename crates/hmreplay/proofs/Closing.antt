@@ -4,7 +4,8 @@ use Rattle.hm_outside.specs.PageRuns.{PageRuns}
 use Rattle.hm_model.specs.declared.entry.Entry.{Entry}
 use Rattle.hm_sizes.specs.declared.class.ClassId.{ClassId}
 use Rattle.hm_sizes.specs.declared.config.Config.{Config}
-use Rattle.hm_sizes.specs.Shapes.{shape_of}
+use Rattle.hm_class_rules.specs.Draws.{drawn_shape}
+use Rattle.hm_class_rules.specs.Drawn.{IsDrawn}
 use Rattle.hm_class_rules.specs.State.{State}
 use Rattle.hm_class_rules.specs.Rules.{Terms, IsLegal, state}
 use Rattle.hm_class.specs.Region.{Region, IsRegion, HoldsSlabs, terms as region_terms}
@@ -16,13 +17,14 @@ use Rattle.hmreplay.specs.Histories.{AreClosed, HasClosed}
 use Rattle.hmreplay.specs.Scripts.{Settings, Runs}
 
 module _ {P : Type 0} (told : P → Bool) (runs : P → PageRuns) (faults : P → ℕ) where
-  abbrev termed : Config → ℕ → ClassId → Bool → Terms
-  termed c arena class tells = record { config = c; shape = shape_of c arena class 4096; told = tells }
+  abbrev termed : ℕ → Config → ℕ → ClassId → Bool → Terms
+  termed number c arena class tells = record { config = c; shape = drawn_shape number c arena class; told = tells }
 
   terms_are : (r : Region P) → IsFirstRegion r → region_terms told r ≡ terms (told r.pages)
   terms_are r is =
       let tells = told r.pages in
-      ap (λ (c : Config). termed c r.arena r.class tells) is.config_is ∙ ap (λ (a : ℕ). termed config a r.class tells) is.arena_is ∙ ap (λ (k : ClassId). termed config 0 k tells) is.class_is
+      ap (λ (n : ℕ). termed n r.config r.arena r.class tells) is.number_is ∙ ap (λ (c : Config). termed 0 c r.arena r.class tells) is.config_is
+      ∙ ap (λ (a : ℕ). termed 0 config a r.class tells) is.arena_is ∙ ap (λ (k : ClassId). termed 0 config 0 k tells) is.class_is
 
   pub closing : (r : Region P) (histories : List History) (pages : List P) (steps : List StepView) (results : List StepResult)
       → IsFirstRegion r → IsRegion told runs faults r → (last : Settings) × Runs 1 [] steps r.entries results last → HasClosed faults histories pages r
@@ -39,6 +41,10 @@ module _ {P : Type 0} (told : P → Bool) (runs : P → PageRuns) (faults : P �
         region = closed.0;
         first = closed.1 ∙ ap (λ (t : Terms). t.shape.first) same;
         legal = subst (λ (t : Terms). IsLegal t h.entries) same (subst (λ (es : List Entry). IsLegal (region_terms told r) es) (sym closed.2) region.legal);
+        drawn = subst (λ (t : Terms). IsDrawn 0 0 t h.entries) same
+            (subst (λ (es : List Entry). IsDrawn 0 0 (region_terms told r) es) (sym closed.2)
+            (subst (λ (a : ℕ). IsDrawn 0 a (region_terms told r) r.entries) is.arena_is
+            (subst (λ (n : ℕ). IsDrawn n r.arena (region_terms told r) r.entries) is.number_is region.drawn)));
         counted = closed.3;
         last = closed.3 ∙ ap faults closed.4 ∙ region.count ∙ ap (λ (s : State). s.faults) states;
         slabs = λ tells.

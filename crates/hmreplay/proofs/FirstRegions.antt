@@ -1,5 +1,5 @@
 -- The one region: it keeps its name, and what it gives lies inside.
-use Rattle.std.proofs.Common.{◌≡◌, ℕ, ◌+◌, ◌*◌, ◌<◌, ◌≤◌, nat_lt, not, ◌&&◌, ◌==◌, Bool, List, [], ◌∷◌, ◌++◌, ◌∙◌, ap, subst, arith}
+use Rattle.std.proofs.Common.{◌≡◌, ℕ, ◌+◌, ◌*◌, ◌<◌, nat_lt, not, ◌&&◌, ◌==◌, Bool, List, [], ◌∷◌, ◌++◌, ◌∙◌, sym, ap, subst, arith}
 use Rattle.std.specs.Prelude.{IfSome}
 use Rattle.std.proofs.lemmas.Bool.{and_parts}
 use Rattle.std.proofs.lemmas.Bool.Decides.{nat_tests}
@@ -14,7 +14,10 @@ use Rattle.hm_model.specs.Machine.{Legal_split}
 use Rattle.hm_sizes.specs.declared.class.ClassId.{ClassId}
 use Rattle.hm_sizes.specs.declared.config.Config.{Config}
 use Rattle.hm_sizes.specs.declared.shape.Shape.{Shape}
-use Rattle.hm_sizes.specs.Shapes.{shape_of, slab_of, slot_of, place, is_guard, IsPlace}
+use Rattle.hm_sizes.specs.Shapes.{slab_of, slot_of, place, is_guard, IsPlace}
+use Rattle.hm_class_rules.specs.Draws.{drawn_shape}
+use Rattle.hm_class_rules.specs.DrawnExamples.{first_region}
+use Rattle.hm_class_rules.proofs.KnownWords.{first_drawn}
 use Rattle.hm_class_rules.specs.State.{State, start}
 use Rattle.hm_class_rules.specs.Steps.{step}
 use Rattle.hm_class_rules.specs.Rules.{Terms, Allows, Allowed, IsLegal, state}
@@ -24,21 +27,24 @@ use Rattle.hmreplay.specs.FirstRegion.{config, shape, IsFirstRegion}
 use Rattle.hmreplay.specs.Scripts.{IsInside, given_by}
 
 -- the bounds of a slot's place
-within : (a n i : ℕ) → n < 8388608 → i < 36 → 1580547969024 + n * 4096 + i * 112 ≡ a → (1580547969024 ≤ a) × (a < 1580547969024 + 34359738368)
+within : (a n i : ℕ) → n < 8388608 → i < 36 → 1592101122048 + n * 4096 + i * 112 ≡ a → IsInside a
 within a n i below slot is = (omega arith, omega arith)
 
--- a place of the region lies inside
-pub place_inside : (a : ℕ) → IsPlace shape a → IsInside a
-place_inside a is =
-    let n = slab_of shape a in
-    let i = slot_of shape a in
-    let one = and_parts (nat_lt n shape.limit) (not (is_guard shape n) && (nat_lt i shape.slots && (place shape n i == a))) is in
-    let two = and_parts (not (is_guard shape n)) (nat_lt i shape.slots && (place shape n i == a)) one.1 in
-    let three = and_parts (nat_lt i shape.slots) (place shape n i == a) two.1 in
+-- a place of the region lies inside; its numbers are known
+known_inside : (a : ℕ) → IsPlace first_region.shape a → IsInside a
+known_inside a is =
+    let n = slab_of first_region.shape a in
+    let i = slot_of first_region.shape a in
+    let one = and_parts (nat_lt n 8388608) (not (is_guard first_region.shape n) && (nat_lt i 36 && (place first_region.shape n i == a))) is in
+    let two = and_parts (not (is_guard first_region.shape n)) (nat_lt i 36 && (place first_region.shape n i == a)) one.1 in
+    let three = and_parts (nat_lt i 36) (place first_region.shape n i == a) two.1 in
     within a n i (grind (arith, nat_tests, one.0)) (grind (arith, nat_tests, three.0)) (grind (arith, nat_tests, three.1))
 
-abbrev made : Config → ℕ → ClassId → Shape
-made c arena class = shape_of c arena class 4096
+pub place_inside : (a : ℕ) → IsPlace shape a → IsInside a
+place_inside a is = known_inside a (subst (λ (p : Shape). IsPlace p a) (sym first_drawn.shape) is)
+
+abbrev made : ℕ → Config → ℕ → ClassId → Shape
+made number c arena class = drawn_shape number c arena class
 
 -- what an allotment gives is a place
 given_place : (t : Terms) (s : State) (before now : ℕ) (c : Choices) (size : ℕ) (reply : Reply) → Allows t s before now c (Allot size 1) reply → IfSome (given_by reply) (IsPlace t.shape)
@@ -61,14 +67,15 @@ module _ {P : Type 0} where
 
   pub shapes_are : (r : Region P) → IsFirstRegion r → region_shape r ≡ shape
   shapes_are r is =
-      ap (λ (c : Config). made c r.arena r.class) is.config_is ∙ ap (λ (a : ℕ). made config a r.class) is.arena_is ∙ ap (λ (k : ClassId). made config 0 k) is.class_is
+      ap (λ (n : ℕ). made n r.config r.arena r.class) is.number_is ∙ ap (λ (c : Config). made 0 c r.arena r.class) is.config_is
+      ∙ ap (λ (a : ℕ). made 0 config a r.class) is.arena_is ∙ ap (λ (k : ClassId). made 0 config 0 k) is.class_is
 
   -- what was given last lies inside
   pub given_inside : (told : P → Bool) (runs : P → PageRuns) (faults : P → ℕ) (old new : Region P) (who : Who) (size : ℕ) (reply : Reply)
       → IsFirstRegion new → IsRegion told runs faults new → Added faults old new who (Allot size 1) reply → IfSome (given_by reply) IsInside
   given_inside told runs faults old new who size reply is region added =
       let t : Terms = region_terms told new in
-      let e : Entry = entry_of who (Allot size 1) reply added.choices (faults old.pages) (faults new.pages) in
+      let e : Entry = entry_of who (Allot size 1) reply added.choices added.draws (faults old.pages) (faults new.pages) in
       let legal : IsLegal t (old.entries ++ e ∷ []) = subst (λ (es : List Entry). IsLegal t es) added.entries region.legal in
       let last : Allowed t (state t old.entries) e = (Legal_split (step t.shape) (Allowed t) start old.entries (e ∷ []) legal).1.0 in
       inside_of reply

@@ -1,5 +1,5 @@
 -- The traces that are built so far.
-use Rattle.std.specs.Prelude.{◌≡◌, ◌⊎◌, suc, Bool, true, false, ◌&&◌, ◌==◌, nat_le, List, [], ◌∷◌, length, ℤ, pos, negsuc}
+use Rattle.std.specs.Prelude.{◌≡◌, ◌⊎◌, suc, Bool, true, false, ◌&&◌, ◌==◌, nat_le, List, [], ◌∷◌, ℤ, pos, negsuc}
 use Rattle.std.specs.List.{list_all}
 use Rattle.hm_trace.specs.Views.{PlaceView, Named, StepView, Malloc, Free, Write, Read, Size, ScriptView}
 
@@ -22,9 +22,9 @@ is_built_step (Read place len) = is_built_place place
 is_built_step (Size place) = is_built_place place
 is_built_step step = false
 
--- at most 1,000 such steps of thread 1
+-- such steps of thread 1
 abbrev pub is_built_script : ScriptView → Bool
-is_built_script s = s.thread == 1 && nat_le (length s.steps) 1000 && list_all is_built_step s.steps
+is_built_script s = s.thread == 1 && list_all is_built_step s.steps
 
 -- at most one round with at most one script
 abbrev pub is_built : List (List ScriptView) → Bool

@@ -1,17 +1,18 @@
--- The one region on which a script runs: class 7 of arena 0, without a quarantine.
+-- The one region on which a script runs: class 7 of arena 0 of run 0, in the standard configuration.
 use Rattle.std.specs.Prelude.{◌≡◌, Bool}
 use Rattle.hm_sizes.specs.declared.config.Config.{Config}
 use Rattle.hm_sizes.specs.declared.shape.Shape.{Shape}
 use Rattle.hm_sizes.specs.Configs.{standard}
-use Rattle.hm_sizes.specs.Shapes.{shape_of}
+use Rattle.hm_class_rules.specs.Draws.{drawn_shape}
 use Rattle.hm_class_rules.specs.Rules.{Terms}
 use Rattle.hm_class.specs.Region.{Region}
 
 abbrev pub config : Config
-config = record standard { array_base = 0; ring_base = 0 }
+config = standard
 
+-- its first word says where it begins
 abbrev pub shape : Shape
-shape = shape_of config 0 (record { 0 = 7 }) 4096
+shape = drawn_shape 0 config 0 (record { 0 = 7 })
 
 -- the bytes are told where its pages tell them
 abbrev pub terms : Bool → Terms

@@ -2,6 +2,7 @@
 use Rattle.std.specs.Prelude.{◌≡◌, ℕ, Bool, IsTrue, List, [], ◌∷◌, Option, Some, None}
 use Rattle.hm_outside.specs.PageRuns.{PageRuns}
 use Rattle.hm_class_rules.specs.Rules.{IsLegal, state}
+use Rattle.hm_class_rules.specs.Drawn.{IsDrawn}
 use Rattle.hm_class.specs.Region.{Region, HoldsSlabs, region_shape}
 use Rattle.hm_report.specs.declared.results.StepResult.{StepResult}
 use Rattle.hm_trace.specs.Views.{StepView}
@@ -12,11 +13,12 @@ use Rattle.hmreplay.specs.Scripts.{Settings, Runs}
 
 -- ---- what is closed
 module _ {P : Type 0} (told : P → Bool) (runs : P → PageRuns) (faults : P → ℕ) where
-  -- the history of region 7 beside its pages: it is legal, in what it says of bytes too where these pages tell them; its counts are the pages' own; where they tell, their runs are its open slabs with their bytes; and its entries are exactly the calls of these steps, each once, in order
+  -- the history of region 7 beside its pages: it is legal, in what it says of bytes too where these pages tell them; its choices are drawn from the words of its stream; its counts are the pages' own; where they tell, their runs are its open slabs with their bytes; and its entries are exactly the calls of these steps, each once, in order
   pub record IsHistory (h : History) (p : P) (steps : List StepView) (results : List StepResult) : Type 0 where
     pub region : h.region.0 ≡ 7
     pub first : h.first ≡ shape.first
     pub legal : IsLegal (terms (told p)) h.entries
+    pub drawn : IsDrawn 0 0 (terms (told p)) h.entries
     pub counted : h.faults ≡ faults p
     pub last : h.faults ≡ (state (terms (told p)) h.entries).faults
     pub slabs : IsTrue (told p) → HoldsSlabs shape (state (terms (told p)) h.entries).opens (runs p)

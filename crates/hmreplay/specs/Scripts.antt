@@ -14,7 +14,7 @@ use Rattle.hm_report.specs.declared.results.StepResult.{StepResult}
 use Rattle.hm_trace.specs.declared.names.Name.{Name}
 use Rattle.hm_trace.specs.Names.{is_word}
 use Rattle.hm_trace.specs.Views.{name_view, PlaceView, Named, StepView, Malloc, Free, Write, Read, Size}
-use Rattle.hmreplay.specs.FirstRegion.{config, shape}
+use Rattle.hmreplay.specs.FirstRegion.{config}
 
 -- ---- names
 -- what was said of names, newest first: an address, or that it is not set
@@ -90,9 +90,9 @@ address_of (e ∷ entries) name = if is_word name (name_view e.0) then Some e.1 
 abbrev pub Agree : List (Name × ℕ) → Settings → Type 0
 Agree entries settings = (name : Name) → address_of entries (name_view name) ≡ held_by settings (name_view name)
 
--- the address lies among the slabs of the region: at least the first one's, and less than their length above it
+-- the address lies more than a page from the ends of the space of the region
 abbrev pub IsInside : ℕ → Type 0
-IsInside addr = (shape.first ≤ addr) × (addr < shape.first + config.class_region)
+IsInside addr = (region_start config 0 7 + 4096 ≤ addr) × (addr + 4096 < region_start config 0 7 + 2 * config.class_region)
 
 abbrev pub AreInside : List (Name × ℕ) → Type 0
 AreInside entries = (name : Name) → IfSome (address_of entries (name_view name)) IsInside

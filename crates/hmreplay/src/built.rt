@@ -1,5 +1,5 @@
 //! Which traces are built so far, and the steps of such a trace.
-ghost use Rattle.std.specs.Prelude.{◌≡◌, true, MatchOption};
+ghost use Rattle.std.specs.Prelude.{◌≡◌, ◌≤◌, true, length, IfSome, MatchOption};
 ghost use Rattle.std.specs.List.{list_all};
 ghost use Rattle.hm_trace.specs.Views.{place_view, step_view, steps_view};
 ghost use Rattle.hmreplay.specs.Built.{is_near, is_built_place, is_built_step, is_built_script, is_built, HasScript, HasNoScript};
@@ -56,11 +56,10 @@ fn are_built_steps(steps: &[Step]) -> bool
 fn is_built_script(script: &Script) -> bool
     ensures { result ≡ is_built_script script.now }
 {
-    script.thread() == 1 && script.steps().len() <= 1000 && are_built_steps(script.steps())
+    script.thread() == 1 && are_built_steps(script.steps())
 }
 
-/// Whether a trace has at most one round with at most one script, of at most 1,000 built steps of
-/// thread 1.
+/// Whether a trace has at most one round with at most one script, of built steps of thread 1.
 pub fn is_built(trace: &Trace) -> bool
     ensures { result ≡ is_built trace.now }
 {
@@ -78,7 +77,8 @@ pub fn is_built(trace: &Trace) -> bool
 /// The script of such a trace, if it has one.
 pub fn script_of(trace: &Trace) -> Option<&Script>
     requires { is_built trace.now ≡ true }
-    ensures { MatchOption result (HasNoScript trace.now) (λ script. HasScript trace.now script.now) }
+    ensures which { MatchOption result (HasNoScript trace.now) (λ script. HasScript trace.now script.now) }
+    ensures few { IfSome result (λ script. length script.now.steps ≤ 200000) }
 {
     match trace.rounds() {
         [round] => match round.scripts() {

@@ -1,13 +1,11 @@
 //! The region on which a script runs: built, run and closed.
 ghost use Rattle.std.specs.Prelude.{◌≡◌, ◌≤◌, [], true, length, IfOk, Some};
 ghost use Rattle.std.specs.List.{list_all};
-ghost use Rattle.hm_sizes.specs.Configs.{IsValid};
-ghost use Rattle.hm_class.specs.Calls.{IsBuilt};
 ghost use Rattle.hm_class.specs.Region.{IsRegion};
 ghost use Rattle.hm_trace.specs.Traces.{is_step};
 ghost use Rattle.hm_trace.specs.Views.{steps_view};
 ghost use Rattle.hmreplay.specs.Built.{is_built_step};
-ghost use Rattle.hmreplay.specs.FirstRegion.{config, IsFirstRegion};
+ghost use Rattle.hmreplay.specs.FirstRegion.{IsFirstRegion};
 ghost use Rattle.hmreplay.specs.Histories.{Closes, IsClosedAs};
 
 use crate::closed::{Closed, History};
@@ -24,17 +22,8 @@ const REGION: u32 = 7;
 
 const CLASS: u8 = 7;
 
-// The standard configuration, without a quarantine.
-fn first_config() -> Config
-    ensures value { result ≡ config }
-    ensures valid { IsValid result }
-{
-    Config {
-        array_base: 0,
-        ring_base: 0,
-        ..Config::standard()
-    }
-}
+/// The number of the run.
+const NUMBER: u64 = 0;
 
 // A region of the first class that is used, without entries.
 fn build<M: PageMaker>(alloc: Global, maker: &mut M) -> Result<ClassHeap<M::P>, NoMemory>
@@ -43,7 +32,7 @@ fn build<M: PageMaker>(alloc: Global, maker: &mut M) -> Result<ClassHeap<M::P>, 
     ensures region { IfOk result (λ heap. IsRegion M.P.told M.P.runs M.P.faults heap) }
 {
     let pages = maker.make(alloc, RegionId(REGION))?;
-    ClassHeap::build(alloc, &first_config(), 0, 0, ClassId(CLASS), pages)
+    ClassHeap::build(alloc, &Config::standard(), NUMBER, 0, ClassId(CLASS), pages)
 }
 
 // The history of the region, and its pages.
@@ -83,7 +72,7 @@ pub fn run_region<M: PageMaker>(
 ) -> Result<Finished<M::P>, NoMemory>
     requires built { list_all is_built_step (steps_view steps.now) ≡ true }
     requires valid { list_all is_step (steps_view steps.now) ≡ true }
-    requires few { length steps.now ≤ 1000 }
+    requires few { length steps.now ≤ 200000 }
     ensures { IfOk result (λ done. Closes M.P.told M.P.runs M.P.faults (Some done.closed) (steps_view steps.now) done.items.items) }
 {
     let mut heap = build(alloc, maker)?;

@@ -1,5 +1,5 @@
 //! What a step asks of the region at an address.
-ghost use Rattle.std.specs.Prelude.{◌<◌, ◌^◌, length, IfOk};
+ghost use Rattle.std.specs.Prelude.{◌<◌, ◌^◌, IfOk};
 ghost use Rattle.hm_class.specs.Calls.{Added, KeepsName};
 ghost use Rattle.hm_class.specs.Region.{IsRegion};
 ghost use Rattle.hmreplay.specs.Requests.{call_at, IsMeasured};
@@ -30,7 +30,6 @@ pub fn ask<P: Pages>(
     request: Request,
     addr: u64,
 ) -> Result<Reply, NoMemory>
-    requires few { length heap.old.entries < 1000 }
     requires region { IsRegion P.told P.runs P.faults heap.old }
     requires below { addr < 2 ^ 47 }
     requires measured { IsMeasured request }

@@ -96,7 +96,6 @@ fn refer<P: Pages>(
     place: &Place,
     request: Request,
 ) -> Result<StepResult, NoMemory>
-    requires few { length heap.old.entries < 1000 }
     requires region { IsRegion P.told P.runs P.faults heap.old }
     requires built { is_built_place (place_view place.now) ≡ true }
     requires measured { IsMeasured request }
@@ -123,7 +122,6 @@ fn run_step<P: Pages>(
     step: &Step,
 ) -> Result<StepResult, NoMemory>
     requires first { IsFirstRegion heap.old }
-    requires few { length heap.old.entries < 1000 }
     requires region { IsRegion P.told P.runs P.faults heap.old }
     requires built { is_built_step (step_view step.now) ≡ true }
     requires valid { is_step (step_view step.now) ≡ true }
@@ -163,7 +161,7 @@ pub fn run_steps<P: Pages>(
     requires region { IsRegion P.told P.runs P.faults heap.old }
     requires built { list_all is_built_step (steps_view steps.now) ≡ true }
     requires valid { list_all is_step (steps_view steps.now) ≡ true }
-    requires few { length steps.now ≤ 1000 }
+    requires few { length steps.now ≤ 200000 }
     ensures ran { IfOk result (λ rs. (last : Settings) × Runs 1 [] (steps_view steps.now) heap.new.entries rs.items last) }
     ensures name { KeepsName heap.old heap.new }
     ensures region { IsRegion P.told P.runs P.faults heap.new }

@@ -140,13 +140,13 @@ const SCRIPTS: [(&str, &str, u8); 19] = [
         0,
     ),
     (
-        "malloc x 100\nmalloc y 100\nwrite x+112 2 ff\nread y-1 4\n",
-        "1.1.1 given 104\n1.1.2 given 104\n1.1.3 written\n1.1.4 bytes 00*1 ff*2 00*1\n",
+        "malloc x 100\nwrite x+112 2 ff\nread x+111 4\n",
+        "1.1.1 given 104\n1.1.2 written\n1.1.3 bytes ca*1 ff*2 00*1\n",
         0,
     ),
     (
-        "malloc x 100\nread x+4000 96\nread x+4000 97\nwrite x+4095 2 41\nread x+4095 1\n",
-        "1.1.1 given 104\n1.1.2 bytes 00*96\n1.1.3 trap at +96\n1.1.4 trap at +1\n1.1.5 bytes 00*1\n",
+        "malloc x 100\nread x+1300 108\nread x+1300 109\nwrite x+1407 2 41\nread x+1407 1\n",
+        "1.1.1 given 104\n1.1.2 bytes 00*108\n1.1.3 trap at +108\n1.1.4 trap at +1\n1.1.5 bytes 00*1\n",
         1,
     ),
     (
@@ -295,11 +295,11 @@ fn long_script(alloc: Global, steps: u32) -> Result<Vec<u8>, Fail> {
 }
 
 #[test]
-fn thousand_steps(rt: HostRuntime) -> Result<(), Fail> {
+fn long_scripts(rt: HostRuntime) -> Result<(), Fail> {
     let alloc = rt.alloc();
-    for (steps, status, entries) in [(1_000, 0, 1_000), (1_001, 8, 0)] {
+    for (steps, status, entries) in [(1_000, 0, 1_000), (5_001, 0, 5_000)] {
         let mut source = source(alloc, long_script(alloc, steps)?, 65_536, 0)?;
-        let mut sink = VecSink::build(alloc, 65_536, 65_536, Vec::new(alloc))?;
+        let mut sink = VecSink::build(alloc, 1_048_576, 65_536, Vec::new(alloc))?;
         let run = run_over(&rt, alloc, "run", &mut source, &mut sink, &mut PlainMaker)?;
         assert_eq!(rt; run.status, status);
         if let Some(closed) = run.closed {

@@ -1,4 +1,4 @@
-use Rattle.std.proofs.Common.{◌≡◌, ℕ, ◌+◌, ◌≤◌, List, [], ◌∷◌, ◌++◌, length, take, sym, ◌∙◌, ap, subst, arith, length-append}
+use Rattle.std.proofs.Common.{◌≡◌, ℕ, ◌+◌, ◌≤◌, List, [], ◌∷◌, ◌++◌, length, take, sym, ◌∙◌, ap, subst, arith}
 use Rattle.std.proofs.lemmas.List.{take_more, map-append, length-map, length-take-le}
 use Rattle.hm_model.specs.declared.entry.Entry.{Entry}
 use Rattle.hm_report.specs.declared.results.StepResult.{StepResult}
@@ -46,7 +46,6 @@ loop-index-preserved g c =
         made.is.1,
       );
       inside = c.in_ok-result.ensures.inside;
-      few = omega (arith, old.few, made.few, ap (λ (es : List Entry). length es) made.entries, length-append c.loop-index.heap.entries made.own);
       region = c.run_step.ensures.region;
       name = record {
         config = c.run_step.ensures.name.config ∙ old.name.config;

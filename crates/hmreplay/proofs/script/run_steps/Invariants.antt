@@ -1,4 +1,4 @@
-use Rattle.std.proofs.Common.{◌≤◌, take, [], length}
+use Rattle.std.proofs.Common.{take, []}
 use Rattle.hm_class.specs.Calls.{KeepsName}
 use Rattle.hm_class.specs.Region.{IsRegion}
 use Rattle.hm_trace.specs.Views.{steps_view}
@@ -10,7 +10,6 @@ abbrev pub invariant-loop-index : goal.invariant-loop-index
 invariant-loop-index g l = record {
   ran : (last : Settings) × Runs 1 [] (steps_view (take l.index l.steps)) l.heap.entries l.results.items last × Agree l.names.entries last;
   inside : AreInside l.names.entries;
-  few : length l.heap.entries ≤ l.index;
   region : IsRegion g.P.Pages.told g.P.Pages.runs g.P.Pages.faults l.heap;
   name : KeepsName l.fn.heap l.heap;
 }
