@@ -16,6 +16,9 @@ const FIRST: u64 = 1_592_101_122_048;
 
 const BLOCK: u64 = 1_592_101_124_736;
 
+/// The numbers of a few more runs.
+const RUNS: [u64; 3] = [1, 2, u64::MAX];
+
 /// The last address that a call may name.
 const LAST: u64 = (1 << 47) - 1;
 
@@ -374,13 +377,60 @@ fn second_empty_slab_is_retired(rt: HostRuntime) -> Result<(), Fail> {
 #[test]
 fn second_empty_slab_is_retired_in_each_run(rt: HostRuntime) -> Result<(), Fail> {
     let alloc = rt.alloc();
-    for run in [1, 2, u64::MAX] {
+    for run in RUNS {
         let mut region = region_of(alloc, run, 48, 0, PlainPages::new(alloc))?;
         let [a, b, c, _d] = two_and_two(&mut region)?;
         assert_eq!(rt; c, a, "run {run}");
         assert_eq!(rt; released(&region, 3), Some(b), "run {run}");
         assert_eq!(rt; moved(&region, 3), Some((None, Some(2), None)), "run {run}");
         assert_eq!(rt; moved(&region, 5), Some((Some(4), None, None)), "run {run}");
+    }
+    Ok(())
+}
+
+#[test]
+fn slab_is_purged_in_each_run(rt: HostRuntime) -> Result<(), Fail> {
+    let alloc = rt.alloc();
+    for run in RUNS {
+        let pages = FailingPages::build(alloc, vec![in alloc; 3]?);
+        let mut region = region_of(alloc, run, 48, 0, pages)?;
+        let [a, b, c, d] = two_and_two(&mut region)?;
+        assert_eq!(rt; (c, d), (b, a), "run {run}");
+    }
+    Ok(())
+}
+
+#[test]
+fn write_after_a_free_is_found_in_each_run(rt: HostRuntime) -> Result<(), Fail> {
+    let alloc = rt.alloc();
+    for run in RUNS {
+        let mut region = region_of(alloc, run, 48, 1, PlainPages::new(alloc))?;
+        let (d, _e) = stained_block(alloc, &mut region)?;
+        assert!(rt;
+            matches!(
+                d,
+                Reply::Overwritten {
+                    at: 0,
+                    found: 0x41,
+                    ..
+                }
+            ),
+            "run {run}"
+        );
+    }
+    Ok(())
+}
+
+#[test]
+fn frees_are_refused_in_each_run(rt: HostRuntime) -> Result<(), Fail> {
+    let alloc = rt.alloc();
+    for run in RUNS {
+        let mut region = region_of(alloc, run, 7, 1, PlainPages::new(alloc))?;
+        let block = one_block(&mut region)?;
+        let again = refusal_of(&mut region, block)?;
+        let inside = refusal_of(&mut region, block.wrapping_add(8))?;
+        assert_eq!(rt; again, Refused::DoubleFree, "run {run}");
+        assert_eq!(rt; inside, Refused::NoSlot, "run {run}");
     }
     Ok(())
 }
