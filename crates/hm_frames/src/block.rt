@@ -70,14 +70,11 @@ unsafe impl<A: Allocator> Sync for Lease<A> {}
 /// A block with room for `len` bytes.
 pub(crate) fn allocate<A: Allocator>(alloc: &A, len: usize) -> Option<(Start, Contents, Lease<A>)>
     requires { len < 2 ^ 63 }
-    ensures { IfSome result (λ r. (r.1.at ≡ r.0.ptr) × (r.1.bytes ≡ []) × (r.1.room ≡ len) × (r.2.at ≡ r.0.ptr) × (r.2.len ≡ len) × (r.2.alloc ≡ alloc.now)) }
+    ensures { IfSome result (λ r. (r.1.at ≡ r.0.ptr) × (r.1.bytes ≡ []) × (r.1.room ≡ len)
+        × (r.2.at ≡ r.0.ptr) × (r.2.len ≡ len) × (r.2.alloc ≡ alloc.now)) }
 {
     match alloc.allocate(len, 1) {
-        Ok(ptr) => Some((
-            Start { ptr },
-            Contents {},
-            Lease { mark: PhantomData },
-        )),
+        Ok(ptr) => Some((Start { ptr }, Contents {}, Lease { mark: PhantomData })),
         Err(_) => None,
     }
 }
@@ -90,7 +87,8 @@ pub(crate) fn deallocate<A: Allocator>(
     contents: Contents,
     lease: Lease<A>,
 )
-    requires { (contents.at ≡ start.ptr) × (length contents.bytes ≡ len) × (contents.room ≡ 0) × (lease.at ≡ start.ptr) × (lease.len ≡ len) × (lease.alloc ≡ alloc.now) }
+    requires { (contents.at ≡ start.ptr) × (length contents.bytes ≡ len) × (contents.room ≡ 0)
+        × (lease.at ≡ start.ptr) × (lease.len ≡ len) × (lease.alloc ≡ alloc.now) }
 {
     let Contents {} = contents;
     let Lease { mark: _ } = lease;

@@ -14,10 +14,10 @@ use types.Kit.{‵, raw, ◌⊛◌, given, later, prop, settles, at_ret, ◌$◌
 use types.Part.{whole, sub}
 use types.Run.{stop, fld, lit, unit_lit, of_opd, no_more, and_then, first, blocks, exec, returns, enter}
 use types.ByLocal.{alloc_all, pass_all, free_all, look_at, get, get_in, sets, lands_last, env}
-use denote.RattleType.{RattleType, owns}
+use denote.RattleType.{owns}
 use denote.RawPtr.{Ptr, block_ptr, in_a_block}
 use denote.RawPtr.Bytes.{bytes-room}
-use denote.Param.{param, bounded}
+use denote.Param.{bounded}
 use denote.Signature.{types_at}
 use denote.Steps.{nothing, heard}
 use denote.Triple.Entry.{alive}
@@ -27,7 +27,7 @@ use Rattle.core.proofs.alloc.Calls.{Al, seen, Goes-blank, Gives, at_gives, Gives
 use Rattle.core.proofs.alloc.Shapes.{after}
 use Rattle.core.proofs.atomic.Steps.{fm}
 use Rattle.std.proofs.raw_atomic.Walks.{proved_at, leaves}
-use Rattle.hm_frames.proofs.Memory.{slot_at, then_runs, out_of_block, start_val, start_told, start_typed, contents_val, contents_told, lease_val, lease_told}
+use Rattle.hm_frames.proofs.Memory.{slot_at, then_runs, out_of_block, start_val, start_told, contents_val, contents_told, lease_val, lease_told}
 use Rattle.hm_frames.specs.Ownership.{bytes_type, contents_own}
 use Rattle.hm_frames.specs.contracts.block.deallocate.{ended, clauses}
 use Rattle.hm_frames.specs.contracts.block.deallocate.Key.{name as #self}
@@ -45,8 +45,16 @@ deallocate_spec 𝓤 𝓛 𝓜 𝓡 wired A L g d dd met md =
     let stays : Stays En₀.signature.params En₀.kept = (stay_dropped (slot_at 0 ps) ks.0, (stay_dropped (slot_at 1 ps) ks.1.0, (stay_dropped (slot_at 2 ps) ks.1.1.0, (stay_dropped (slot_at 3 ps) ks.1.1.1.0, (stay_dropped (slot_at 4 ps) ks.1.1.1.1.0, tt))))) in
     let C = (tables 𝓤 H 𝓜 𝓡 𝓡.env).C in
     let Λ = (tables 𝓤 H 𝓜 𝓡 𝓡.env).Λ in
-    proved_at 𝓛 En₀ stays c 𝓜 𝓡 (Goes-dropped 𝓛 2 (slot_at 0 ps) ks.0 (λ κs x f. refl), (Goes-dropped 𝓛 2 (slot_at 1 ps) ks.1.0 (λ κs x f. refl), (Goes-dropped 𝓛 2 (slot_at 2 ps) ks.1.1.0 (λ κs x f. refl),
-    (Goes-blank 𝓛 2 (slot_at 3 ps) ks.1.1.1.0 (λ κs x f. tt), (Goes-blank 𝓛 2 (slot_at 4 ps) ks.1.1.1.1.0 (λ κs x f. tt), tt)))))
+    proved_at 𝓛 En₀ stays c 𝓜 𝓡 (
+      Goes-dropped 𝓛 2 (slot_at 0 ps) ks.0 (λ κs x f. refl),
+      (
+        Goes-dropped 𝓛 2 (slot_at 1 ps) ks.1.0 (λ κs x f. refl),
+        (
+          Goes-dropped 𝓛 2 (slot_at 2 ps) ks.1.1.0 (λ κs x f. refl),
+          (Goes-blank 𝓛 2 (slot_at 3 ps) ks.1.1.1.0 (λ κs x f. tt), (Goes-blank 𝓛 2 (slot_at 4 ps) ks.1.1.1.1.0 (λ κs x f. tt), tt)),
+        ),
+      ),
+    )
     (#self args) fn (compiled.unfolded 𝓤 H 𝓜 𝓡 wired (A, tt) d dd) (λ z are.
     let Post : Val → SProp 𝓤 = (walk_of 𝓛 En₀ stays c).post z in
     let a = z.0.3 in let vss = z.0.4 in
