@@ -103,7 +103,8 @@ impl Contents {
     /// Writes one more byte, at the first place of the room.
     pub(crate) fn push(&mut self, start: Start, index: usize, byte: u8)
         requires { (start.ptr ≡ self.old.at) × (index ≡ length self.old.bytes) × (0 < self.old.room) }
-        ensures { (self.new.at ≡ self.old.at) × (self.new.bytes ≡ self.old.bytes ++ byte ∷ []) × (self.new.room + 1 ≡ self.old.room) }
+        ensures { (self.new.at ≡ self.old.at) × (self.new.bytes ≡ self.old.bytes ++ byte ∷ [])
+            × (self.new.room + 1 ≡ self.old.room) }
     {
         unsafe { start.ptr.add(index).write(byte) }
     }
