@@ -3,3 +3,4 @@ pub mod Sizes
 pub mod Configs
 pub mod Shapes
 pub mod Laws
+pub mod Origins
