@@ -13,6 +13,7 @@ use Rattle.hm_model.specs.declared.entry.Draws.{Draws}
 use Rattle.hm_model.specs.Entries.{AreDraws}
 use Rattle.hm_model.specs.Machine.{run, Legal_push, run_push}
 use Rattle.hm_model.specs.Maps.{at, removed}
+use Rattle.hm_outside.specs.declared.pages.Pages as pages
 use Rattle.hm_outside.specs.PageRuns.{PageRuns, IsRun}
 use Rattle.hm_quarantine.specs.LookingBack.{released}
 use Rattle.hm_sizes.specs.declared.config.Config.{Config}
@@ -147,9 +148,9 @@ module _ {P : Type 0} (told : P → Bool) (runs : P → PageRuns) (faults : P �
       (allotted_as attempt.outcome who asked align attempt.word attempt.guard most is h (allots.word, allots.guard, allots.ends))
 
 -- ---- what callers see
-pub region_of : {P : Type 0} (told : P → Bool) (runs : P → PageRuns) (faults : P → ℕ) (r : Region P) (k : Store) → IsKept (told r.pages) (runs r.pages) (faults r.pages) r.config r.number r.entries k → k.owed ≤ r.spare
-    → IsRegion told runs faults r
-region_of told runs faults r k h room = record { legal = h.legal; drawn = h.drawn; count = h.count; pages = h.pages; room = omega (arith, h.shows.owed_is, room) }
+pub region_of : {P : Type 0} (meaning : pages.Ghosts P) (r : Region P) (k : Store)
+    → IsKept (meaning.told r.pages) (meaning.runs r.pages) (meaning.faults r.pages) r.config r.number r.entries k → k.owed ≤ r.spare → IsRegion meaning r
+region_of meaning r k h room = record { valid = h.valid; legal = h.legal; drawn = h.drawn; count = h.count; held = h.pages; room = omega (arith, h.shows.owed_is, room) }
 
 -- the entries with one more, once room was made
 pub appended : (new room old : List Entry) (x e : Entry) → new ≡ room ++ x ∷ [] → room ≡ old → x ≡ e → new ≡ old ++ e ∷ []

@@ -202,7 +202,7 @@ impl<P: Pages> LargeHeap<P> {
         requires nothing { IsTrue (P.told pages) → P.runs pages ≡ map.empty }
         requires count { P.faults pages ≡ 0 }
         ensures built { IfOk result (λ region. IsBuilt config.now seed pages region) }
-        ensures region { IfOk result (λ region. IsRegion P.told P.runs P.faults region) }
+        ensures region { IfOk result (λ region. IsRegion P.Pages region) }
     {
         let store = Store::build(alloc, config, seed)?;
         Ok(LargeHeap {
@@ -218,7 +218,7 @@ impl<P: Pages> LargeHeap<P> {
     /// The history, oldest entry first.
     pub fn entries(&self) -> &[Entry]
         ensures value { result.now ≡ self.now.entries }
-        ensures region { IsRegion P.told P.runs P.faults self.now }
+        ensures region { IsRegion P.Pages self.now }
     {
         &self.entries
     }
@@ -226,7 +226,7 @@ impl<P: Pages> LargeHeap<P> {
     /// The room for entries: at least one for each live block of which no free failed.
     pub fn spare(&self) -> u64
         ensures value { result ≡ self.now.spare }
-        ensures region { IsRegion P.told P.runs P.faults self.now }
+        ensures region { IsRegion P.Pages self.now }
     {
         (self.entries.capacity() - self.entries.len()) as u64
     }
@@ -240,7 +240,7 @@ impl<P: Pages> LargeHeap<P> {
 
     pub fn pages(&self) -> &P
         ensures value { result.now ≡ self.now.pages }
-        ensures region { IsRegion P.told P.runs P.faults self.now }
+        ensures region { IsRegion P.Pages self.now }
     {
         &self.pages
     }
@@ -249,7 +249,7 @@ impl<P: Pages> LargeHeap<P> {
     pub fn into_entries(self) -> (Vec<Entry>, P)
         ensures entries { result.0.items ≡ self.entries }
         ensures pages { result.1 ≡ self.pages }
-        ensures region { IsRegion P.told P.runs P.faults self }
+        ensures region { IsRegion P.Pages self }
     {
         let LargeHeap {
             alloc: _,
@@ -270,7 +270,7 @@ impl<P: Pages> LargeHeap<P> {
         ensures replies { IfOk result IsAllotReply }
         ensures memory { OnErr result (self.new.entries ≡ self.old.entries) }
         ensures name { KeepsName P.told self.old self.new }
-        ensures region { IsRegion P.told P.runs P.faults self.new }
+        ensures region { IsRegion P.Pages self.new }
     {
         self.entries.reserve(self.store.owed + 2)?;
         let before = self.pages.faults();
@@ -289,7 +289,7 @@ impl<P: Pages> LargeHeap<P> {
         ensures memory { OnErr result (self.new.entries ≡ self.old.entries) }
         ensures accepted { (b : Block) → at addr (region_state P.told self.old).live ≡ Some b → b.failed ≡ false → wrong_size (Some b) stated ≡ None → IsOk result }
         ensures name { KeepsName P.told self.old self.new }
-        ensures region { IsRegion P.told P.runs P.faults self.new }
+        ensures region { IsRegion P.Pages self.new }
     {
         let before = self.pages.faults();
         match judge(&self.store, addr, stated) {
@@ -329,7 +329,7 @@ impl<P: Pages> LargeHeap<P> {
         ensures replies { IfOk result IsMeasureReply }
         ensures memory { OnErr result (self.new.entries ≡ self.old.entries) }
         ensures name { KeepsName P.told self.old self.new }
-        ensures region { IsRegion P.told P.runs P.faults self.new }
+        ensures region { IsRegion P.Pages self.new }
     {
         self.entries.reserve(self.store.owed + 1)?;
         let faults = self.pages.faults();
@@ -349,7 +349,7 @@ impl<P: Pages> LargeHeap<P> {
         ensures replies { IfOk result IsFetchReply }
         ensures memory { OnErr result (self.new.entries ≡ self.old.entries) }
         ensures name { KeepsName P.told self.old self.new }
-        ensures region { IsRegion P.told P.runs P.faults self.new }
+        ensures region { IsRegion P.Pages self.new }
     {
         self.entries.reserve(self.store.owed + 1)?;
         let faults = self.pages.faults();
@@ -381,7 +381,7 @@ impl<P: Pages> LargeHeap<P> {
         ensures replies { IfOk result IsFillReply }
         ensures memory { OnErr result (self.new.entries ≡ self.old.entries) }
         ensures name { KeepsName P.told self.old self.new }
-        ensures region { IsRegion P.told P.runs P.faults self.new }
+        ensures region { IsRegion P.Pages self.new }
     {
         self.entries.reserve(self.store.owed + 1)?;
         let call = Call::Fill {

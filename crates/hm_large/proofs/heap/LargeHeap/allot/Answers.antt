@@ -39,7 +39,7 @@ invariant_of-self-in_err-attempt g c =
 pub returns-in_err-attempt-clause-region : goal.returns-in_err-attempt-clause-region
 returns-in_err-attempt-clause-region g c =
     let kept = invariant_of-self-in_err-attempt g c in
-    region_of g.P.Pages.told g.P.Pages.runs g.P.Pages.faults _ _ kept.0 kept.1
+    region_of g.P.Pages _ _ kept.0 kept.1
 
 -- the entries with the new one, whose counts are those of the pages
 all_entries : (g : Over) (c : goal.After-reply_to g) → c.push_reserved.new.self.items
@@ -72,4 +72,4 @@ returns-clause-added g c =
 pub returns-clause-region : goal.returns-clause-region
 returns-clause-region g c =
     let kept = invariant_of-self-2 g c in
-    region_of g.P.Pages.told g.P.Pages.runs g.P.Pages.faults _ _ kept.0 kept.1
+    region_of g.P.Pages _ _ kept.0 kept.1

@@ -68,7 +68,7 @@ returns-in_ok-copy-in-Some-clause-added g c =
 pub returns-in_ok-copy-in-Some-clause-region : goal.returns-in_ok-copy-in-Some-clause-region
 returns-in_ok-copy-in-Some-clause-region g c =
     let kept = invariant_of-self-in-Some g c in
-    region_of g.P.Pages.told g.P.Pages.runs g.P.Pages.faults _ _ kept.0 kept.1
+    region_of g.P.Pages _ _ kept.0 kept.1
 
 pub returns-in-None-clause-added : goal.returns-in-None-clause-added
 returns-in-None-clause-added g c =
@@ -77,4 +77,4 @@ returns-in-None-clause-added g c =
 pub returns-in-None-clause-region : goal.returns-in-None-clause-region
 returns-in-None-clause-region g c =
     let kept = invariant_of-self-in-None g c in
-    region_of g.P.Pages.told g.P.Pages.runs g.P.Pages.faults _ _ kept.0 kept.1
+    region_of g.P.Pages _ _ kept.0 kept.1

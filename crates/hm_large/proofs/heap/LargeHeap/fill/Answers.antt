@@ -79,7 +79,7 @@ returns-then-write-clause-added g c =
 pub returns-then-write-clause-region : goal.returns-then-write-clause-region
 returns-then-write-clause-region g c =
     let kept = invariant_of-self-then-write g c in
-    region_of g.P.Pages.told g.P.Pages.runs g.P.Pages.faults _ _ kept.0 kept.1
+    region_of g.P.Pages _ _ kept.0 kept.1
 
 pub returns-else-write-clause-added : goal.returns-else-write-clause-added
 returns-else-write-clause-added g c =
@@ -89,4 +89,4 @@ returns-else-write-clause-added g c =
 pub returns-else-write-clause-region : goal.returns-else-write-clause-region
 returns-else-write-clause-region g c =
     let kept = invariant_of-self-else-write g c in
-    region_of g.P.Pages.told g.P.Pages.runs g.P.Pages.faults _ _ kept.0 kept.1
+    region_of g.P.Pages _ _ kept.0 kept.1

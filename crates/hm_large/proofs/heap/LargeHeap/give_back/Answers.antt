@@ -152,7 +152,7 @@ returns-in_ok-reserve-in-Refused-clause-added g c =
 pub returns-in_ok-reserve-in-Refused-clause-region : goal.returns-in_ok-reserve-in-Refused-clause-region
 returns-in_ok-reserve-in-Refused-clause-region g c =
     let kept = invariant_of-self-in-Refused g c in
-    region_of g.P.Pages.told g.P.Pages.runs g.P.Pages.faults _ _ kept.0 kept.1
+    region_of g.P.Pages _ _ kept.0 kept.1
 
 pub returns-in-Ok-clause-added : goal.returns-in-Ok-clause-added
 returns-in-Ok-clause-added g c =
@@ -161,7 +161,7 @@ returns-in-Ok-clause-added g c =
 pub returns-in-Ok-clause-region : goal.returns-in-Ok-clause-region
 returns-in-Ok-clause-region g c =
     let kept = invariant_of-self-in-Ok g c in
-    region_of g.P.Pages.told g.P.Pages.runs g.P.Pages.faults _ _ kept.0 kept.1
+    region_of g.P.Pages _ _ kept.0 kept.1
 
 pub returns-in-Err-clause-added : goal.returns-in-Err-clause-added
 returns-in-Err-clause-added g c =
@@ -170,4 +170,4 @@ returns-in-Err-clause-added g c =
 pub returns-in-Err-clause-region : goal.returns-in-Err-clause-region
 returns-in-Err-clause-region g c =
     let kept = invariant_of-self-in-Err g c in
-    region_of g.P.Pages.told g.P.Pages.runs g.P.Pages.faults _ _ kept.0 kept.1
+    region_of g.P.Pages _ _ kept.0 kept.1
