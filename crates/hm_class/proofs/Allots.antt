@@ -20,7 +20,7 @@ use Rattle.hm_class_rules.specs.Kinds.{Kind, Neither, kind}
 use Rattle.hm_class_rules.specs.Steps.{step, opened, taken_new}
 use Rattle.hm_class_rules.specs.Drawn.{first_free}
 use Rattle.hm_class_rules.specs.Draws.{Undrawn, event_of, after_words}
-use Rattle.hm_class_rules.specs.Rules.{Terms, Allows, Source, NoneServes, state, chose_none}
+use Rattle.hm_class_rules.specs.Rules.{Terms, Allows, Source, NoneServes, state}
 use Rattle.hm_class_rules.specs.Stepped.{IsSteppedEntry}
 use Rattle.hm_class.specs.declared.next_slab.NextSlab.{NextSlab}
 use Rattle.hm_class.specs.declared.next_slab.NextSlab.TheVariants as next
@@ -28,7 +28,7 @@ use Rattle.hm_class.specs.declared.outcome.Canary.{Canary}
 use Rattle.hm_class.specs.declared.outcome.Event.{Event}
 use Rattle.hm_class.specs.declared.slabs.Slabs.{Slabs}
 use Rattle.hm_class.specs.Uses.{Uses, SlabUse, lives, slab_in, opened_slab, fresh_slab, kind_at, live_count, with_open, taken_uses, still_shut}
-use Rattle.hm_class.specs.Calls.{entry_of, no_draws, one_draw}
+use Rattle.hm_model.specs.Calls.{no_choices, entry_of, no_words, one_word}
 use Rattle.hm_class.specs.Finds.{Finds, Serves, KeepsRuns, CanOpen, made_runs, drawn_canary, canary_stream}
 use Rattle.hm_class.specs.Outcomes.{reply_of, canary_value, chose_opened, start_draws}
 use Rattle.hm_class.specs.Rooms.{SameSlabs}
@@ -122,17 +122,17 @@ module _ (told : Bool) (runs : PageRuns) (faults : ℕ) (c : Config) (number are
   tell y = told_mid ∙ told_begun ∙ y
 
   -- no slab was found: an entry that draws nothing
-  unserved : (answer : Reply) → event_of (Allot asked 1) answer ≡ Undrawn → Allows (terms_of told c p) first (faults_of begun) (faults_of now) chose_none (Allot asked 1) answer → faults_of begun ≤ faults_of now
-      → step p first (entry_of who (Allot asked 1) answer chose_none no_draws (faults_of begun) (faults_of now)) ≡ record first { faults = faults_of now }
+  unserved : (answer : Reply) → event_of (Allot asked 1) answer ≡ Undrawn → Allows (terms_of told c p) first (faults_of begun) (faults_of now) no_choices (Allot asked 1) answer → faults_of begun ≤ faults_of now
+      → step p first (entry_of who (Allot asked 1) answer no_choices no_words (faults_of begun) (faults_of now)) ≡ record first { faults = faults_of now }
       → (IsTrue told → runs_of now ≡ runs) → k'.slabs.items ≡ k.slabs.items → k'.live ≡ k.live → k'.partial.items ≡ k.partial.items → k'.empty.items ≡ k.empty.items → k'.shut.items ≡ k.shut.items → stream' ≡ stream
-      → IsKept told (runs_of now) (faults_of now) c number arena p (es ++ entry_of who (Allot asked 1) answer chose_none no_draws (faults_of begun) (faults_of now) ∷ []) k' stream' quarantine parking
+      → IsKept told (runs_of now) (faults_of now) c number arena p (es ++ entry_of who (Allot asked 1) answer no_choices no_words (faults_of begun) (faults_of now) ∷ []) k' stream' quarantine parking
   unserved answer undrawn allows later after runs_same items live_same partial empty shut stream_same =
       let t : Terms = terms_of told c p in
-      let e : Entry = entry_of who (Allot asked 1) answer chose_none no_draws (faults_of begun) (faults_of now) in
+      let e : Entry = entry_of who (Allot asked 1) answer no_choices no_words (faults_of begun) (faults_of now) in
       let s' : State = record first { faults = faults_of now } in
       let shows' : Shows p k.slabs.items (step p first e) = subst (λ (s : State). Shows p k.slabs.items s) (sym after) (shows_count p k.slabs.items first (faults_of now) kept.follows.shows) in
       pushed told runs faults c number arena p es k stream quarantine parking kept (runs_of now) (faults_of now) k' stream' quarantine parking e
-      (allowed_of t first who (Allot asked 1) answer chose_none no_draws (faults_of begun) (faults_of now) no_draws_are (asks, refl) (is ∙ kept.count) later allows)
+      (allowed_of t first who (Allot asked 1) answer no_choices no_words (faults_of begun) (faults_of now) no_draws_are (asks, refl) (is ∙ kept.count) later allows)
       (stepped_undrawn t (cells_of first k stream quarantine parking) e undrawn refl refl) refl
       (record {
         shows = subst (λ (u : Uses). Shows p u (step p first e)) (sym items) shows';
@@ -173,8 +173,8 @@ module _ (told : Bool) (runs : PageRuns) (faults : ℕ) (c : Config) (number are
       let on = serving_open told runs faults c number arena p es k stream quarantine parking kept n f.0 in
       let at = open_place p first n 0 (sound_now told runs faults c number arena p es k stream quarantine parking kept) on (omega (arith, kept.served.shape.slots_some)) in
       subst (λ (x : Choices). Ends (record { outcome = e.outcome; choices = x; draws = e.draws })) (sym v.1)
-      (subst (λ (x : Draws). Ends (record { outcome = e.outcome; choices = chose_none; draws = x })) (sym v.2)
-      (kept_serve told runs faults c number arena p es k stream quarantine parking kept tells runs_of faults_of mid now k₁ k' stream₁ stream' n (kind_at k₁.slabs.items n) chose_none (one_draw (next_word stream₁)) who asked (faults_of begun) (faults_of now)
+      (subst (λ (x : Draws). Ends (record { outcome = e.outcome; choices = no_choices; draws = x })) (sym v.2)
+      (kept_serve told runs faults c number arena p es k stream quarantine parking kept tells runs_of faults_of mid now k₁ k' stream₁ stream' n (kind_at k₁.slabs.items n) no_choices (one_word (next_word stream₁)) who asked (faults_of begun) (faults_of now)
       tell asks is (omega (arith, same, f.1.1))
       (subst (λ (u : Uses). IsServing u n) (sym q.slabs) (serving told runs faults c number arena p es k stream quarantine parking kept n f.0)) at.below at.no_guard on
       (subst (λ (u : Uses). Shows p u first) (sym q.slabs) kept.follows.shows)
@@ -184,7 +184,7 @@ module _ (told : Bool) (runs : PageRuns) (faults : ℕ) (c : Config) (number are
       (kind_is p k.slabs.items first n kept.served.shape kept.follows.shows ∙ ap (λ (u : Uses). kind_at u n) (sym q.slabs))
       (one_draw_are (next_word stream₁)) (ap (λ (x : Words). after_word x) (sym q.stream_same))
       ((allows_now told runs faults c number arena p es k stream quarantine parking kept).source n f.0) (no_canary (has_bytes p)) refl
-      (λ a slab here answer picks. subst (λ (x : Words). IsSteppedEntry t (cells_of first k stream quarantine parking) (entry_of who (Allot asked 1) answer chose_none (one_draw (next_word x)) (faults_of begun) (faults_of now))) (sym q.stream_same)
+      (λ a slab here answer picks. subst (λ (x : Words). IsSteppedEntry t (cells_of first k stream quarantine parking) (entry_of who (Allot asked 1) answer no_choices (one_word (next_word x)) (faults_of begun) (faults_of now))) (sym q.stream_same)
       (stepped_open t (cells_of first k stream quarantine parking) first who asked a n (faults_of begun) (faults_of now) answer refl kept.served.valid.random picks slab
       (subst (λ (x : Words). first_free p first n (drawn p.slots (next_word x)) ≡ Some a) q.stream_same here) f.0))
       e.outcome v.0))

@@ -23,7 +23,7 @@ use Rattle.hm_class_rules.specs.Kinds.{Kind, Partial, Empty, kind}
 use Rattle.hm_class_rules.specs.Steps.{opened}
 use Rattle.hm_class_rules.specs.Drawn.{first_free}
 use Rattle.hm_class_rules.specs.Draws.{Picked, event_of, after_words}
-use Rattle.hm_class_rules.specs.Rules.{Terms, Source, state, chose, chose_none}
+use Rattle.hm_class_rules.specs.Rules.{Terms, Source, state, chose}
 use Rattle.hm_class_rules.specs.Stepped.{IsSteppedEntry, listed}
 use Rattle.hm_class_rules.proofs.Alike.{drawn_below}
 use Rattle.hm_class_rules.proofs.Streams.{next_below}
@@ -32,7 +32,7 @@ use Rattle.hm_class.specs.declared.slab.SlotUse.{SlotUse}
 use Rattle.hm_class.specs.declared.slab.SlotUse.TheVariants.{Never}
 use Rattle.hm_class.specs.declared.slabs.Slabs.{Slabs}
 use Rattle.hm_class.specs.Uses.{Uses, SlabUse, occupied, is_available, slab_in, use_at, first_at, first_from, kind_at, live_count}
-use Rattle.hm_class.specs.Calls.{entry_of}
+use Rattle.hm_model.specs.Calls.{no_choices, entry_of}
 use Rattle.hm_class.specs.Outcomes.{reply_of}
 use Rattle.hm_class.specs.Finds.{Serve}
 use Rattle.hm_class.specs.Region.{HoldsSlabs}

@@ -31,7 +31,7 @@ use Rattle.hm_class_rules.specs.Bytes.{first_nonzero, usable_bytes, overlaid_sla
 use Rattle.hm_class_rules.specs.Draws.{Event, Picked, Returned, Undrawn, event, event_of, drawn_shape}
 use Rattle.hm_class_rules.specs.Drawn.{IsDrawn}
 use Rattle.hm_class_rules.specs.DrawnLaws.{AreKept, AllowsDrawn}
-use Rattle.hm_class_rules.specs.Rules.{Terms, Allowed, Allows, Asks, Picks, IsLegal, state, IsLiveBlock, chose_none, wrong_size, wrong_canary}
+use Rattle.hm_class_rules.specs.Rules.{Terms, Allowed, Allows, Asks, Picks, IsLegal, state, IsLiveBlock, wrong_size, wrong_canary}
 use Rattle.hm_class_rules.specs.Laws.{IsSound}
 use Rattle.hm_class_rules.specs.Stepped.{Cells, cells, next, IsSteppedEntry, IsStepped, first_cells}
 use Rattle.hm_class_rules.proofs.Legal.{sound}
@@ -47,7 +47,8 @@ use Rattle.hm_class.specs.declared.slabs.Slabs.{Slabs}
 use Rattle.hm_class.specs.Uses.{Uses, SlabUse, canary_at, live_count}
 use Rattle.hm_class.specs.Region.{Region, IsRegion, IsTakenBack, HoldsSlabs, region_shape, terms}
 use Rattle.hm_class.specs.Rooms.{SameSlabs}
-use Rattle.hm_class.specs.Calls.{entry_of, no_draws, Added}
+use Rattle.hm_model.specs.Calls.{no_choices, entry_of, no_words}
+use Rattle.hm_class.specs.Calls.{Added}
 use Rattle.hm_class.specs.Outcomes.{reply_of}
 use Rattle.hm_class.specs.Judgements.{Refusals, RefusesCanary, Accepts, Measures, other_number}
 use Rattle.hm_class.specs.Kept.{Shows, Follows, IsServed, IsKept, terms_of, cells_of}
@@ -93,7 +94,7 @@ asks_of c number arena p x served le =
     of true n le = le
     of false n le = le
 
-pub no_draws_are : AreDraws no_draws
+pub no_draws_are : AreDraws no_words
 no_draws_are = record { first = λ lt. refl; second = λ lt. refl; third = λ lt. refl }
 
 -- ---- one entry more
@@ -149,15 +150,15 @@ module _ (told : Bool) (runs : PageRuns) (faults : ℕ) (c : Config) (number are
   })
 
   -- an entry that draws nothing, after which the same slots say what the state says
-  pub kept_undrawn : (runs' : PageRuns) (who : Who) (call : Call) (answer : Reply) (f : ℕ) (s' : State) → f ≡ faults → event_of call answer ≡ Undrawn → Allows (terms_of told c p) before f f chose_none call answer → Asks p call
-      → step p before (entry_of who call answer chose_none no_draws f f) ≡ record s' { faults = f } → Shows p k.slabs.items s' → s'.live ≡ before.live → s'.shut ≡ before.shut → (IsTrue told → HoldsSlabs p s'.opens runs')
-      → IsKept told runs' faults c number arena p (es ++ entry_of who call answer chose_none no_draws f f ∷ []) k stream quarantine parking
+  pub kept_undrawn : (runs' : PageRuns) (who : Who) (call : Call) (answer : Reply) (f : ℕ) (s' : State) → f ≡ faults → event_of call answer ≡ Undrawn → Allows (terms_of told c p) before f f no_choices call answer → Asks p call
+      → step p before (entry_of who call answer no_choices no_words f f) ≡ record s' { faults = f } → Shows p k.slabs.items s' → s'.live ≡ before.live → s'.shut ≡ before.shut → (IsTrue told → HoldsSlabs p s'.opens runs')
+      → IsKept told runs' faults c number arena p (es ++ entry_of who call answer no_choices no_words f f ∷ []) k stream quarantine parking
   kept_undrawn runs' who call answer f s' is undrawn allows asks after shows live shut slabs =
-      let e : Entry = entry_of who call answer chose_none no_draws f f in
+      let e : Entry = entry_of who call answer no_choices no_words f f in
       let t : Terms = terms_of told c p in
       let shows' : Shows p k.slabs.items (step p before e) = subst (λ (s : State). Shows p k.slabs.items s) (sym after) (shows_count p k.slabs.items s' f shows) in
       pushed runs' faults k stream quarantine parking e
-      (allowed_of t before who call answer chose_none no_draws f f no_draws_are asks (is ∙ kept.count) (omega arith) allows)
+      (allowed_of t before who call answer no_choices no_words f f no_draws_are asks (is ∙ kept.count) (omega arith) allows)
       (stepped_undrawn t held e undrawn refl refl) (sym is)
       (record {
         shows = shows';
@@ -169,14 +170,14 @@ module _ (told : Bool) (runs : PageRuns) (faults : ℕ) (c : Config) (number are
       (next_undrawn t before k stream quarantine parking e kept.served.shape undrawn refl kept.follows.shows shows')
 
   -- nothing changed
-  pub kept_still : (who : Who) (call : Call) (answer : Reply) (f : ℕ) → f ≡ faults → event_of call answer ≡ Undrawn → Allows (terms_of told c p) before f f chose_none call answer → Asks p call
-      → step p before (entry_of who call answer chose_none no_draws f f) ≡ record before { faults = f }
-      → IsKept told runs faults c number arena p (es ++ entry_of who call answer chose_none no_draws f f ∷ []) k stream quarantine parking
+  pub kept_still : (who : Who) (call : Call) (answer : Reply) (f : ℕ) → f ≡ faults → event_of call answer ≡ Undrawn → Allows (terms_of told c p) before f f no_choices call answer → Asks p call
+      → step p before (entry_of who call answer no_choices no_words f f) ≡ record before { faults = f }
+      → IsKept told runs faults c number arena p (es ++ entry_of who call answer no_choices no_words f f ∷ []) k stream quarantine parking
   kept_still who call answer f is undrawn allows asks same = kept_undrawn runs who call answer f before is undrawn allows asks same kept.follows.shows refl refl kept.slabs
 
   -- ---- giving back and measuring
   abbrev no_change : Who → Call → Reply → ℕ → Type 0
-  no_change who call answer f = IsKept told runs faults c number arena p (es ++ entry_of who call answer chose_none no_draws f f ∷ []) k stream quarantine parking
+  no_change who call answer f = IsKept told runs faults c number arena p (es ++ entry_of who call answer no_choices no_words f f ∷ []) k stream quarantine parking
 
   module _ {P : Type 0} (tells : P → Bool) (runs_of : P → PageRuns) (pages : P) (told_is : tells pages ≡ told) (runs_is : runs_of pages ≡ runs) (who : Who) (a f : ℕ) (is : f ≡ faults) where
     tell_now : IsTrue told → IsTrue (tells pages)
@@ -229,7 +230,7 @@ module _ (told : Bool) (runs : PageRuns) (faults : ℕ) (c : Config) (number are
         (kept_still who (Fetch a len) (reply.Trap q) f is refl ((λ t. fetches t before kept.follows.shows (kept.slabs t)), refl) (some, most, below) refl)
 
     pub kept_filled : (runs' : PageRuns) (rs : List (ℕ × ℕ)) (bytes : List ℕ) (o : Outcome) → bytes ≡ expand rs → 1 ≤ length (expand rs) → length (expand rs) ≤ 2 ^ 30 → Fills told runs runs' p k.slabs.items a bytes o
-        → IsKept told runs' faults c number arena p (es ++ entry_of who (Fill a rs) (reply_of o) chose_none no_draws f f ∷ []) k stream quarantine parking
+        → IsKept told runs' faults c number arena p (es ++ entry_of who (Fill a rs) (reply_of o) no_choices no_words f f ∷ []) k stream quarantine parking
     kept_filled runs' rs bytes outcome.Filled same some most fills =
         let w : List ℕ = expand rs in
         let now : IsTrue told → (first_trap p before a (length w) ≡ None) × HoldsSlabs p (write p a w before).opens runs' = λ t.

@@ -36,7 +36,7 @@ use Rattle.hm_class.specs.declared.slabs.Slabs.{Slabs}
 use Rattle.hm_class.specs.declared.slabs.Slot.{Slot}
 use Rattle.hm_class.specs.Uses.{Uses, SlabUse, lives, occupied, is_available, has_occupied, has_available, is_partly, is_unused, is_held, kind_of, kind_at, slab_in, use_at, passes_at, with_slot, with_use, with_shut, shut_slab, live_count}
 use Rattle.hm_class.specs.Rooms.{SameLists}
-use Rattle.hm_class.specs.Calls.{entry_of}
+use Rattle.hm_model.specs.Calls.{entry_of}
 use Rattle.hm_class.specs.Outcomes.{freed_choices, freed_draws}
 use Rattle.hm_class.specs.Frees as frees
 use Rattle.hm_class.specs.Frees.{array_word, place_of_word, array_stream, Clears, CanRelease, Settles, KeepsPlaces, JoinsSlab, RetiresSlab, PurgesSlab, is_surplus, freed_uses, with_unparked, released_slab}

@@ -20,7 +20,7 @@ use Rattle.hm_class_rules.specs.Kinds.{Kind, Neither, kind}
 use Rattle.hm_class_rules.specs.Steps.{opened}
 use Rattle.hm_class_rules.specs.Drawn.{first_free}
 use Rattle.hm_class_rules.specs.Draws.{Event, Picked, event, words_of, words_from, word_count, canary_words, start_words, start_slot, word_after}
-use Rattle.hm_class_rules.specs.Rules.{Terms, Picks, Source, NoneServes, state, chose_none}
+use Rattle.hm_class_rules.specs.Rules.{Terms, Picks, Source, NoneServes, state}
 use Rattle.hm_class_rules.specs.Stepped.{Cells, front, IsSteppedEntry, IsSteppedEvent}
 use Rattle.hm_class_rules.proofs.Changes.{taken_opened}
 use Rattle.hm_class.specs.declared.next_slab.NextSlab.{NextSlab}
@@ -28,7 +28,7 @@ use Rattle.hm_class.specs.declared.next_slab.NextSlab.TheVariants as next
 use Rattle.hm_class.specs.declared.slab.SlotUse.{SlotUse}
 use Rattle.hm_class.specs.declared.slabs.Slabs.{Slabs}
 use Rattle.hm_class.specs.Uses.{Uses, SlabUse, occupied, slab_in, use_at, passes_at, kind_at, taken_uses, with_open, opened_slab}
-use Rattle.hm_class.specs.Calls.{entry_of, no_draws}
+use Rattle.hm_model.specs.Calls.{no_choices, entry_of, no_words}
 use Rattle.hm_class.specs.Finds.{Finds, CanOpen, CanPick, CanServe, HasFirst}
 use Rattle.hm_class.specs.Outcomes.{canary_value}
 use Rattle.hm_class.specs.Sources.{new_of, front_of}

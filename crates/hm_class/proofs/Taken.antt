@@ -34,7 +34,7 @@ use Rattle.hm_class.specs.declared.slab.SlotUse.{SlotUse}
 use Rattle.hm_class.specs.declared.slab.SlotUse.TheVariants.{Live, Condemned}
 use Rattle.hm_class.specs.declared.slabs.Slabs.{Slabs}
 use Rattle.hm_class.specs.Uses.{Uses, SlabUse, slab_in, lives, was_given, occupied, kind_at, use_at, passes_at, canary_at, with_use, live_count, first_at}
-use Rattle.hm_class.specs.Calls.{entry_of}
+use Rattle.hm_model.specs.Calls.{entry_of}
 use Rattle.hm_class.specs.Outcomes.{reply_of}
 use Rattle.hm_class.specs.Gives.{Gives, Stains, Seals}
 use Rattle.hm_class.specs.Finds.{Serve, slot_in}

@@ -6,7 +6,6 @@ use Rattle.hm_outside.specs.PageRuns.{PageRuns, zeros}
 use Rattle.hm_sizes.specs.declared.shape.Shape.{Shape}
 use Rattle.hm_sizes.specs.Shapes.{slab_at, has_bytes}
 use Rattle.hm_class_rules.specs.Kinds.{Kind, Partial, Empty, Neither}
-use Rattle.hm_class_rules.specs.Rules.{chose_none}
 use Rattle.hm_class_rules.specs.Stepped.{listed}
 use Rattle.hm_class.specs.declared.next_slab.NextSlab.{NextSlab}
 use Rattle.hm_class.specs.declared.next_slab.NextSlab.TheVariants as next
@@ -17,7 +16,7 @@ use Rattle.hm_class.specs.declared.outcome.Outcome.TheVariants as outcome
 use Rattle.hm_class.specs.declared.slabs.Slabs.{Slabs}
 use Rattle.hm_class.specs.declared.slabs.Slot.{Slot}
 use Rattle.hm_class.specs.declared.slabs.Source.TheVariants as from
-use Rattle.hm_class.specs.Calls.{one_draw}
+use Rattle.hm_model.specs.Calls.{no_choices, one_word}
 use Rattle.hm_class.specs.Gives.{Gives}
 use Rattle.hm_class.specs.Outcomes.{plain, canary_value, chose_opened, start_draws}
 use Rattle.hm_class.specs.Rooms.{HasRoom, SameLists}
@@ -112,7 +111,7 @@ module _ {P : Type 0} (told : P → Bool) (runs : P → PageRuns) (faults : P �
   -- where there is no slab all stays
   abbrev pub Serves : Shape → Slabs → Slabs → P → P → Words → Words → NextSlab → Event → Type 0
   Serves p old new before now stream stream' (next.Open n) e =
-      Serve p n (kind_at old.slabs.items n) old new before now stream stream' e.outcome × (e.choices ≡ chose_none) × (e.draws ≡ one_draw (next_word stream))
+      Serve p n (kind_at old.slabs.items n) old new before now stream stream' e.outcome × (e.choices ≡ no_choices) × (e.draws ≡ one_word (next_word stream))
   Serves p old new before now stream stream' (next.New n canary) e =
       Serve p n Neither old new before now stream stream' e.outcome × (e.choices ≡ chose_opened n canary) × (e.draws ≡ start_draws canary (next_word stream))
   Serves p old new before now stream stream' next.Exhausted e = (e ≡ plain outcome.Exhausted) × KeepsRuns told runs faults old new before now stream stream'

@@ -6,11 +6,11 @@ ghost use Rattle.hm_choice.specs.Stream.{after_word};
 ghost use Rattle.hm_sizes.specs.Configs.{IsValid};
 ghost use Rattle.hm_sizes.specs.Shapes.{IsShape};
 ghost use Rattle.hm_class_rules.specs.Draws.{stream_of, drawn_shape};
-ghost use Rattle.hm_class_rules.specs.Rules.{chose_none};
 ghost use Rattle.hm_sizes.specs.Sizes.{raised};
 ghost use Rattle.hm_model.specs.Runs.{expand};
 ghost use Rattle.hm_class.specs.Region.{region_shape, IsRegion, IsTakenBack};
-ghost use Rattle.hm_class.specs.Calls.{entry_of, no_draws, Added, KeepsName, IsBuilt, IsAllotReply, IsGiveBackReply, IsMeasureReply, IsFetchReply, IsFillReply};
+ghost use Rattle.hm_model.specs.Calls.{no_choices, entry_of, no_words};
+ghost use Rattle.hm_class.specs.Calls.{Added, KeepsName, IsBuilt, IsAllotReply, IsGiveBackReply, IsMeasureReply, IsFetchReply, IsFillReply};
 
 use crate::access::{fetch, fill, replies};
 use crate::give::serve;
@@ -88,7 +88,7 @@ fn entry(who: Who, call: Call, reply: Reply, event: Event, before: u64, now: u64
 
 // An entry of a call that chose and drew nothing, and during which no page failed.
 fn still(who: Who, call: Call, reply: Reply, faults: u64) -> Entry
-    ensures { result ≡ entry_of who call reply chose_none no_draws faults faults }
+    ensures { result ≡ entry_of who call reply no_choices no_words faults faults }
 {
     Entry {
         who,

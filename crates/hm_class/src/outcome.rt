@@ -1,6 +1,6 @@
 //! What a call of a region comes to, but for the bytes that a fetch gives.
 ghost use Rattle.std.specs.Prelude.{◌≡◌};
-ghost use Rattle.hm_class.specs.Calls.{no_draws, one_draw};
+ghost use Rattle.hm_model.specs.Calls.{no_words, one_word};
 ghost use Rattle.hm_class.specs.Outcomes.{plain, reply_of, chose_opened, start_draws, freed, freed_choices, freed_draws};
 
 use hm_model::{Choices, Draws, Reply};
@@ -70,8 +70,8 @@ pub const NO_DRAWS: Draws = Draws {
 };
 
 /// One word is drawn.
-pub fn one_draw(word: u32) -> Draws
-    ensures { result ≡ one_draw word }
+pub fn one_word(word: u32) -> Draws
+    ensures { result ≡ one_word word }
 {
     Draws {
         used: 1,
@@ -86,7 +86,7 @@ pub fn start_draws(canary: Option<Canary>, word: u32) -> Draws
     ensures { result ≡ start_draws canary word }
 {
     match canary {
-        None => one_draw(word),
+        None => one_word(word),
         Some(canary) => Draws {
             used: 3,
             w0: canary.low,
@@ -135,7 +135,7 @@ fn freed_draws(array: Option<u32>, emptied: Emptied) -> Draws
     ensures { result ≡ freed_draws array emptied }
 {
     match (array, emptied) {
-        (None, Emptied::Retired { word, .. }) => one_draw(word),
+        (None, Emptied::Retired { word, .. }) => one_word(word),
         (None, Emptied::Kept | Emptied::Purged) => NO_DRAWS,
         (Some(array), Emptied::Retired { word, .. }) => Draws {
             used: 2,
@@ -143,7 +143,7 @@ fn freed_draws(array: Option<u32>, emptied: Emptied) -> Draws
             w1: word,
             w2: 0,
         },
-        (Some(array), Emptied::Kept | Emptied::Purged) => one_draw(array),
+        (Some(array), Emptied::Kept | Emptied::Purged) => one_word(array),
     }
 }
 

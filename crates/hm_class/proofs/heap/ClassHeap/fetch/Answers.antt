@@ -2,8 +2,7 @@ use Rattle.std.proofs.Common.{◌≡◌, ◌∙◌, List, [], ◌∷◌, ◌++�
 use Rattle.hm_model.specs.declared.entry.Call.TheVariants as call
 use Rattle.hm_model.specs.declared.entry.Entry.{Entry}
 use Rattle.hm_model.specs.declared.entry.Reply.{Reply}
-use Rattle.hm_class_rules.specs.Rules.{chose_none}
-use Rattle.hm_class.specs.Calls.{entry_of, no_draws}
+use Rattle.hm_model.specs.Calls.{no_choices, entry_of, no_words}
 use Rattle.hm_class.specs.Kept.{IsKept}
 use Rattle.hm_class.proofs.Entries.{kept_fetched, added_of, appended, region_of}
 use Rattle.hm_class.proofs.heap.ClassHeap.fetch.Goals as goal
@@ -12,7 +11,7 @@ pub invariant_of-self-2 : goal.invariant_of-self-2
 invariant_of-self-2 g c =
     let h = c.self.inside in
     let f = c.faults-faults.result in
-    let e = entry_of c.args.who (call.Fetch c.args.addr c.args.len) c.in_ok-reply.reply chose_none no_draws f f in
+    let e = entry_of c.args.who (call.Fetch c.args.addr c.args.len) c.in_ok-reply.reply no_choices no_words f f in
     let all : c.push_reserved.new.self.items ≡ h.entries.items ++ e ∷ [] = appended _ _ _ _ _ c.push_reserved.ensures.items c.reserve.ensures.items c.still.ensures in (
       subst (λ (l : List Entry). IsKept (g.P.Pages.told h.pages) (g.P.Pages.runs h.pages) (g.P.Pages.faults h.pages) h.config h.number h.arena h.shape l h.slabs h.stream h.quarantine h.parking.items) (sym all)
           (kept_fetched (g.P.Pages.told h.pages) (g.P.Pages.runs h.pages) (g.P.Pages.faults h.pages) h.config h.number h.arena h.shape h.entries.items h.slabs h.stream h.quarantine h.parking.items c.self.invariant.0
@@ -25,10 +24,10 @@ pub returns-clause-added : goal.returns-clause-added
 returns-clause-added g c =
     let h = c.self.inside in
     let f = c.faults-faults.result in
-    let all : c.push_reserved.new.self.items ≡ h.entries.items ++ entry_of c.args.who (call.Fetch c.args.addr c.args.len) c.in_ok-reply.answer chose_none no_draws f f ∷ [] =
+    let all : c.push_reserved.new.self.items ≡ h.entries.items ++ entry_of c.args.who (call.Fetch c.args.addr c.args.len) c.in_ok-reply.answer no_choices no_words f f ∷ [] =
     appended _ _ _ _ _ c.push_reserved.ensures.items c.reserve.ensures.items
-    (c.still.ensures ∙ ap (λ (y : Reply). entry_of c.args.who (call.Fetch c.args.addr c.args.len) y chose_none no_draws f f) c.in_ok-reply.ensures.0) in
-    added_of g.P.Pages.faults c.args.self.now _ _ c.args.who (call.Fetch c.args.addr c.args.len) c.in_ok-reply.answer chose_none no_draws f f c.self.view_is all c.faults-faults.ensures c.faults-faults.ensures
+    (c.still.ensures ∙ ap (λ (y : Reply). entry_of c.args.who (call.Fetch c.args.addr c.args.len) y no_choices no_words f f) c.in_ok-reply.ensures.0) in
+    added_of g.P.Pages.faults c.args.self.now _ _ c.args.who (call.Fetch c.args.addr c.args.len) c.in_ok-reply.answer no_choices no_words f f c.self.view_is all c.faults-faults.ensures c.faults-faults.ensures
 
 pub returns-clause-region : goal.returns-clause-region
 returns-clause-region g c =
