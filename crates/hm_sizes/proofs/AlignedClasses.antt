@@ -7,7 +7,6 @@ use Rattle.hm_sizes.specs.declared.table.SizeClass.{SizeClass}
 use Rattle.hm_sizes.specs.declared.table.TheConstants.{SIZE_CLASSES}
 use Rattle.hm_sizes.specs.declared.class.ClassId.{ClassId}
 use Rattle.hm_sizes.specs.declared.class.Kind.TheVariants.{Small, Large}
-use Rattle.hm_sizes.specs.Classes.{slot_size}
 use Rattle.hm_sizes.specs.Sizes.{raised, large_size}
 use Rattle.hm_sizes.specs.Aligned.{IsAlignment, ServesAligned, IsLeastAligned, IsAlignedKindOf}
 use Rattle.hm_sizes.proofs.Alignments.{page_whole}

@@ -1,5 +1,5 @@
 -- The ranges that class regions reserve follow one another, and each slab lies in that of its region.
-use Rattle.std.proofs.Common.{◌≡◌, ℕ, ◌+◌, ◌-◌, ◌*◌, ◌/◌, ◌^◌, ◌<◌, ◌≤◌, nat_lt, nat_le, Bool, true, false, cond, ◌&&◌, is_le, is_lt, nat_cmp, rules, sym, ap, ◌∙◌, subst, refl, arith}
+use Rattle.std.proofs.Common.{◌≡◌, ℕ, ◌+◌, ◌-◌, ◌*◌, ◌/◌, ◌^◌, ◌<◌, ◌≤◌, nat_lt, nat_le, Bool, true, false, cond, ◌&&◌, is_le, is_lt, nat_cmp, rules, sym, ap, ◌∙◌, refl, arith}
 use Rattle.std.proofs.lemmas.Nat.{div-add-mod', div-mul-add, div_below, mod_below, mul-le}
 use Rattle.std.proofs.lemmas.Bool.{and_from, and_parts}
 use borrow.Author.Tests.{tests}
@@ -8,11 +8,11 @@ use Rattle.hm_outside.specs.declared.region.RegionId.{RegionId}
 use Rattle.hm_sizes.specs.declared.config.Config.{Config}
 use Rattle.hm_sizes.specs.declared.class.ClassId.{ClassId}
 use Rattle.hm_sizes.specs.declared.home.Home.{Home}
-use Rattle.hm_sizes.specs.declared.home.Home.TheVariants.{Class, Large, Outside}
+use Rattle.hm_sizes.specs.declared.home.Home.TheVariants.{Class}
 use Rattle.hm_sizes.specs.Classes.{slab_size}
 use Rattle.hm_sizes.specs.Configs.{IsValid}
 use Rattle.hm_sizes.specs.Shapes.{reserved_start, shape_of, slab_at, slab_of, slot_of, IsPlace, IsPlaceOf}
-use Rattle.hm_sizes.specs.Homes.{region_count, region_of, home_of, IsInRegion, IsInLargeSpace}
+use Rattle.hm_sizes.specs.Homes.{region_count, home_of, IsInRegion, IsInLargeSpace}
 use Rattle.hm_sizes.proofs.ClassTable.{is_bounded}
 use Rattle.hm_sizes.proofs.PlaceTest.{place_is, slot_row}
 use Rattle.hm_sizes.proofs.Shaped.{slabs_within}

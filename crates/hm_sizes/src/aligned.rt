@@ -42,9 +42,8 @@ fn least_aligned(size: u64, align: u64) -> Option<ClassId>
     requires { 16 < align }
     ensures { MatchOption result ((class : ℕ) → ¬ ServesAligned size align class) (λ class. IsLeastAligned size align class.0) }
 {
-    let class = SIZE_CLASSES
-        .iter()
-        .position(|class| class.slot >= size && class.slot.is_multiple_of(align))?;
+    let class = SIZE_CLASSES.iter().position(|class| class.slot >= size
+        && class.slot.is_multiple_of(align))?;
     Some(ClassId(class as u8))
 }
 

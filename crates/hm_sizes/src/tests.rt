@@ -174,16 +174,15 @@ fn homes(rt: HostRuntime) {
         large_space: 1 << 21,
         ..Config::standard()
     };
-    let mut start = 1 << 40;
-    assert_eq!(rt; home_of(&config, start - 1), Home::Outside);
     for region in 0..98 {
+        let start = (1 << 40) + u64::from(region) * 2097152;
         let home = Home::Class(RegionId(region));
         assert_eq!(rt; home_of(&config, start), home);
         assert_eq!(rt; home_of(&config, start + 2097151), home);
-        start += 2097152;
     }
     for (addr, home) in [
-        (start, Home::Outside),
+        ((1 << 40) - 1, Home::Outside),
+        ((1 << 40) + 98 * 2097152, Home::Outside),
         ((1 << 46) - 1, Home::Outside),
         (1 << 46, Home::Large),
         ((1 << 46) + 2097151, Home::Large),

@@ -8,10 +8,9 @@ use Rattle.hm_sizes.proofs.home.home_of.Goals as goal
 pub returns-then-contains-clause-class : goal.returns-then-contains-clause-class
 returns-then-contains-clause-class c region =
     let config = c.args.config.now in
-    let here = range_found config c.from-regions.result c.args.addr c.contains.result c.requires c.from-regions.ensures c.contains.ensures.value c.if-contains.true in
-    (
+    let here = range_found config c.from-regions.result c.args.addr c.contains.result c.requires c.from-regions.ensures c.contains.ensures.value c.if-contains.true in (
       λ e. let same : record { 0 = (c.args.addr - 2 ^ 40) / (2 * config.class_region) } ≡ region = cc in
-        subst (λ (x : RegionId). IsInRegion config x.0 c.args.addr) same here,
+          subst (λ (x : RegionId). IsInRegion config x.0 c.args.addr) same here,
       λ h. ap (λ (n : ℕ). Class (record { 0 = n })) (number_of config region.0 c.args.addr h),
     )
 
@@ -25,7 +24,7 @@ pub returns-else-contains-2-clause-class : goal.returns-else-contains-2-clause-c
 returns-else-contains-2-clause-class c region = (
   λ e. cc,
   λ h. absurd
-    (no_range c.args.config.now c.from-regions.result c.args.addr c.contains.result c.from-regions.ensures c.contains.ensures.value c.if-contains.false region.0 h),
+      (no_range c.args.config.now c.from-regions.result c.args.addr c.contains.result c.from-regions.ensures c.contains.ensures.value c.if-contains.false region.0 h),
 )
 
 pub returns-else-contains-2-clause-outside : goal.returns-else-contains-2-clause-outside
