@@ -10,6 +10,7 @@ use Rattle.hm_model.specs.declared.entry.Reply.{Reply}
 use Rattle.hm_model.specs.declared.entry.Reply.TheVariants as reply
 use Rattle.hm_model.specs.declared.entry.Choices.{Choices}
 use Rattle.hm_model.specs.declared.entry.Draws.{Draws}
+use Rattle.hm_model.specs.Calls.{no_choices, no_words, one_word, entry_of}
 use Rattle.hm_model.specs.Entries.{AreDraws}
 use Rattle.hm_model.specs.Machine.{run, Legal_push, run_push}
 use Rattle.hm_model.specs.Maps.{at, removed}
@@ -29,11 +30,11 @@ use Rattle.hm_large.specs.declared.judge.Refusal.TheVariants as refusal
 use Rattle.hm_large.specs.declared.judge.Verdict.TheVariants as verdict
 use Rattle.hm_large.specs.Blocks.{Block, Blocks, new_block, size_for, guard_of, is_quarantined, marked}
 use Rattle.hm_large.specs.State.{State, start, step, moved, takes_back, releases, free_of, array_length, ring_length}
-use Rattle.hm_large.specs.Rules.{Terms, Allowed, Allows, Asks, IsAlignment, state, chose, chose_none, chose_guard, wrong_size, Releases, AllowsFreed}
-use Rattle.hm_large.specs.Draws.{Drawn, EntryDraws, FreeDraws, stream_after, word_after, no_words, one_word}
+use Rattle.hm_large.specs.Rules.{Terms, Allowed, Allows, Asks, IsAlignment, state, chose, chose_guard, wrong_size, Releases, AllowsFreed}
+use Rattle.hm_large.specs.Draws.{Drawn, EntryDraws, FreeDraws, stream_after, word_after}
 use Rattle.hm_large.specs.Laws.{IsSound}
 use Rattle.hm_large.specs.Region.{Region, HoldsBlocks, IsRegion}
-use Rattle.hm_large.specs.Calls.{entry_of, Added}
+use Rattle.hm_large.specs.Calls.{Added}
 use Rattle.hm_large.specs.Kept.{kept_of, Shows, IsKept}
 use Rattle.hm_large.specs.Stored.{Allots, Ends, Declines, Frees, Judges, StandsLive, refused_reply, attempt_reply, free_draws, measured_reply, words_with}
 use Rattle.hm_large.proofs.BlockLists.{placed_at}
@@ -91,12 +92,12 @@ pub kept_sound : (told : Bool) (runs : PageRuns) (faults : ℕ) (c : Config) (n 
 kept_sound told runs faults c n es k h = sound (terms_of c told) es h.legal
 
 -- ---- allotting
-module _ {P : Type 0} (told : P → Bool) (runs : P → PageRuns) (faults : P → ℕ) (c : Config) (n : ℕ) (es : List Entry) (k new : Store) (old now : P) where
+module _ {P : Type 0} (meaning : pages.Ghosts P) (c : Config) (n : ℕ) (es : List Entry) (k new : Store) (old now : P) where
   -- nothing was changed
-  pub kept_declined : IsKept (told old) (runs old) (faults old) c n es k → told now ≡ told old → Declines told runs faults c n (state (terms_of c (told old)) es) new old now
-      → IsKept (told now) (runs now) (faults now) c n es new
+  pub kept_declined : IsKept (meaning.told old) (meaning.runs old) (meaning.faults old) c n es k → meaning.told now ≡ meaning.told old → Declines meaning c n (state (terms_of c (meaning.told old)) es) new old now
+      → IsKept (meaning.told now) (meaning.runs now) (meaning.faults now) c n es new
   kept_declined h same d =
-      subst (λ (b : Bool). IsKept b (runs now) (faults now) c n es new) (sym same) (record {
+      subst (λ (b : Bool). IsKept b (meaning.runs now) (meaning.faults now) c n es new) (sym same) (record {
         valid = h.valid;
         legal = h.legal;
         drawn = h.drawn;
@@ -105,46 +106,46 @@ module _ {P : Type 0} (told : P → Bool) (runs : P → PageRuns) (faults : P �
         shows = d.shows;
       })
 
-  allotted_as : (o : Outcome) (who : Who) (asked align word guard : ℕ) → asked ≤ 2 ^ 30 → IsAlignment align → IsKept (told old) (runs old) (faults old) c n es k
-      → (let s = state (terms_of c (told old)) es in (word ≡ word_after n s.words) × (guard ≡ guard_of (size_for asked) word) × Ends told runs faults c n s asked align new old now guard o)
-      → IsKept (told old) (runs now) (faults now) c n (es ++ entry_of who (call.Allot asked align) (attempt_reply asked o) (chose_guard guard) (one_word word) (faults old) (faults now) ∷ []) new
+  allotted_as : (o : Outcome) (who : Who) (asked align word guard : ℕ) → asked ≤ 2 ^ 30 → IsAlignment align → IsKept (meaning.told old) (meaning.runs old) (meaning.faults old) c n es k
+      → (let s = state (terms_of c (meaning.told old)) es in (word ≡ word_after n s.words) × (guard ≡ guard_of (size_for asked) word) × Ends meaning c n s asked align new old now guard o)
+      → IsKept (meaning.told old) (meaning.runs now) (meaning.faults now) c n (es ++ entry_of who (call.Allot asked align) (attempt_reply asked o) (chose_guard guard) (one_word word) (meaning.faults old) (meaning.faults now) ∷ []) new
   allotted_as (outcome.Given addr) who asked align word guard most is h ends =
-      let t = terms_of c (told old) in
+      let t = terms_of c (meaning.told old) in
       let s : State = state t es in
-      let e = entry_of who (call.Allot asked align) (reply.Given addr (size_for asked)) (chose_guard guard) (one_word word) (faults old) (faults now) in
+      let e = entry_of who (call.Allot asked align) (reply.Given addr (size_for asked)) (chose_guard guard) (one_word word) (meaning.faults old) (meaning.faults now) in
       let drawn : Drawn n s e = (ap one_word ends.0, ap Some (ends.1 ∙ ap (guard_of (size_for asked)) ends.0)) in
       let allowed : Allowed t s e = record { draws = one_drawn word; asks = (most, is); follows = h.count; later = ends.2.3; allows = ((ends.2.0, refl), refl) } in
-      kept_push (told old) (runs old) (runs now) (faults old) (faults now) c n es k new e h (
+      kept_push (meaning.told old) (meaning.runs old) (meaning.runs now) (meaning.faults old) (meaning.faults now) c n es k new e h (
         allowed,
         drawn,
-        (λ yes a. ap (λ (r : PageRuns). map.get r a) (ends.2.2 yes) ∙ holds_given s.live (runs old) addr (new_block asked guard) (h.pages yes) a),
-        shows_step c n (record s { live = (addr, new_block asked guard) ∷ s.live; words = suc s.words }) new (1 + s.words) (faults now) ends.2.1 (omega arith),
+        (λ yes a. ap (λ (r : PageRuns). map.get r a) (ends.2.2 yes) ∙ holds_given s.live (meaning.runs old) addr (new_block asked guard) (h.pages yes) a),
+        shows_step c n (record s { live = (addr, new_block asked guard) ∷ s.live; words = suc s.words }) new (1 + s.words) (meaning.faults now) ends.2.1 (omega arith),
       )
       refl
   allotted_as outcome.NoSpace who asked align word guard most is h ends =
-      let t = terms_of c (told old) in
+      let t = terms_of c (meaning.told old) in
       let s : State = state t es in
-      let e = entry_of who (call.Allot asked align) reply.NoSpace (chose_guard guard) (one_word word) (faults old) (faults now) in
+      let e = entry_of who (call.Allot asked align) reply.NoSpace (chose_guard guard) (one_word word) (meaning.faults old) (meaning.faults now) in
       let drawn : Drawn n s e = (ap one_word ends.0, ap Some (ends.1 ∙ ap (guard_of (size_for asked)) ends.0)) in
       let allowed : Allowed t s e = record { draws = one_drawn word; asks = (most, is); follows = h.count; later = omega (arith, ends.2.3); allows = (ends.2.0, refl) } in
-      kept_push (told old) (runs old) (runs now) (faults old) (faults now) c n es k new e h
-      (allowed, drawn, (λ yes a. ap (λ (r : PageRuns). map.get r a) (ends.2.2 yes) ∙ h.pages yes a), shows_step c n (record s { words = suc s.words }) new (1 + s.words) (faults now) ends.2.1 (omega arith))
+      kept_push (meaning.told old) (meaning.runs old) (meaning.runs now) (meaning.faults old) (meaning.faults now) c n es k new e h
+      (allowed, drawn, (λ yes a. ap (λ (r : PageRuns). map.get r a) (ends.2.2 yes) ∙ h.pages yes a), shows_step c n (record s { words = suc s.words }) new (1 + s.words) (meaning.faults now) ends.2.1 (omega arith))
       refl
   allotted_as outcome.PagesFailed who asked align word guard most is h ends =
-      let t = terms_of c (told old) in
+      let t = terms_of c (meaning.told old) in
       let s : State = state t es in
-      let e = entry_of who (call.Allot asked align) reply.PagesFailed (chose_guard guard) (one_word word) (faults old) (faults now) in
+      let e = entry_of who (call.Allot asked align) reply.PagesFailed (chose_guard guard) (one_word word) (meaning.faults old) (meaning.faults now) in
       let drawn : Drawn n s e = (ap one_word ends.0, ap Some (ends.1 ∙ ap (guard_of (size_for asked)) ends.0)) in
       let allowed : Allowed t s e = record { draws = one_drawn word; asks = (most, is); follows = h.count; later = omega (arith, ends.2.3); allows = ((ends.2.0, ends.2.3), refl) } in
-      kept_push (told old) (runs old) (runs now) (faults old) (faults now) c n es k new e h
-      (allowed, drawn, (λ yes a. ap (λ (r : PageRuns). map.get r a) (ends.2.2 yes) ∙ h.pages yes a), shows_step c n (record s { words = suc s.words }) new (1 + s.words) (faults now) ends.2.1 (omega arith))
+      kept_push (meaning.told old) (meaning.runs old) (meaning.runs now) (meaning.faults old) (meaning.faults now) c n es k new e h
+      (allowed, drawn, (λ yes a. ap (λ (r : PageRuns). map.get r a) (ends.2.2 yes) ∙ h.pages yes a), shows_step c n (record s { words = suc s.words }) new (1 + s.words) (meaning.faults now) ends.2.1 (omega arith))
       refl
 
-  pub kept_allotted : (attempt : Attempt) (who : Who) (asked align : ℕ) → asked ≤ 2 ^ 30 → IsAlignment align → IsKept (told old) (runs old) (faults old) c n es k → told now ≡ told old
-      → Allots told runs faults c n (state (terms_of c (told old)) es) asked align new old now attempt
-      → IsKept (told now) (runs now) (faults now) c n (es ++ entry_of who (call.Allot asked align) (attempt_reply asked attempt.outcome) (chose_guard attempt.guard) (one_word attempt.word) (faults old) (faults now) ∷ []) new
+  pub kept_allotted : (attempt : Attempt) (who : Who) (asked align : ℕ) → asked ≤ 2 ^ 30 → IsAlignment align → IsKept (meaning.told old) (meaning.runs old) (meaning.faults old) c n es k → meaning.told now ≡ meaning.told old
+      → Allots meaning c n (state (terms_of c (meaning.told old)) es) asked align new old now attempt
+      → IsKept (meaning.told now) (meaning.runs now) (meaning.faults now) c n (es ++ entry_of who (call.Allot asked align) (attempt_reply asked attempt.outcome) (chose_guard attempt.guard) (one_word attempt.word) (meaning.faults old) (meaning.faults now) ∷ []) new
   kept_allotted attempt who asked align most is h same allots =
-      subst (λ (b : Bool). IsKept b (runs now) (faults now) c n (es ++ entry_of who (call.Allot asked align) (attempt_reply asked attempt.outcome) (chose_guard attempt.guard) (one_word attempt.word) (faults old) (faults now) ∷ []) new) (sym same)
+      subst (λ (b : Bool). IsKept b (meaning.runs now) (meaning.faults now) c n (es ++ entry_of who (call.Allot asked align) (attempt_reply asked attempt.outcome) (chose_guard attempt.guard) (one_word attempt.word) (meaning.faults old) (meaning.faults now) ∷ []) new) (sym same)
       (allotted_as attempt.outcome who asked align attempt.word attempt.guard most is h (allots.word, allots.guard, allots.ends))
 
 -- ---- what callers see
@@ -157,9 +158,9 @@ pub appended : (new room old : List Entry) (x e : Entry) → new ≡ room ++ x �
 appended new room old x e pushed same is = pushed ∙ (ap (λ (l : List Entry). l ++ x ∷ []) same ∙ ap (λ (y : Entry). old ++ y ∷ []) is)
 
 -- the entry that was added
-pub added_of : {P : Type 0} (faults : P → ℕ) (old new view : Region P) (who : Who) (c : Call) (answer : Reply) (choices : Choices) (draws : Draws) → view ≡ old
-    → new.entries ≡ view.entries ++ entry_of who c answer choices draws (faults view.pages) (faults new.pages) ∷ [] → Added faults old new who c answer
-added_of faults old new view who c answer choices draws same all = subst (λ (r : Region _). Added faults r new who c answer) same (record { choices = choices; draws = draws; entries = all })
+pub added_of : {P : Type 0} (meaning : pages.Ghosts P) (old new view : Region P) (who : Who) (c : Call) (answer : Reply) (choices : Choices) (draws : Draws) → view ≡ old
+    → new.entries ≡ view.entries ++ entry_of who c answer choices draws (meaning.faults view.pages) (meaning.faults new.pages) ∷ [] → Added meaning old new who c answer
+added_of meaning old new view who c answer choices draws same all = subst (λ (r : Region _). Added meaning r new who c answer) same (record { choices = choices; draws = draws; entries = all })
 
 -- nothing has happened yet
 pub kept_built : (told : Bool) (runs : PageRuns) (faults : ℕ) (c : Config) (n : ℕ) (es : List Entry) (k : Store) → IsValid c → (IsTrue told → runs ≡ map.empty) → faults ≡ 0 → es ≡ [] → Shows c n start k
@@ -194,15 +195,15 @@ module _ (told : Bool) (runs : PageRuns) (faults : ℕ) (c : Config) (n : ℕ) (
 
   -- a block that is not taken back
   pub kept_refused : (refusal : Refusal) (who : Who) (a : ℕ) (stated : Option ℕ) → IsKept told runs faults c n es k → Judges (state (terms_of c told) es) a stated (verdict.Refused refusal)
-      → IsKept told runs faults c n (es ++ entry_of who (call.GiveBack a stated) (refused_reply refusal) chose_none no_words faults faults ∷ []) k
+      → IsKept told runs faults c n (es ++ entry_of who (call.GiveBack a stated) (refused_reply refusal) no_choices no_words faults faults ∷ []) k
   kept_refused refusal.NotLive who a stated h judged =
-      kept_plain (entry_of who (call.GiveBack a stated) reply.NotLive chose_none no_words faults faults) h refl refl refl (tt, (ap is_some judged, refl), refl, refl)
+      kept_plain (entry_of who (call.GiveBack a stated) reply.NotLive no_choices no_words faults faults) h refl refl refl (tt, (ap is_some judged, refl), refl, refl)
   kept_refused (refusal.WrongSize block other) who a stated h judged =
-      kept_plain (entry_of who (call.GiveBack a stated) (reply.WrongSize block other) chose_none no_words faults faults) h refl refl refl (tt, (judged, refl), refl, refl)
+      kept_plain (entry_of who (call.GiveBack a stated) (reply.WrongSize block other) no_choices no_words faults faults) h refl refl refl (tt, (judged, refl), refl, refl)
 
   -- a measurement
   pub kept_measured : (who : Who) (a : ℕ) (block : Option KeptBlock) → IsKept told runs faults c n es k → block ≡ option_map (kept_of false) (at a (state (terms_of c told) es).live)
-      → IsKept told runs faults c n (es ++ entry_of who (call.Measure a) (measured_reply block) chose_none no_words faults faults ∷ []) k
+      → IsKept told runs faults c n (es ++ entry_of who (call.Measure a) (measured_reply block) no_choices no_words faults faults ∷ []) k
   kept_measured who a block h is = by_block block (at a (state (terms_of c told) es).live) refl is
     where
       none_some : (x : KeptBlock) → None ≡ Some x → ⊥
@@ -212,10 +213,10 @@ module _ (told : Bool) (runs : PageRuns) (faults : ℕ) (c : Config) (n : ℕ) (
       some_same x y e = cc
 
       by_block : (block : Option KeptBlock) (o : Option Block) → at a (state (terms_of c told) es).live ≡ o → block ≡ option_map (kept_of false) o
-          → IsKept told runs faults c n (es ++ entry_of who (call.Measure a) (measured_reply block) chose_none no_words faults faults ∷ []) k
-      by_block None None e is = kept_plain (entry_of who (call.Measure a) reply.NotLive chose_none no_words faults faults) h refl refl refl (tt, (ap is_some e, refl), refl, refl)
+          → IsKept told runs faults c n (es ++ entry_of who (call.Measure a) (measured_reply block) no_choices no_words faults faults ∷ []) k
+      by_block None None e is = kept_plain (entry_of who (call.Measure a) reply.NotLive no_choices no_words faults faults) h refl refl refl (tt, (ap is_some e, refl), refl, refl)
       by_block (Some b) (Some x) e is =
-          kept_plain (entry_of who (call.Measure a) (reply.Usable b.size) chose_none no_words faults faults) h refl refl refl
+          kept_plain (entry_of who (call.Measure a) (reply.Usable b.size) no_choices no_words faults faults) h refl refl refl
           (tt, (ap (option_map (λ (y : Block). y.size)) e ∙ ap (λ (y : KeptBlock). Some y.size) (sym (some_same b (kept_of false x) is)), refl), refl, refl)
       by_block None (Some x) e is = absurd (none_some (kept_of false x) is)
       by_block (Some b) None e is = absurd (none_some b (sym is))
@@ -251,11 +252,11 @@ words_taken s a w (Some x) r = out r (is_quarantined x)
 module _ (told : Bool) (runs after : PageRuns) (faults now : ℕ) (c : Config) (n : ℕ) (es : List Entry) (k new : Store) (who : Who) (a : ℕ) (stated : Option ℕ) (x : Block) where
   -- a page failed
   pub kept_failed : IsKept told runs faults c n es k → (let s = state (terms_of c told) es in (at a s.live ≡ Some x) × (wrong_size (at a s.live) stated ≡ None) × Shows c n (record s { live = marked a s.live }) new)
-      → faults < now → (IsTrue told → after ≡ runs) → IsKept told after now c n (es ++ entry_of who (call.GiveBack a stated) reply.PagesFailed chose_none no_words faults now ∷ []) new
+      → faults < now → (IsTrue told → after ≡ runs) → IsKept told after now c n (es ++ entry_of who (call.GiveBack a stated) reply.PagesFailed no_choices no_words faults now ∷ []) new
   kept_failed h facts rose same =
       let t = terms_of c told in
       let s : State = state t es in
-      let e = entry_of who (call.GiveBack a stated) reply.PagesFailed chose_none no_words faults now in
+      let e = entry_of who (call.GiveBack a stated) reply.PagesFailed no_choices no_words faults now in
       let allowed : Allowed t s e = record { draws = none_drawn; asks = tt; follows = h.count; later = omega arith; allows = (ap is_some facts.0, facts.1, rose, refl) } in
       kept_push told runs after faults now c n es k new e h
       (allowed, refl, (λ yes q. ap (λ (r : PageRuns). map.get r q) (same yes) ∙ holds_marked s.live runs a (h.pages yes) q), shows_step c n (record s { live = marked a s.live }) new (0 + s.words) now facts.2 (omega arith))

@@ -10,6 +10,7 @@ use Rattle.hm_model.specs.declared.entry.Call.{Call}
 use Rattle.hm_model.specs.declared.entry.Call.TheVariants as call
 use Rattle.hm_model.specs.declared.entry.Reply.{Reply}
 use Rattle.hm_model.specs.declared.entry.Reply.TheVariants as reply
+use Rattle.hm_model.specs.Calls.{no_choices, no_words, entry_of}
 use Rattle.hm_model.specs.Machine.{run_keeps}
 use Rattle.hm_model.specs.Maps.{at, removed}
 use Rattle.hm_model.specs.Overlaid.{overlaid}
@@ -21,11 +22,10 @@ use Rattle.hm_sizes.specs.declared.config.Config.{Config}
 use Rattle.hm_large.specs.declared.store.Store.{Store}
 use Rattle.hm_large.specs.Blocks.{Block, Blocks, covers, covered, is_quarantined, is_owed, first_trap, bytes_read, overlay, written_over, mark}
 use Rattle.hm_large.specs.State.{State, start, step, moved, takes_back, releases, free_of}
-use Rattle.hm_large.specs.Rules.{Allowed, state, chose_none}
-use Rattle.hm_large.specs.Draws.{Drawn, EntryDraws, no_words}
+use Rattle.hm_large.specs.Rules.{Allowed, state}
+use Rattle.hm_large.specs.Draws.{Drawn, EntryDraws}
 use Rattle.hm_large.specs.Laws.{IsSound}
 use Rattle.hm_large.specs.Region.{HoldsBlocks}
-use Rattle.hm_large.specs.Calls.{entry_of}
 use Rattle.hm_large.specs.Kept.{kept_or, Shows, IsKept, AreGuarded}
 use Rattle.hm_large.specs.Stored.{HeldByNone}
 use Rattle.hm_large.proofs.BlockLists.{placed_at, covers_own, how_many_same, length_same}
@@ -185,29 +185,29 @@ shows_written c n s k a w h = record {
 -- ---- entries
 module _ (told : Bool) (runs : PageRuns) (faults : ℕ) (c : Config) (n : ℕ) (es : List Entry) (k : Store) (who : Who) (a : ℕ) where
   pub kept_fetched : (len : ℕ) (found : List (ℕ × ℕ)) → 1 ≤ len → len ≤ 2 ^ 30 → a < 2 ^ 47 → IsKept told runs faults c n es k → length (expand found) ≡ len → (IsTrue told → Reads runs a len (expand found))
-      → IsKept told runs faults c n (es ++ entry_of who (call.Fetch a len) (reply.Bytes found) chose_none no_words faults faults ∷ []) k
+      → IsKept told runs faults c n (es ++ entry_of who (call.Fetch a len) (reply.Bytes found) no_choices no_words faults faults ∷ []) k
   kept_fetched len found some most low h count reads =
-      kept_plain told runs faults c n es k (entry_of who (call.Fetch a len) (reply.Bytes found) chose_none no_words faults faults) h refl refl refl
+      kept_plain told runs faults c n es k (entry_of who (call.Fetch a len) (reply.Bytes found) no_choices no_words faults faults) h refl refl refl
       ((some, most, low), (count, (λ tells. reads_blocks c (state (terms_of c told) es) runs a len (expand found) (kept_sound told runs faults c n es k h) (h.pages tells) (reads tells)), refl), refl, refl)
 
   pub kept_untold : (len trap : ℕ) → 1 ≤ len → len ≤ 2 ^ 30 → a < 2 ^ 47 → IsKept told runs faults c n es k → (IsTrue told → first_trap (state (terms_of c told) es).live a len ≡ Some trap)
-      → IsKept told runs faults c n (es ++ entry_of who (call.Fetch a len) (reply.Trap trap) chose_none no_words faults faults ∷ []) k
+      → IsKept told runs faults c n (es ++ entry_of who (call.Fetch a len) (reply.Trap trap) no_choices no_words faults faults ∷ []) k
   kept_untold len trap some most low h is =
-      kept_plain told runs faults c n es k (entry_of who (call.Fetch a len) (reply.Trap trap) chose_none no_words faults faults) h refl refl refl ((some, most, low), (is, refl), refl, refl)
+      kept_plain told runs faults c n es k (entry_of who (call.Fetch a len) (reply.Trap trap) no_choices no_words faults faults) h refl refl refl ((some, most, low), (is, refl), refl, refl)
 
   pub kept_trapped : (found : List (ℕ × ℕ)) (trap : ℕ) → 1 ≤ length (expand found) → length (expand found) ≤ 2 ^ 30 → a < 2 ^ 47 → IsKept told runs faults c n es k
       → (IsTrue told → first_trap (state (terms_of c told) es).live a (length (expand found)) ≡ Some trap)
-      → IsKept told runs faults c n (es ++ entry_of who (call.Fill a found) (reply.Trap trap) chose_none no_words faults faults ∷ []) k
+      → IsKept told runs faults c n (es ++ entry_of who (call.Fill a found) (reply.Trap trap) no_choices no_words faults faults ∷ []) k
   kept_trapped found trap some most low h is =
-      kept_plain told runs faults c n es k (entry_of who (call.Fill a found) (reply.Trap trap) chose_none no_words faults faults) h refl refl refl ((some, most, low), (is, refl), refl, refl)
+      kept_plain told runs faults c n es k (entry_of who (call.Fill a found) (reply.Trap trap) no_choices no_words faults faults) h refl refl refl ((some, most, low), (is, refl), refl, refl)
 
   pub kept_filled : (after : PageRuns) (found : List (ℕ × ℕ)) → 1 ≤ length (expand found) → length (expand found) ≤ 2 ^ 30 → a < 2 ^ 47 → IsKept told runs faults c n es k
       → (IsTrue told → Writes runs a (length (expand found)) (expand found) after)
-      → IsKept told after faults c n (es ++ entry_of who (call.Fill a found) reply.Filled chose_none no_words faults faults ∷ []) k
+      → IsKept told after faults c n (es ++ entry_of who (call.Fill a found) reply.Filled no_choices no_words faults faults ∷ []) k
   kept_filled after found some most low h writes =
       let t = terms_of c told in
       let s : State = state t es in
-      let e = entry_of who (call.Fill a found) reply.Filled chose_none no_words faults faults in
+      let e = entry_of who (call.Fill a found) reply.Filled no_choices no_words faults faults in
       let sound = kept_sound told runs faults c n es k h in
       let reads = λ (tells : IsTrue told). (let w = writes tells in (let r : Reads runs a (length (expand found)) (take (length (expand found)) (drop (a - w.first) w.bytes)) = record { first = w.first; bytes = w.bytes; is_run = w.is_run; lies = w.lies; value = refl } in r)) in
       let allowed : Allowed t s e = record {

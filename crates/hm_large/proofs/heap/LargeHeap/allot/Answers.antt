@@ -2,9 +2,8 @@ use Rattle.std.proofs.Common.{◌≡◌, ℕ, List, [], ◌∷◌, ◌++◌, sym
 use Rattle.hm_model.specs.declared.entry.Entry.{Entry}
 use Rattle.hm_model.specs.declared.entry.Reply.{Reply}
 use Rattle.hm_model.specs.declared.entry.Call.TheVariants as call
+use Rattle.hm_model.specs.Calls.{one_word, entry_of}
 use Rattle.hm_large.specs.Rules.{chose_guard, state}
-use Rattle.hm_large.specs.Draws.{one_word}
-use Rattle.hm_large.specs.Calls.{entry_of}
 use Rattle.hm_large.specs.Kept.{IsKept}
 use Rattle.hm_large.specs.Stored.{attempt_reply}
 use Rattle.hm_large.proofs.Entries.{terms_of, kept_sound, kept_declined, kept_allotted, region_of, appended, added_of}
@@ -32,7 +31,7 @@ invariant_of-self-in_err-attempt g c =
     let k = c.self.invariant.0 in
     let s = state (terms_of h.config (g.P.Pages.told h.pages)) h.entries.items in (
       subst (λ (l : List Entry). IsKept (g.P.Pages.told c.allot.new.pages) (g.P.Pages.runs c.allot.new.pages) (g.P.Pages.faults c.allot.new.pages) h.config h.number l c.allot.new.store) (sym c.reserve.ensures.items)
-          (kept_declined g.P.Pages.told g.P.Pages.runs g.P.Pages.faults h.config h.number h.entries.items h.store c.allot.new.store h.pages c.allot.new.pages k c.allot.ensures.told (c.in_err-attempt.ensures.declines h.config h.number s k.shows)),
+          (kept_declined g.P.Pages h.config h.number h.entries.items h.store c.allot.new.store h.pages c.allot.new.pages k c.allot.ensures.told (c.in_err-attempt.ensures.declines h.config h.number s k.shows)),
       omega (arith, c.self.invariant.1, c.allot.ensures.owed, c.in_ok-reserve.ensures.ok, c.reserve.ensures.len),
     )
 
@@ -58,7 +57,7 @@ invariant_of-self-2 g c =
     let s = state (terms_of h.config told) h.entries.items in
     let sound = kept_sound told (g.P.Pages.runs h.pages) (g.P.Pages.faults h.pages) h.config h.number h.entries.items h.store k in (
       subst (λ (l : List Entry). IsKept (g.P.Pages.told c.allot.new.pages) (g.P.Pages.runs c.allot.new.pages) (g.P.Pages.faults c.allot.new.pages) h.config h.number l c.allot.new.store) (sym (all_entries g c))
-          (kept_allotted g.P.Pages.told g.P.Pages.runs g.P.Pages.faults h.config h.number h.entries.items h.store c.allot.new.store h.pages c.allot.new.pages c.in_ok-attempt.attempt c.args.who c.args.asked c.args.align c.requires.asked c.requires.align k c.allot.ensures.told
+          (kept_allotted g.P.Pages h.config h.number h.entries.items h.store c.allot.new.store h.pages c.allot.new.pages c.in_ok-attempt.attempt c.args.who c.args.asked c.args.align c.requires.asked c.requires.align k c.allot.ensures.told
           (c.in_ok-attempt.ensures.allots h.config h.number s sound k.shows)),
       omega (arith, c.self.invariant.1, c.allot.ensures.owed, c.in_ok-reserve.ensures.ok, c.reserve.ensures.len, c.push_reserved.ensures.len, c.push_reserved.ensures.capacity),
     )
@@ -66,7 +65,7 @@ invariant_of-self-2 g c =
 pub returns-clause-added : goal.returns-clause-added
 returns-clause-added g c =
     let a = c.in_ok-attempt.attempt in
-    added_of g.P.Pages.faults c.args.self.now _ _ c.args.who (call.Allot c.args.asked c.args.align) c.reply_to.result (chose_guard a.guard) (one_word a.word) c.self.view_is
+    added_of g.P.Pages c.args.self.now _ _ c.args.who (call.Allot c.args.asked c.args.align) c.reply_to.result (chose_guard a.guard) (one_word a.word) c.self.view_is
     (all_entries g c ∙ ap (λ (r : Reply). c.self.inside.entries.items ++ entry_of c.args.who (call.Allot c.args.asked c.args.align) r (chose_guard a.guard) (one_word a.word) (g.P.Pages.faults c.self.inside.pages) (g.P.Pages.faults c.allot.new.pages) ∷ []) (sym c.reply_to.ensures))
 
 pub returns-clause-region : goal.returns-clause-region
