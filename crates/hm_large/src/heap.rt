@@ -50,7 +50,7 @@ impl<P: Pages> Model for LargeHeap<P> {
       pages = h.pages;
     } };
 
-    ghost invariant = { λ h. IsKept (P.told h.pages) (P.runs h.pages) (P.faults h.pages) h.config h.number h.entries.items h.store
+    ghost invariant = { λ h. IsKept P.Pages h.pages h.config h.number h.entries.items h.store
         × (h.store.owed ≤ h.entries.cap - h.entries.len) };
 }
 

@@ -21,18 +21,16 @@ all_entries g c =
 pub invariant_of-self-2 : goal.invariant_of-self-2
 invariant_of-self-2 g c =
     let h = c.self.inside in
-    let k = c.self.invariant.0 in
-    let told = g.P.Pages.told h.pages in
-    let runs = g.P.Pages.runs h.pages in
-    let faults = g.P.Pages.faults h.pages in (
-      subst (λ (l : List Entry). IsKept told runs faults h.config h.number l h.store) (sym (all_entries g c))
-          (kept_measured told runs faults h.config h.number h.entries.items h.store c.args.who c.args.addr c.live_block-block.result k (c.live_block-block.ensures h.config h.number (state (terms_of h.config told) h.entries.items) k.shows)),
+    let k = c.self.invariant.0 in (
+      subst (λ (l : List Entry). IsKept g.P.Pages h.pages h.config h.number l h.store) (sym (all_entries g c))
+          (kept_measured g.P.Pages h.pages h.config h.number h.entries.items h.store c.args.who c.args.addr c.live_block-block.result k
+          (c.live_block-block.ensures h.config h.number (state (terms_of h.config (g.P.Pages.told h.pages)) h.entries.items) k.shows)),
       omega (arith, c.self.invariant.1, c.in_ok-reserve.ensures.ok, c.reserve.ensures.len, c.push_reserved.ensures.len, c.push_reserved.ensures.capacity),
     )
 
 pub returns-clause-added : goal.returns-clause-added
 returns-clause-added g c =
-    added_of g.P.Pages c.args.self.now _ _ c.args.who (call.Measure c.args.addr) c.measured-2.result no_choices no_words c.self.view_is
+    added_of g.P.Pages c.args.self.now _ _ _ c.args.who (call.Measure c.args.addr) c.measured-2.result no_choices no_words c.self.view_is
     (all_entries g c ∙ ap (λ (r : Reply). c.self.inside.entries.items ++ entry_of c.args.who (call.Measure c.args.addr) r no_choices no_words (g.P.Pages.faults c.self.inside.pages) (g.P.Pages.faults c.self.inside.pages) ∷ []) (sym c.measured-2.ensures))
 
 pub returns-clause-region : goal.returns-clause-region
