@@ -61,7 +61,6 @@ pub fn read<P: Pages>(
     addr: u64,
     len: u64,
 ) -> Result<Option<Runs>, NoMemory>
-    requires { len ≤ 2 ^ 30 }
     ensures length { IfOk result (λ found. IfSome found (λ runs. length (expand runs) ≡ len)) }
     ensures value { IfOk result (λ found. IsTrue (P.told pages.now) → MatchOption found (InNone (P.runs pages.now) addr len) (λ runs. Reads (P.runs pages.now) addr len (expand runs))) }
 {
@@ -93,7 +92,6 @@ fn write_runs(bytes: &mut [u8], pairs: &[(u8, u64)])
 
 /// Writes runs from an address on, if the pages hold so many bytes there in one run.
 pub fn write<P: Pages>(pages: &mut P, addr: u64, runs: &Runs) -> bool
-    requires { length (expand runs.now) ≤ 2 ^ 30 }
     ensures told { P.told pages.new ≡ P.told pages.old }
     ensures count { P.faults pages.new ≡ P.faults pages.old }
     ensures held { IsTrue (P.told pages.old) → IsTrue result ↔ IsHeld (P.runs pages.old) addr (length (expand runs.now)) }
