@@ -1,7 +1,7 @@
 //! The rule of the lock's table, and what each step on its words tells.
 ghost use Rattle.std.specs.Prelude.{ℕ};
 ghost use Rattle.hm_turn.specs.Rule.{Orderly};
-ghost use Rattle.hm_turn.specs.Steps.{asked, counted, added, freed, informed};
+ghost use Rattle.hm_turn.specs.Steps.{drawn, awaited, observed, asked, counted, added, freed, informed};
 ghost use Rattle.hm_turn.specs.Views.{founder, splitting, entering, joining, spent};
 
 use crate::{Kept, View};
@@ -20,7 +20,34 @@ impl<T: Kept> TableRule<Option<T>, View, Snapshot<T>> for Order<T> {
     ghost first = { λ key. founder (T.origin key.value) };
 }
 
-/// The turn is asked for.
+/// A ticket is drawn, by a seat that will wait for it.
+pub(crate) struct Draw<T> {
+    marker: PhantomData<T>,
+}
+
+impl<T: Kept> Play<Option<T>, View> for Draw<T> {
+    ghost then = { drawn };
+}
+
+/// The number served is read by a seat that waits for its ticket.
+pub(crate) struct Await<T> {
+    marker: PhantomData<T>,
+}
+
+impl<T: Kept> Play<Option<T>, View> for Await<T> {
+    ghost then = { awaited T.entries T.origin };
+}
+
+/// The number served is read by a seat that will not wait.
+pub(crate) struct Observe<T> {
+    marker: PhantomData<T>,
+}
+
+impl<T: Kept> Play<Option<T>, View> for Observe<T> {
+    ghost then = { observed };
+}
+
+/// The number noted is asked for.
 pub(crate) struct Ask<T> {
     marker: PhantomData<T>,
 }
@@ -61,7 +88,7 @@ impl<T: Kept, N: Written> Play<Option<T>, View> for Add<N> {
     ghost then = { added N.entries };
 }
 
-/// The turn is freed.
+/// The next number is served.
 pub(crate) struct Free<T> {
     marker: PhantomData<T>,
 }
