@@ -1,4 +1,4 @@
--- What turns and values in hand are made of.
+-- What turns, values in hand and the seats of running calls are made of.
 use Rattle.std.specs.Prelude.{◌≡◌, ◌<◌, ◌≤◌, ◌+◌, ◌^◌, ℕ, true, false, List, [], ◌∷◌, length, Option, None, Some}
 use Rattle.atomic_table.specs.Table.{Me}
 use Rattle.hm_model.specs.Entries.{calls_of}

@@ -5,7 +5,7 @@ ghost use Rattle.hm_turn.specs.Known.{IsOf, IsTaken, MayGive, Gains, HasLost};
 ghost use Rattle.hm_turn.specs.Views.{knowing};
 ghost use Rattle.hm_turn.specs.Steps.{IsGrown};
 
-use crate::steps::{Add, Count, Free, Order, Written};
+use crate::steps::{Add, COUNT, Count, Free, Order, SERVING, Written};
 use crate::{Held, Kept, Turn, View};
 use atomic_table::{Refused, Seat, Table};
 use hm_outside::NoMemory;
@@ -119,7 +119,7 @@ impl<T: Kept> TurnLock<T> {
         let shared = &self.table.shared;
         self.note::<Brand>(&mut seat, &value);
         drop(shared.exchange(&mut seat, 0, Some(value)));
-        shared.store::<Free<T>>(&mut seat, 1, ticket + 1);
+        shared.store::<Free<T>>(&mut seat, SERVING, ticket + 1);
         Turn {
             badge: seat.into_badge(),
             caller,
@@ -146,8 +146,8 @@ impl<T: Kept> TurnLock<T> {
         ensures knows { seat.new.me ≡ (knowing seat.old.me.0 N.entries, seat.old.me.1) }
     {
         let shared = &self.table.shared;
-        if shared.load::<Count<T>>(seat, 2) < len {
-            shared.fetch_add::<Add<N>>(seat, 2, 1);
+        if shared.load::<Count<T>>(seat, COUNT) < len {
+            shared.fetch_add::<Add<N>>(seat, COUNT, 1);
         }
     }
 }

@@ -1,4 +1,4 @@
-//! The rule of the lock's table, and what each step on its words tells.
+//! The words of the lock's table, its rule, and what each step on a word tells.
 ghost use Rattle.std.specs.Prelude.{ℕ};
 ghost use Rattle.hm_turn.specs.Rule.{Orderly};
 ghost use Rattle.hm_turn.specs.Steps.{drawn, awaited, observed, asked, counted, added, freed, informed};
@@ -8,6 +8,15 @@ use crate::{Kept, View};
 use atomic_table::{Join, Play, Split, TableRule};
 use std::marker::{Brand, PhantomData};
 use std::snapshot::Snapshot;
+
+/// The word that has the next number to draw.
+pub(crate) const TICKET: usize = 0;
+
+/// The word that has the number whose turn it is.
+pub(crate) const SERVING: usize = 1;
+
+/// The word that has the number of entries.
+pub(crate) const COUNT: usize = 2;
 
 /// The rule. The key is the value that the lock was built over.
 pub struct Order<T> {

@@ -4,7 +4,7 @@ ghost use Rattle.hm_turn.specs.Sound.{IsIdle, MayAsk, IsWaiting};
 ghost use Rattle.hm_turn.specs.Steps.{Wins};
 ghost use Rattle.hm_turn.specs.Views.{drawing, noting, finding, outrun};
 
-use crate::steps::{Ask, Await, Draw, Observe};
+use crate::steps::{Ask, Await, Draw, Observe, SERVING, TICKET};
 use crate::{Kept, TurnLock, View};
 use atomic_table::Seat;
 use std::sync::Wait;
@@ -13,7 +13,7 @@ use std::{hint, thread};
 /// How often a waiting call looks again at once, before it yields its processor between two looks.
 const SPINS: u32 = 100;
 
-/// The time between two looks.
+/// Lets other threads go on between two looks. It says how many looks there were without a yield.
 fn pause(looks: u32) -> u32 {
     if looks < SPINS {
         hint::spin_loop();
@@ -35,7 +35,7 @@ impl<T: Kept> TurnLock<T> {
     {
         let mut looks = 0;
         for _ in rt.forever() {
-            let next = self.table.shared.peek(0);
+            let next = self.table.shared.peek(TICKET);
             if next < u64::MAX && self.draw_this(seat, next) {
                 return next;
             }
@@ -54,7 +54,7 @@ impl<T: Kept> TurnLock<T> {
         ensures same { result ≡ false → seat.new.me ≡ seat.old.me }
     {
         let shared = &self.table.shared;
-        shared.compare_exchange::<Draw<T>>(seat, 0, ticket, ticket + 1) == ticket
+        shared.compare_exchange::<Draw<T>>(seat, TICKET, ticket, ticket + 1) == ticket
     }
 
     /// Waits until the seat's ticket is served.
@@ -82,7 +82,7 @@ impl<T: Kept> TurnLock<T> {
         ensures wins { result ≡ true → Wins T.entries T.origin seat.old.me.0 seat.new.me }
         ensures waits { result ≡ false → (n : ℕ) × (seat.new.me ≡ (noting seat.old.me.0 n, [])) }
     {
-        self.table.shared.load::<Await<T>>(seat, 1) == ticket
+        self.table.shared.load::<Await<T>>(seat, SERVING) == ticket
     }
 
     /// The number served, which the seat notes if it can be drawn.
@@ -92,7 +92,7 @@ impl<T: Kept> TurnLock<T> {
         ensures table { seat.new.table_id ≡ seat.old.table_id }
         ensures found { seat.new.me ≡ (finding seat.old.me.0 result, []) }
     {
-        self.table.shared.load::<Observe<T>>(seat, 1)
+        self.table.shared.load::<Observe<T>>(seat, SERVING)
     }
 
     /// Draws the number noted, if it is the next: it is served then, and the turn is got at once.
@@ -105,6 +105,6 @@ impl<T: Kept> TurnLock<T> {
         ensures outrun { result ≡ false → seat.new.me ≡ (outrun seat.old.me.0, []) }
     {
         let shared = &self.table.shared;
-        shared.compare_exchange::<Ask<T>>(seat, 0, number, number + 1) == number
+        shared.compare_exchange::<Ask<T>>(seat, TICKET, number, number + 1) == number
     }
 }
