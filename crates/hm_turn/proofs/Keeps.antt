@@ -1,6 +1,6 @@
 -- Each step keeps the rule.
-use Rattle.std.proofs.Common.{◌≡◌, ◌≢◌, ℕ, ◌+◌, ◌%◌, ◌^◌, ◌<◌, ◌≤◌, le_refl, Bool, true, false, cond, eqb, eq-eqb, ne_eqb, List, [], ◌∷◌, ◌++◌, length, length-append, set, get_or, sym, refl, ap, ◌∙◌, subst, inl, inr, ⊎_elim, arith, Option, None, Some}
-use mathlib.Core.Option.{Option as Place, some, none}
+use Rattle.std.proofs.Common.{◌≡◌, ◌≢◌, ℕ, ◌+◌, ◌%◌, ◌^◌, ◌<◌, le_refl, Bool, true, false, cond, eqb, eq-eqb, ne_eqb, List, [], ◌∷◌, ◌++◌, length, length-append, set, get_or, sym, refl, ap, ◌∙◌, subst, inl, inr, ⊎_elim, arith, Option, None, Some}
+use mathlib.Core.Option.{Option as Place, none}
 use mathlib.Core.Logic.{dite}
 use native.Mathlib.Decide.{ℕ_discrete}
 use lib.ListN.{get_elem?}
@@ -15,7 +15,7 @@ use Rattle.hm_turn.proofs.Histories.{calls_by, calls_by_begun, starts_itself, st
 use Rattle.hm_turn.specs.declared.view.View.{View}
 use Rattle.hm_turn.specs.Callers.{is_among, ended_of}
 use Rattle.hm_turn.specs.Rule.{At, Fits, AreKnown, AreQueued, IsHome, IsOut, Orderly}
-use Rattle.hm_turn.specs.Views.{founder, view_in, drawing, noting, outrun, last_number, finding, holding, knowing, resting}
+use Rattle.hm_turn.specs.Views.{founder, view_in, drawing, noting, outrun, last_number, holding, knowing, resting}
 use Rattle.hm_turn.specs.Sound.{IsSound, IsIdle, MayAsk, IsWaiting}
 use Rattle.hm_turn.specs.Steps.{Wins, drawn, awaited, observed, asked, counted, added, freed, informed}
 use Rattle.hm_turn.proofs.Views.{at_one, set_at, one_at, not_true, apart_bools, calls_by-other, rebuilt, backwards, forwards}
