@@ -65,7 +65,8 @@ pub record AreQueued (ticket serving : ℕ) (views : List View) : Type 0 where
   pub in_order : serving ≤ ticket
   pub many : serving + tickets_out views ≡ ticket
   pub between : (j : ℕ) (v : View) (t : ℕ) → At views j v → v.ticket ≡ Some t → (serving ≤ t) × (t < ticket)
-  pub differ : (j k : ℕ) (v w : View) (t : ℕ) → At views j v → At views k w → v.ticket ≡ Some t → w.ticket ≡ Some t → j ≡ k
+  pub differ : (j k : ℕ) (v w : View) (t : ℕ) → At views j v → At views k w
+      → v.ticket ≡ Some t → w.ticket ≡ Some t → j ≡ k
   pub noted : (j : ℕ) (v : View) (n : ℕ) → At views j v → v.note ≡ Some n → n ≤ serving
 
 module _ {T : Type 0} (entries : T → List Entry) (origin_of : T → List ℕ) where

@@ -1,5 +1,5 @@
 -- What each step on a word tells its seat: `me` and `after` are the seat before and after, `found` the word found.
-use Rattle.std.specs.Prelude.{◌≡◌, ◌≢◌, ◌<◌, ℕ, true, ◌⊎◌, List, [], ◌∷◌, ◌++◌, length, Option, Some, false}
+use Rattle.std.specs.Prelude.{◌≡◌, ◌≢◌, ◌<◌, ℕ, true, false, ◌⊎◌, List, [], ◌∷◌, ◌++◌, length, Option, Some}
 use Rattle.atomic_table.specs.Table.{Me, Step}
 use Rattle.hm_model.specs.declared.entry.Entry.{Entry}
 use Rattle.hm_model.specs.Entries.{calls_of}
@@ -20,10 +20,13 @@ pub record Wins {T : Type 0} (entries : T → List Entry) (origin_of : T → Lis
 
 -- a ticket is drawn where it was the next, and else nothing is learnt
 abbrev pub drawn : {T : Type 0} → Step (Option T) → Me (Option T) View → ℕ → Me (Option T) View → Type 0
-drawn st me found after = (found ≡ st.first → after ≡ (drawing me.0 st.first, me.1)) × (found ≢ st.first → after ≡ me)
+drawn st me found after =
+    (found ≡ st.first → after ≡ (drawing me.0 st.first, me.1))
+    × (found ≢ st.first → after ≡ me)
 
 -- a seat with a ticket reads the number served: the turn is got where it is the seat's own, and else the number is noted
-abbrev pub awaited : {T : Type 0} → (T → List Entry) → (T → List ℕ) → Step (Option T) → Me (Option T) View → ℕ → Me (Option T) View → Type 0
+abbrev pub awaited : {T : Type 0} → (T → List Entry) → (T → List ℕ)
+    → Step (Option T) → Me (Option T) View → ℕ → Me (Option T) View → Type 0
 awaited entries origin_of st me found after =
     (me.0.ticket ≡ Some found → Wins entries origin_of me.0 after)
     × (me.0.ticket ≢ Some found → after ≡ (noting me.0 found, me.1))
@@ -34,7 +37,8 @@ observed st me found after = after ≡ (finding me.0 found, me.1)
 
 -- the number noted is asked for: where it was the next to draw the turn is got at once,
 -- and else another had drawn it, and the seat was outrun
-abbrev pub asked : {T : Type 0} → (T → List Entry) → (T → List ℕ) → Step (Option T) → Me (Option T) View → ℕ → Me (Option T) View → Type 0
+abbrev pub asked : {T : Type 0} → (T → List Entry) → (T → List ℕ)
+    → Step (Option T) → Me (Option T) View → ℕ → Me (Option T) View → Type 0
 asked entries origin_of st me found after =
     (found ≡ st.first → Wins entries origin_of (drawing me.0 st.first) after)
     × (found ≢ st.first → (st.first < found) × (after ≡ (outrun me.0, me.1)))
