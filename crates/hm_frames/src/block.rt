@@ -73,11 +73,7 @@ pub(crate) fn allocate<A: Allocator>(alloc: &A, len: usize) -> Option<(Start, Co
     ensures { IfSome result (λ r. (r.1.at ≡ r.0.ptr) × (r.1.bytes ≡ []) × (r.1.room ≡ len) × (r.2.at ≡ r.0.ptr) × (r.2.len ≡ len) × (r.2.alloc ≡ alloc.now)) }
 {
     match alloc.allocate(len, 1) {
-        Ok(ptr) => Some((
-            Start { ptr },
-            Contents {},
-            Lease { mark: PhantomData },
-        )),
+        Ok(ptr) => Some((Start { ptr }, Contents {}, Lease { mark: PhantomData })),
         Err(_) => None,
     }
 }

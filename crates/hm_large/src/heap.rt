@@ -282,7 +282,13 @@ impl<P: Pages> LargeHeap<P> {
                         mark_failed(&mut self.store, addr, block);
                         let call = Call::GiveBack { addr, stated };
                         self.entries
-                            .push_reserved(Entry::plain(who, call, Reply::PagesFailed, before, now));
+                            .push_reserved(Entry::plain(
+                                who,
+                                call,
+                                Reply::PagesFailed,
+                                before,
+                                now,
+                            ));
                         Ok(Reply::PagesFailed)
                     }
                 }

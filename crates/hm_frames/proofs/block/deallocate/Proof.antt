@@ -45,8 +45,16 @@ deallocate_spec 𝓤 𝓛 𝓜 𝓡 wired A L g d dd met md =
     let stays : Stays En₀.signature.params En₀.kept = (stay_dropped (slot_at 0 ps) ks.0, (stay_dropped (slot_at 1 ps) ks.1.0, (stay_dropped (slot_at 2 ps) ks.1.1.0, (stay_dropped (slot_at 3 ps) ks.1.1.1.0, (stay_dropped (slot_at 4 ps) ks.1.1.1.1.0, tt))))) in
     let C = (tables 𝓤 H 𝓜 𝓡 𝓡.env).C in
     let Λ = (tables 𝓤 H 𝓜 𝓡 𝓡.env).Λ in
-    proved_at 𝓛 En₀ stays c 𝓜 𝓡 (Goes-dropped 𝓛 2 (slot_at 0 ps) ks.0 (λ κs x f. refl), (Goes-dropped 𝓛 2 (slot_at 1 ps) ks.1.0 (λ κs x f. refl), (Goes-dropped 𝓛 2 (slot_at 2 ps) ks.1.1.0 (λ κs x f. refl),
-    (Goes-blank 𝓛 2 (slot_at 3 ps) ks.1.1.1.0 (λ κs x f. tt), (Goes-blank 𝓛 2 (slot_at 4 ps) ks.1.1.1.1.0 (λ κs x f. tt), tt)))))
+    proved_at 𝓛 En₀ stays c 𝓜 𝓡 (
+      Goes-dropped 𝓛 2 (slot_at 0 ps) ks.0 (λ κs x f. refl),
+      (
+        Goes-dropped 𝓛 2 (slot_at 1 ps) ks.1.0 (λ κs x f. refl),
+        (
+          Goes-dropped 𝓛 2 (slot_at 2 ps) ks.1.1.0 (λ κs x f. refl),
+          (Goes-blank 𝓛 2 (slot_at 3 ps) ks.1.1.1.0 (λ κs x f. tt), (Goes-blank 𝓛 2 (slot_at 4 ps) ks.1.1.1.1.0 (λ κs x f. tt), tt)),
+        ),
+      ),
+    )
     (#self args) fn (compiled.unfolded 𝓤 H 𝓜 𝓡 wired (A, tt) d dd) (λ z are.
     let Post : Val → SProp 𝓤 = (walk_of 𝓛 En₀ stays c).post z in
     let a = z.0.3 in let vss = z.0.4 in

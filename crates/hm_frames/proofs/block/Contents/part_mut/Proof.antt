@@ -49,8 +49,13 @@ abbrev Cr : RattleType
 Cr = contents.the_row
 
 abbrev stays : Stays f.ended.signature.params f.ended.kept
-stays = (stay_dropped (mut_ref_to (0 ∷ []) tt (plain (λ _. Cr))) f.ended.kept.0, (stay_dropped (slot_at 1 f.ended.signature.params) f.ended.kept.1.0,
-    (stay_dropped (slot_at 2 f.ended.signature.params) f.ended.kept.1.1.0, (stay_dropped (slot_at 3 f.ended.signature.params) f.ended.kept.1.1.1.0, tt))))
+stays = (
+  stay_dropped (mut_ref_to (0 ∷ []) tt (plain (λ _. Cr))) f.ended.kept.0,
+  (
+    stay_dropped (slot_at 1 f.ended.signature.params) f.ended.kept.1.0,
+    (stay_dropped (slot_at 2 f.ended.signature.params) f.ended.kept.1.1.0, (stay_dropped (slot_at 3 f.ended.signature.params) f.ended.kept.1.1.1.0, tt)),
+  ),
+)
 
 module _ {M : Type 1} {𝓤 : Ura M} (𝓛 : Logic 𝓤) (rb ro : ℕ) (d : Cr.Denot) (from len : ℕ) (vs : List Val) (b o : ℕ) (le : from + len ≤ length d.bytes) where
   abbrev pub new : List ℕ → Cr.Denot
@@ -68,7 +73,7 @@ module _ {M : Type 1} {𝓤 : Ura M} (𝓛 : Logic 𝓤) (rb ro : ℕ) (d : Cr.D
       let count : length old ≡ len = omega (arith, le, length-take len (drop_l from xs), length-drop from xs) in
       let all : refill len old ws ≡ ws = take_front ws (drop_l (length ws) old) len (same ∙ count) in
       let long : length (new ws).bytes ≡ length xs = ap (λ l. length (take from xs ++ (l ++ rest))) all
-          ∙ omega (arith, le, same, count, length-append (take from xs) (ws ++ rest), length-append ws rest, length-take from xs, length-drop (from + len) xs) in
+      ∙ omega (arith, le, same, count, length-append (take from xs) (ws ++ rest), length-append ws rest, length-take from xs, length-drop (from + len) xs) in
       qed 𝓛 (‵ (cells (mem u8) ws b (from + o)) ∷ ‵ Rest ∷ []) ∵ use1 𝓛 (‵ (bytes full_share ws b (from + o))) (of_cells 𝓛 ws b (from + o)) $
       move ! (1 ∷ []) $ fsplit ! $ move ! (2 ∷ 0 ∷ []) $
       use2 𝓛 (‵ (bytes full_share (take from xs ++ (ws ++ rest)) b o)) (part_in 𝓛 b o xs from len le ws (same ∙ count)) $
@@ -87,8 +92,13 @@ part_mut_spec 𝓤 𝓛 𝓜 𝓡 wired =
     let fn : Fn = code.function in
     let C = (tables 𝓤 H 𝓜 𝓡 𝓡.env).C in
     let Λ = (tables 𝓤 H 𝓜 𝓡 𝓡.env).Λ in
-    proved_at 𝓛 f.ended stays c 𝓜 𝓡 (Goes-spent_ref 𝓛 1 (0 ∷ []) tt (plain (λ _. Cr)), (Goes-dropped 𝓛 1 (slot_at 1 f.ended.signature.params) f.ended.kept.1.0 (λ κs x w. refl),
-    (Goes-dropped 𝓛 1 (slot_at 2 f.ended.signature.params) f.ended.kept.1.1.0 (λ κs x w. refl), (Goes-dropped 𝓛 1 (slot_at 3 f.ended.signature.params) f.ended.kept.1.1.1.0 (λ κs x w. refl), tt))))
+    proved_at 𝓛 f.ended stays c 𝓜 𝓡 (
+      Goes-spent_ref 𝓛 1 (0 ∷ []) tt (plain (λ _. Cr)),
+      (
+        Goes-dropped 𝓛 1 (slot_at 1 f.ended.signature.params) f.ended.kept.1.0 (λ κs x w. refl),
+        (Goes-dropped 𝓛 1 (slot_at 2 f.ended.signature.params) f.ended.kept.1.1.0 (λ κs x w. refl), (Goes-dropped 𝓛 1 (slot_at 3 f.ended.signature.params) f.ended.kept.1.1.1.0 (λ κs x w. refl), tt)),
+      ),
+    )
     f.Key.name fn (code.unfolded 𝓤 H 𝓜 𝓡 wired) (λ z are.
     let Post : Val → SProp 𝓤 = (walk_of 𝓛 f.ended stays c).post z in
     let a = z.0.3 in let vss = z.0.4 in

@@ -47,8 +47,13 @@ push_spec 𝓤 𝓛 𝓜 𝓡 wired =
     let fn : Fn = code.function in
     let C = (tables 𝓤 H 𝓜 𝓡 𝓡.env).C in
     let Λ = (tables 𝓤 H 𝓜 𝓡 𝓡.env).Λ in
-    proved_at 𝓛 f.ended stays c 𝓜 𝓡 (Goes-ref 𝓛 1 0 tt (plain (λ _. Cr)), (Goes-dropped 𝓛 1 (slot_at 1 f.ended.signature.params) f.ended.kept.1.0 (λ κs x w. refl),
-    (Goes-dropped 𝓛 1 (slot_at 2 f.ended.signature.params) f.ended.kept.1.1.0 (λ κs x w. refl), (Goes-dropped 𝓛 1 (slot_at 3 f.ended.signature.params) f.ended.kept.1.1.1.0 (λ κs x w. refl), tt))))
+    proved_at 𝓛 f.ended stays c 𝓜 𝓡 (
+      Goes-ref 𝓛 1 0 tt (plain (λ _. Cr)),
+      (
+        Goes-dropped 𝓛 1 (slot_at 1 f.ended.signature.params) f.ended.kept.1.0 (λ κs x w. refl),
+        (Goes-dropped 𝓛 1 (slot_at 2 f.ended.signature.params) f.ended.kept.1.1.0 (λ κs x w. refl), (Goes-dropped 𝓛 1 (slot_at 3 f.ended.signature.params) f.ended.kept.1.1.1.0 (λ κs x w. refl), tt)),
+      ),
+    )
     f.Key.name fn (code.unfolded 𝓤 H 𝓜 𝓡 wired) (λ z are.
     let Post : Val → SProp 𝓤 = (walk_of 𝓛 f.ended stays c).post z in
     let a = z.0.3 in let vss = z.0.4 in
