@@ -262,7 +262,9 @@ fn pages_that_lend_nothing(rt: HostRuntime) -> Result<(), Fail> {
     let (block, _) = given(allot(&mut region, 200_000)?);
     assert!(rt; matches!(fetch_one(&mut region, block)?, Reply::Trap { addr } if addr == block));
     let runs = Runs::same(alloc, 7, 100)?;
-    assert!(rt; matches!(fill_at(&mut region, block, &runs)?, Reply::Trap { addr } if addr == block));
+    assert!(rt;
+        matches!(fill_at(&mut region, block, &runs)?, Reply::Trap { addr } if addr == block)
+    );
     assert!(rt; matches!(region.give_back(WHO, block, None)?, Reply::Freed));
     Ok(())
 }
