@@ -1,5 +1,5 @@
 -- `all` shows the bytes that a `&` to the contents lends. Assumes `Logic`.
-use Rattle.std.proofs.Common.{◌≡◌, ℕ, ◌*◌, ◌<◌, ◌^◌, List, [], ◌∷◌, ◌++◌, length, refl, sym, ap, ◌∙◌, arith, w64}
+use Rattle.std.proofs.Common.{◌≡◌, ℕ, ◌*◌, ◌^◌, List, [], ◌∷◌, ◌++◌, length, refl, ap, ◌∙◌, arith, w64}
 use base.Fraction.{full_share}
 use mir.Syntax.{Fn}
 use mir.Val.{Val, vptr, vint}

@@ -1,11 +1,11 @@
 -- `push` takes the room of one byte, writes it, and glues it to the bytes before it. Assumes `Logic`.
-use Rattle.std.proofs.Common.{◌≡◌, ℕ, suc, ◌+◌, ◌-◌, ◌<◌, ◌^◌, List, [], ◌∷◌, ◌++◌, length, refl, sym, ap, ◌∙◌, arith, w8, w64}
+use Rattle.std.proofs.Common.{◌≡◌, ℕ, suc, ◌+◌, ◌-◌, ◌<◌, ◌^◌, List, [], ◌∷◌, ◌++◌, length, refl, sym, ◌∙◌, arith, w8, w64}
 use Rattle.std.proofs.lemmas.List.{length-append}
 use base.Fraction.{full_share}
 use mir.Syntax.{Fn, ty_int}
 use mir.Val.{Val, vptr, vint, vunit}
 use base.Logic.{SProp, id⊢, never}
-use base.Fml.{Lft, Share, GName, ftrue, fat, froom, flft}
+use base.Fml.{Lft, Share, ftrue, fat, froom, flft}
 use prog.Wp.{Env, WpFn}
 use contract.Monad.{fact}
 use contract.Running.{tables}
