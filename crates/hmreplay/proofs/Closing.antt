@@ -19,7 +19,7 @@ use Rattle.hmreplay.specs.Scripts.{Settings, Runs}
 
 module _ {P : Type 0} (meaning : pages.Ghosts P) where
   abbrev termed : ℕ → Config → ℕ → ClassId → Bool → Terms
-  termed number c arena class tells = record { config = c; shape = drawn_shape number c arena class; meaning.told = tells }
+  termed number c arena class tells = record { config = c; shape = drawn_shape number c arena class; told = tells }
 
   terms_are : (r : Region P) → IsFirstRegion r → region_terms meaning.told r ≡ terms (meaning.told r.pages)
   terms_are r is =

@@ -82,7 +82,7 @@ module _ {P : Type 0} where
 
   -- what was given last lies inside
   pub given_inside : (meaning : pages.Ghosts P) (old new : Region P) (who : Who) (size : ℕ) (reply : Reply)
-      → IsFirstRegion new → IsRegion meaning new → Added meaning.faults old new who (Allot size 1) reply → IfSome (given_by reply) IsInside
+      → IsFirstRegion new → IsRegion meaning new → Added meaning old new who (Allot size 1) reply → IfSome (given_by reply) IsInside
   given_inside meaning old new who size reply is region added =
       let t : Terms = region_terms meaning.told new in
       let e : Entry = entry_of who (Allot size 1) reply added.choices added.draws (meaning.faults old.pages) (meaning.faults new.pages) in

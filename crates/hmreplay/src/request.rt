@@ -1,5 +1,5 @@
 //! What a step asks of the region at an address.
-ghost use Rattle.std.specs.Prelude.{◌<◌, ◌^◌, IfOk};
+ghost use Rattle.std.specs.Prelude.{◌≡◌, ◌<◌, ◌^◌, IfOk};
 ghost use Rattle.hm_class.specs.Calls.{Added};
 ghost use Rattle.hm_class.specs.Region.{IsRegion, origin};
 ghost use Rattle.hmreplay.specs.Requests.{call_at, IsMeasured};
