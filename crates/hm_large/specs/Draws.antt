@@ -3,35 +3,26 @@ use Rattle.std.specs.Prelude.{◌≡◌, ℕ, zero, suc, List, Option, Some, Non
 use Rattle.std.specs.Bool.{MatchBool}
 use Rattle.hm_choice.specs.Stream.{Words, start_of, next_word, after_word}
 use Rattle.hm_model.specs.declared.entry.Entry.{Entry}
-use Rattle.hm_model.specs.declared.entry.Draws.{Draws}
 use Rattle.hm_model.specs.declared.entry.Call.{Call}
 use Rattle.hm_model.specs.declared.entry.Call.TheVariants.{Allot, GiveBack}
 use Rattle.hm_model.specs.declared.entry.Reply.{Reply}
 use Rattle.hm_model.specs.declared.entry.Reply.TheVariants.{Freed}
+use Rattle.hm_model.specs.Calls.{no_words, one_word}
 use Rattle.hm_model.specs.Machine.{Legal}
 use Rattle.hm_model.specs.Maps.{at}
 use Rattle.hm_quarantine.specs.LookingBack.{released}
+use Rattle.hm_sizes.specs.Origins.{large_region_number}
 use Rattle.hm_large.specs.Blocks.{Block, size_for, guard_of, is_quarantined}
 use Rattle.hm_large.specs.State.{State, start, step, array_length, ring_length, free_of}
 
--- the number of the large region's stream
-abbrev pub stream_number : ℕ
-stream_number = 196
-
--- the stream of a run once so many of its words are taken
+-- the stream of a run once so many of its words are taken; its number is the region's
 abbrev pub stream_after : ℕ → ℕ → Words
-stream_after seed zero = start_of seed stream_number
+stream_after seed zero = start_of seed large_region_number
 stream_after seed (suc n) = after_word (stream_after seed n)
 
 -- the next word after so many
 abbrev pub word_after : ℕ → ℕ → ℕ
 word_after seed n = next_word (stream_after seed n)
-
-abbrev pub no_words : Draws
-no_words = record { used = 0; w0 = 0; w1 = 0; w2 = 0 }
-
-abbrev pub one_word : ℕ → Draws
-one_word word = record { used = 1; w0 = word; w1 = 0; w2 = 0 }
 
 -- the free of a block that goes into quarantine holds the next word, and releases what looking back finds; that of any
 -- other holds none

@@ -1,10 +1,13 @@
 -- The large region as callers see it.
 use Rattle.std.specs.Prelude.{◌≡◌, ℕ, ◌≤◌, Bool, IsTrue, List, option_map}
 use Rattle.std.specs.FinMap as map
+use Rattle.hm_outside.specs.declared.pages.Pages as pages
 use Rattle.hm_outside.specs.PageRuns.{PageRuns}
 use Rattle.hm_model.specs.declared.entry.Entry.{Entry}
 use Rattle.hm_model.specs.Maps.{at}
 use Rattle.hm_sizes.specs.declared.config.Config.{Config}
+use Rattle.hm_sizes.specs.Configs.{IsValid}
+use Rattle.hm_sizes.specs.Origins.{Origin, large_region_number}
 use Rattle.hm_large.specs.Blocks.{Block, Blocks, owed}
 use Rattle.hm_large.specs.State.{State}
 use Rattle.hm_large.specs.Rules.{Terms, IsLegal, state}
@@ -31,11 +34,16 @@ module _ {P : Type 0} (told : P → Bool) where
   abbrev pub region_state : Region P → State
   region_state r = state (terms r) r.entries
 
+-- the region that it is
+abbrev pub origin : {P : Type 0} → (P → Bool) → Region P → Origin
+origin told r = record { config = r.config; number = r.number; region = large_region_number; told = told r.pages }
+
 -- the history is legal and drawn, and the pages and the room for entries are what it says
-pub record IsRegion {P : Type 0} (told : P → Bool) (runs : P → PageRuns) (faults : P → ℕ) (r : Region P) : Type 0 where
-  pub legal : IsLegal (terms told r) r.entries
+pub record IsRegion {P : Type 0} (meaning : pages.Ghosts P) (r : Region P) : Type 0 where
+  pub valid : IsValid r.config
+  pub legal : IsLegal (terms meaning.told r) r.entries
   pub drawn : IsDrawn r.number r.entries
-  pub count : faults r.pages ≡ (region_state told r).faults
-  pub pages : IsTrue (told r.pages) → HoldsBlocks (region_state told r).live (runs r.pages)
+  pub count : meaning.faults r.pages ≡ (region_state meaning.told r).faults
+  pub held : IsTrue (meaning.told r.pages) → HoldsBlocks (region_state meaning.told r).live (meaning.runs r.pages)
   -- an entry for the free of each live block of which no free failed
-  pub room : owed (region_state told r).live ≤ r.spare
+  pub room : owed (region_state meaning.told r).live ≤ r.spare

@@ -1,6 +1,6 @@
 //! Allotting a large block: its guard is drawn, the lowest place that fits is found, and its pages are made
 //! accessible.
-ghost use Rattle.std.specs.Prelude.{◌≡◌, ◌+◌, ◌-◌, ◌*◌, ◌%◌, ◌^◌, ◌<◌, ◌≤◌, ℕ, IsTrue, Bool, false, IfOk, OnOk, OnErr, Some, None, vec_len};
+ghost use Rattle.std.specs.Prelude.{◌≡◌, ◌+◌, ◌-◌, ◌*◌, ◌%◌, ◌^◌, ◌<◌, ◌≤◌, ℕ, IsTrue, false, IfOk, OnOk, OnErr, Some, None};
 ghost use Rattle.std.specs.FinMap as map;
 ghost use Rattle.std.specs.Ordering.{nat_cmp};
 ghost use Rattle.std.specs.BTreeMap as tree;
@@ -8,13 +8,10 @@ ghost use Rattle.hm_choice.specs.Stream.{next_word, after_word};
 ghost use Rattle.hm_outside.specs.PageRuns.{MeetsNone, zeros};
 ghost use Rattle.hm_outside.specs.Causes.{HasRefusalCause};
 ghost use Rattle.hm_space.specs.Space.{IsFreeRange, TakesRange};
-ghost use Rattle.hm_sizes.specs.Configs.{IsValid};
 ghost use Rattle.hm_sizes.specs.declared.config.Config.{Config};
 ghost use Rattle.hm_large.specs.Blocks.{size_for, guard_of};
 ghost use Rattle.hm_large.specs.State.{State};
 ghost use Rattle.hm_large.specs.Rules.{IsAlignment};
-ghost use Rattle.hm_large.specs.Laws.{IsSound};
-ghost use Rattle.hm_large.specs.Region.{HoldsBlocks};
 ghost use Rattle.hm_large.specs.Kept.{Shows};
 ghost use Rattle.hm_large.specs.Stored.{Allots, Declines, Stands};
 ghost use Rattle.hm_large.specs.declared.store.KeptBlock.{KeptBlock};
@@ -129,10 +126,10 @@ pub fn allot<P: Pages>(
     requires stands { Stands (P.told pages.old) (P.runs pages.old) store.old }
     ensures told { P.told pages.new ≡ P.told pages.old }
     ensures owed { store.new.owed ≤ store.old.owed + 1 }
-    ensures allots { IfOk result (λ attempt. (c : Config) (number : ℕ) (s : State) → IsSound c s → Shows c number s store.old
-        → Allots P.told P.runs P.faults c number s asked align store.new pages.old pages.new attempt) }
+    ensures allots { IfOk result (λ attempt. (c : Config) (number : ℕ) (s : State) → Shows c number s store.old
+        → Allots P.Pages c number s asked align store.new pages.old pages.new attempt) }
     ensures declines { OnErr result ((c : Config) (number : ℕ) (s : State) → Shows c number s store.old
-        → Declines P.told P.runs P.faults c number s store.new pages.old pages.new) }
+        → Declines P.Pages c number s store.new pages.old pages.new) }
 {
     store.space.reserve_two()?;
     let size = size_of_block(asked);

@@ -1,17 +1,14 @@
 //! Taking a large block back: one below 32 MiB goes into quarantine, and what leaves that gives its range
 //! back; a greater one gives its range back at once.
-ghost use Rattle.std.specs.Prelude.{◌≡◌, ◌+◌, ◌-◌, ◌*◌, ◌^◌, ◌<◌, ◌≤◌, ℕ, true, false, if◌then◌else◌, IfSome, IsSome, Some, None};
+ghost use Rattle.std.specs.Prelude.{◌≡◌, ◌+◌, ◌-◌, ◌*◌, ◌<◌, ◌≤◌, ℕ, true, false, if◌then◌else◌, IfSome, IsSome, Some, None};
 ghost use Rattle.std.specs.Ordering.{nat_cmp};
 ghost use Rattle.std.specs.BTreeMap as tree;
-ghost use Rattle.hm_choice.specs.Stream.{next_word, after_word, drawn};
 ghost use Rattle.hm_model.specs.Maps.{at};
-ghost use Rattle.hm_quarantine.specs.Quarantine.{let_go, kept_with};
 ghost use Rattle.hm_sizes.specs.declared.config.Config.{Config};
-ghost use Rattle.hm_sizes.specs.Configs.{IsValid};
 ghost use Rattle.hm_large.specs.Blocks.{Block, marked};
 ghost use Rattle.hm_large.specs.State.{State};
 ghost use Rattle.hm_large.specs.Laws.{IsSound};
-ghost use Rattle.hm_large.specs.Kept.{Shows, kept_of};
+ghost use Rattle.hm_large.specs.Kept.{Shows};
 ghost use Rattle.hm_large.specs.Stored.{GoesBack, GaveBack, StandsLive, Frees};
 ghost use Rattle.hm_large.specs.declared.store.KeptBlock.{KeptBlock};
 
@@ -66,8 +63,8 @@ fn replace(store: &mut Store, addr: u64, block: KeptBlock)
 /// Takes a live block back, its pages being dropped already.
 pub fn release(store: &mut Store, addr: u64, block: KeptBlock) -> Freeing
     requires { StandsLive store.old addr block }
-    ensures frees { (c : Config) (number : ℕ) (s : State) (x : Block) → IsValid c → IsSound c s → Shows c number s store.old → at addr s.live ≡ Some x
-        → Frees c number s addr x store.new result }
+    ensures frees { (c : Config) (number : ℕ) (s : State) (x : Block) → IsSound c s → Shows c number s store.old
+        → at addr s.live ≡ Some x → Frees c number s addr x store.new result }
     ensures owed { store.new.owed + (if block.failed then 0 else 1) ≡ store.old.owed }
 {
     uncount(store, block.failed);
@@ -103,8 +100,8 @@ pub fn release(store: &mut Store, addr: u64, block: KeptBlock) -> Freeing
 /// used up.
 pub fn mark_failed(store: &mut Store, addr: u64, block: KeptBlock)
     requires { StandsLive store.old addr block }
-    ensures shows { (c : Config) (number : ℕ) (s : State) (x : Block) → IsSound c s → Shows c number s store.old → at addr s.live ≡ Some x
-        → Shows c number (record s { live = marked addr s.live }) store.new }
+    ensures shows { (c : Config) (number : ℕ) (s : State) (x : Block) → IsSound c s → Shows c number s store.old
+        → at addr s.live ≡ Some x → Shows c number (record s { live = marked addr s.live }) store.new }
     ensures owed { store.new.owed + (if block.failed then 0 else 1) ≡ store.old.owed }
 {
     uncount(store, block.failed);

@@ -3,3 +3,5 @@ pub mod Entries
 pub mod Machine
 pub mod Maps
 pub mod Overlaid
+pub mod Calls
+pub mod Replies

@@ -1,4 +1,7 @@
 //! One call of a region and its reply, with what was chosen and drawn: an entry of the region's history.
+ghost use Rattle.std.specs.Prelude.{◌≡◌};
+ghost use Rattle.hm_model.specs.Calls.{no_choices, no_words, one_word, entry_of};
+
 use crate::Runs;
 
 /// Who makes a call: the caller, and the script's round, thread and step. `part` numbers the region
@@ -92,4 +95,65 @@ pub struct Entry {
     pub draws: Draws,
     pub faults_before: u64,
     pub faults_after: u64,
+}
+
+impl Choices {
+    /// Nothing is chosen.
+    pub fn none() -> Choices
+        ensures { result ≡ no_choices }
+    {
+        Choices {
+            canary: None,
+            opened: None,
+            released: None,
+            retired: None,
+            purged: None,
+            unparked: None,
+            guard: None,
+        }
+    }
+}
+
+impl Draws {
+    /// No word is drawn.
+    pub fn none() -> Draws
+        ensures { result ≡ no_words }
+    {
+        Draws {
+            used: 0,
+            w0: 0,
+            w1: 0,
+            w2: 0,
+        }
+    }
+
+    /// One word is drawn.
+    pub fn one(word: u32) -> Draws
+        ensures { result ≡ one_word word }
+    {
+        Draws {
+            used: 1,
+            w0: word,
+            w1: 0,
+            w2: 0,
+        }
+    }
+}
+
+impl Entry {
+    /// The entry of a call that chose nothing and drew no word. `before` and `now` are the counts of page
+    /// faults at its start and end.
+    pub fn plain(who: Who, call: Call, reply: Reply, before: u64, now: u64) -> Entry
+        ensures { result ≡ entry_of who call reply no_choices no_words before now }
+    {
+        Entry {
+            who,
+            call,
+            reply,
+            choices: Choices::none(),
+            draws: Draws::none(),
+            faults_before: before,
+            faults_after: now,
+        }
+    }
 }
