@@ -27,7 +27,8 @@ use Rattle.core.proofs.alloc.Calls.{Al, seen, Goes-blank, Gives, at_gives, Gives
 use Rattle.core.proofs.alloc.Shapes.{after}
 use Rattle.core.proofs.atomic.Steps.{fm}
 use Rattle.std.proofs.raw_atomic.Walks.{proved_at, leaves}
-use Rattle.hm_frames.proofs.Memory.{slot_at, then_runs, out_of_block, start_val, start_told, contents_val, contents_told, lease_val, lease_told}
+use Rattle.linked_list_allocator.proofs.Walks.{slot_at, then_runs, out_of_block}
+use Rattle.hm_frames.proofs.Memory.{start_val, start_told, contents_val, contents_told, lease_val, lease_told}
 use Rattle.hm_frames.specs.Ownership.{bytes_type, contents_own}
 use Rattle.hm_frames.specs.contracts.block.deallocate.{ended, clauses}
 use Rattle.hm_frames.specs.contracts.block.deallocate.Key.{name as #self}

@@ -41,7 +41,8 @@ use Rattle.hm_frames.specs.ContentsLends.{with_bytes}
 use Rattle.hm_frames.specs.contracts.block.Contents as contents
 use Rattle.hm_frames.specs.contracts.block.Start as start
 use Rattle.hm_frames.specs.contracts.block.Contents.part_mut as f
-use Rattle.hm_frames.proofs.Memory.{slot_at, start_val, start_told, start_typed, contents_own_val, Around, part_out, part_in, as_cells, of_cells}
+use Rattle.linked_list_allocator.proofs.Walks.{slot_at}
+use Rattle.hm_frames.proofs.Memory.{start_val, start_told, start_typed, contents_own_val, Around, part_out, part_in, as_cells, of_cells}
 use Rattle.hm_frames.proofs.block.Contents.part_mut.Statement.{statement}
 use Rattle.hm_frames.proofs.block.Contents.part_mut.Code as code
 

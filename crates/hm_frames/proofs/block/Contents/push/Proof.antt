@@ -30,7 +30,8 @@ use Rattle.hm_frames.specs.Ownership.{bytes_type, contents_own}
 use Rattle.hm_frames.specs.contracts.block.Contents as contents
 use Rattle.hm_frames.specs.contracts.block.Start as start
 use Rattle.hm_frames.specs.contracts.block.Contents.push as f
-use Rattle.hm_frames.proofs.Memory.{slot_at, start_val, start_told, start_typed}
+use Rattle.linked_list_allocator.proofs.Walks.{slot_at}
+use Rattle.hm_frames.proofs.Memory.{start_val, start_told, start_typed}
 use Rattle.hm_frames.proofs.block.Contents.push.Statement.{statement}
 use Rattle.hm_frames.proofs.block.Contents.push.Code as code
 
