@@ -1,14 +1,18 @@
 -- Laws of sizes, shapes and places.
-use Rattle.std.specs.Prelude.{◌≡◌, ◌≢◌, ℕ, ◌+◌, ◌*◌, ◌%◌, ◌^◌, ◌<◌, ◌≤◌, ◌↔◌, ◌⊎◌}
+use Rattle.std.specs.Prelude.{◌≡◌, ◌≢◌, ℕ, ◌+◌, ◌*◌, ◌%◌, ◌^◌, ◌<◌, ◌≤◌, ◌↔◌, ◌⊎◌, max}
+use Rattle.hm_outside.specs.declared.region.RegionId.{RegionId}
 use Rattle.hm_sizes.specs.declared.config.Config.{Config}
 use Rattle.hm_sizes.specs.declared.class.ClassId.{ClassId}
 use Rattle.hm_sizes.specs.declared.class.Kind.{Kind}
 use Rattle.hm_sizes.specs.declared.class.Kind.TheVariants.{Small, Large, TooLarge}
 use Rattle.hm_sizes.specs.declared.shape.Shape.{Shape}
-use Rattle.hm_sizes.specs.Classes.{class_count, class_size}
+use Rattle.hm_sizes.specs.declared.home.Home.TheVariants.{Class, Large as LargeHome}
+use Rattle.hm_sizes.specs.Classes.{class_count, slot_size, class_size}
 use Rattle.hm_sizes.specs.Sizes.{block_size, large_size, IsKindOf}
+use Rattle.hm_sizes.specs.Aligned.{IsAlignment, IsAlignedKindOf}
 use Rattle.hm_sizes.specs.Configs.{IsValid}
 use Rattle.hm_sizes.specs.Shapes.{region_start, shape_of, slab_at, slab_of, slot_of, after, IsShape, IsGuard, IsPlace, IsPlaceOf}
+use Rattle.hm_sizes.specs.Homes.{region_of, home_of, IsInRegion, IsInLargeSpace}
 
 -- ---- sizes
 -- a later class has greater blocks
@@ -81,3 +85,56 @@ RegionsApart = (c : Config) (arena class other_arena other_class : ℕ) → clas
 -- all of them end below the large space
 abbrev pub RegionsBelow : Type 0
 RegionsBelow = (c : Config) (arena class : ℕ) → IsValid c → arena < c.arenas → class < class_count → region_end c arena class ≤ 2 ^ 46
+
+-- ---- homes
+-- the range that a class region reserves is that of its number
+abbrev pub ReservesItsSpace : Type 0
+ReservesItsSpace = (c : Config) (arena class a : ℕ) → arena < c.arenas → class < class_count
+    → region_start c arena class ≤ a → a < region_end c arena class → IsInRegion c (region_of arena class).0 a
+
+-- the home of each address that a class region reserves is that region
+abbrev pub HomesOfRegions : Type 0
+HomesOfRegions = (c : Config) (region : RegionId) (a : ℕ) → IsValid c → IsInRegion c region.0 a → home_of c a ≡ Class region
+
+-- the home of each address of a slab is its region
+abbrev pub HomesOfSlabs : Type 0
+HomesOfSlabs = (c : Config) (arena : ℕ) (class : ClassId) (gap n a : ℕ) → IsValid c → arena < c.arenas → class.0 < class_count
+    → gap ≤ c.class_region → n < (shape_of c arena class gap).limit
+    → slab_at (shape_of c arena class gap) n ≤ a → a < slab_at (shape_of c arena class gap) n + (shape_of c arena class gap).slab
+    → home_of c a ≡ Class (region_of arena class.0)
+
+-- the home of each place is its region
+abbrev pub HomesOfPlaces : Type 0
+HomesOfPlaces = (c : Config) (arena : ℕ) (class : ClassId) (gap a : ℕ) → IsValid c → arena < c.arenas → class.0 < class_count
+    → gap ≤ c.class_region → IsPlace (shape_of c arena class gap) a → home_of c a ≡ Class (region_of arena class.0)
+
+-- the home of each byte of the large space is the large region
+abbrev pub HomesOfLarge : Type 0
+HomesOfLarge = (c : Config) (a : ℕ) → IsValid c → IsInLargeSpace c a → home_of c a ≡ LargeHome
+
+-- two class regions share no address
+abbrev pub RegionsShareNone : Type 0
+RegionsShareNone = (c : Config) (region other a : ℕ) → IsInRegion c region a → IsInRegion c other a → region ≡ other
+
+-- and none shares one with the large space
+abbrev pub LargeSharesNone : Type 0
+LargeSharesNone = (c : Config) (region a : ℕ) → IsValid c → IsInRegion c region a → IsInLargeSpace c a → ⊥
+
+-- ---- alignments
+-- the slots of a class that was chosen for an alignment are multiples of it, and so are the pages where slabs begin
+pub record IsServedBy (align class : ℕ) : Type 0 where
+  pub below : class < class_count
+  pub pages : align ≤ 4096
+  pub multiple : slot_size class % align ≡ 0
+
+abbrev pub ChoosesMultiples : Type 0
+ChoosesMultiples = (asked align : ℕ) (class : ClassId) → IsAlignment align → IsAlignedKindOf asked align (Small class) → IsServedBy align class.0
+
+-- a place of the class that was chosen for an alignment is a multiple of it
+abbrev pub PlacesAligned : Type 0
+PlacesAligned = (p : Shape) (asked align a : ℕ) → IsShape p → p.slot ≡ slot_size p.class.0
+    → IsAlignment align → IsAlignedKindOf asked align (Small p.class) → IsPlace p a → a % align ≡ 0
+
+-- a page at a multiple of an alignment, as a large block has it
+abbrev pub PagesAligned : Type 0
+PagesAligned = (align a : ℕ) → IsAlignment align → a % max align 4096 ≡ 0 → a % align ≡ 0

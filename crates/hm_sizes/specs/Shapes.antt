@@ -5,9 +5,13 @@ use Rattle.hm_sizes.specs.declared.class.ClassId.{ClassId}
 use Rattle.hm_sizes.specs.declared.shape.Shape.{Shape}
 use Rattle.hm_sizes.specs.Classes.{slot_size, slot_count, slab_size, quarantine_length}
 
--- where the space of a class region begins
+-- where the space of the class region of this number begins
+abbrev pub reserved_start : Config → ℕ → ℕ
+reserved_start c region = 2 ^ 40 + region * (2 * c.class_region)
+
+-- where the space of the region of this class in this arena begins
 abbrev pub region_start : Config → ℕ → ℕ → ℕ
-region_start c arena class = 2 ^ 40 + (arena * 49 + class) * (2 * c.class_region)
+region_start c arena class = reserved_start c (arena * 49 + class)
 
 -- the numbers of a class region
 abbrev pub shape_of : Config → ℕ → ClassId → ℕ → Shape

@@ -22,7 +22,7 @@ pub enum Kind {
 }
 
 /// The greatest request that is served.
-const GREATEST: u64 = 1 << 30;
+pub(crate) const GREATEST: u64 = 1 << 30;
 /// The greatest request that is raised, by the 8 bytes of a canary.
 const GREATEST_RAISED: u64 = 131072;
 

@@ -1,9 +1,19 @@
 //! Laws of sizes, shapes and places. Each function does nothing: its contract is the law.
 ghost use Rattle.hm_sizes.specs.Laws.{
+  ChoosesMultiples,
+  HomesOfLarge,
+  HomesOfPlaces,
+  HomesOfRegions,
+  HomesOfSlabs,
+  LargeSharesNone,
   LargeSizes,
+  PagesAligned,
+  PlacesAligned,
   ReadsPlaces,
   RegionsApart,
   RegionsBelow,
+  RegionsShareNone,
+  ReservesItsSpace,
   SizesAgree,
   SizesAscend,
   SkipsGuards,
@@ -39,4 +49,24 @@ pub fn region_laws()
     ensures within { SlabsLieWithin }
     ensures apart { RegionsApart }
     ensures below { RegionsBelow }
+{}
+
+/// The home of each byte that a region reserves, of each slab and of each place, is that region, and that
+/// of each byte of the large space the large one; no two regions share an address.
+pub fn home_laws()
+    ensures reserved { ReservesItsSpace }
+    ensures regions { HomesOfRegions }
+    ensures slabs { HomesOfSlabs }
+    ensures places { HomesOfPlaces }
+    ensures large { HomesOfLarge }
+    ensures apart { RegionsShareNone }
+    ensures apart_large { LargeSharesNone }
+{}
+
+/// A block of the class that was chosen for an alignment begins at a multiple of it; and so does one that
+/// begins at a multiple of the alignment and of a page, as a large one does.
+pub fn aligned_laws()
+    ensures chosen { ChoosesMultiples }
+    ensures places { PlacesAligned }
+    ensures pages { PagesAligned }
 {}

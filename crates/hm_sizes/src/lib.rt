@@ -2,6 +2,7 @@
 //! memory.
 #![tactic(auto)]
 
+mod aligned;
 mod class;
 mod config;
 mod home;
@@ -10,11 +11,14 @@ mod laws;
 mod shape;
 mod table;
 
+pub use aligned::class_aligned;
 pub use class::{ClassId, Kind, block_size, class_of, raised};
 pub use config::Config;
-pub use home::Home;
+pub use home::{Home, home_of};
 pub use large::large_size;
-pub use laws::{guard_law, large_laws, place_laws, region_laws, size_laws};
+pub use laws::{
+    aligned_laws, guard_law, home_laws, large_laws, place_laws, region_laws, size_laws,
+};
 pub use shape::{Shape, place_of, shape_of};
 
 #[cfg(test)]

@@ -8,7 +8,7 @@ use crate::table::{CLASSES, numbers_of};
 use crate::{ClassId, Config};
 
 /// Where the address space of the class regions begins.
-const REGIONS_START: u64 = 1 << 40;
+pub(crate) const REGIONS_START: u64 = 1 << 40;
 
 /// The numbers of one class region. Sizes are in bytes.
 #[derive(Clone, Copy, Debug, PartialEq, Eq, Drop)]
@@ -83,7 +83,6 @@ pub fn place_of(shape: &Shape, addr: u64) -> Option<(u64, u32)>
 impl Shape {
     /// Whether the slab of this number is a guard.
     pub fn is_guard(&self, slab: u64) -> bool
-        requires { self.now.guard_interval ≤ 8 }
         ensures { result ≡ is_guard self.now slab }
     {
         slab % (u64::from(self.guard_interval) + 1) == u64::from(self.guard_interval)
@@ -98,10 +97,9 @@ impl Shape {
 
     /// The bytes of a slot that its owner may use: all but the canary's 8.
     pub fn usable(&self) -> u64
-        requires { 16 ≤ self.now.slot }
         ensures { result ≡ usable self.now }
     {
-        if self.has_bytes() { self.slot - 8 } else { 0 }
+        if self.has_bytes() { self.slot.saturating_sub(8) } else { 0 }
     }
 
     /// The size of a block: a slot's, but 0 in class 0.

@@ -1,0 +1,48 @@
+//! Where a request goes whose block is to begin at a multiple of an alignment.
+ghost use Rattle.std.specs.Prelude.{◌↔◌, IsTrue};
+ghost use Rattle.hm_sizes.specs.Aligned.{IsAlignment, AlignedGives};
+
+use crate::class::GREATEST;
+use crate::large::large_size;
+use crate::table::SIZE_CLASSES;
+use crate::{ClassId, Kind, class_of, raised};
+
+/// The greatest alignment.
+const MOST_ALIGNMENT: u64 = 1 << 21;
+
+/// Up to it each class serves: all slot sizes are multiples of it.
+const EACH_SLOT: u64 = 16;
+
+/// Up to it classes serve: slabs stand at multiples of it.
+const EACH_SLAB: u64 = 4096;
+
+/// Where a request goes whose block is to begin at a multiple of `align`: nowhere where that is no power
+/// of two up to 2^21.
+pub fn class_aligned(asked: u64, align: u64) -> Option<Kind>
+    ensures { AlignedGives asked align result }
+{
+    if !is_alignment(align) {
+        return None;
+    }
+    if align <= EACH_SLOT {
+        return Some(class_of(asked));
+    }
+    if asked > GREATEST {
+        return Some(Kind::TooLarge);
+    }
+    let size = raised(asked);
+    let class = SIZE_CLASSES
+        .iter()
+        .position(|class| class.slot >= size && class.slot.is_multiple_of(align));
+    match class {
+        Some(class) if align <= EACH_SLAB => Some(Kind::Small(ClassId(class as u8))),
+        _ => Some(Kind::Large(large_size(size))),
+    }
+}
+
+/// Whether this is a power of two up to 2^21.
+fn is_alignment(align: u64) -> bool
+    ensures { IsTrue result ↔ IsAlignment align }
+{
+    align.is_power_of_two() && align <= MOST_ALIGNMENT
+}
