@@ -64,6 +64,8 @@ is_row class lt = record {
 -- the bounds of a class's numbers
 pub record IsBounded (class : ℕ) : Type 0 where
   pub slot_least : 16 ≤ slot_size class
+  pub slot_most : slot_size class ≤ 131072
+  pub slot_whole : slot_size class % 16 ≡ 0
   pub slots_some : 1 ≤ slot_count class
   pub slots_most : slot_count class ≤ 256
   pub slots_fit : slot_count class * slot_size class ≤ slab_size class
@@ -76,6 +78,8 @@ pub is_bounded : (class : ℕ) → class < 49 → IsBounded class
 unfolding count_leading_zeros
 is_bounded class lt = record {
   slot_least = at_most _ _ (passes (λ k. nat_le 16 (slot_size k)) refl class lt);
+  slot_most = at_most _ _ (passes (λ k. nat_le (slot_size k) 131072) refl class lt);
+  slot_whole = same _ _ (passes (λ k. slot_size k % 16 == 0) refl class lt);
   slots_some = at_most _ _ (passes (λ k. nat_le 1 (slot_count k)) refl class lt);
   slots_most = at_most _ _ (passes (λ k. nat_le (slot_count k) 256) refl class lt);
   slots_fit = at_most _ _ (passes (λ k. nat_le (slot_count k * slot_size k) (slab_size k)) refl class lt);

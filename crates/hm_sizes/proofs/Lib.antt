@@ -5,3 +5,6 @@ pub mod Digits
 pub mod Requests
 pub mod Guards
 pub mod LargeSizes
+pub mod Alignments
+pub mod Ranges
+pub mod AlignedClasses

@@ -11,7 +11,7 @@ pub record HasPlaces (p : Shape) : Type 0 where
   pub slot_some : 1 ≤ p.slot
   pub slots_fit : p.slots * p.slot ≤ p.slab
 
-slot_row : (slot i n : ℕ) → i < n → i * slot + slot ≤ n * slot
+pub slot_row : (slot i n : ℕ) → i < n → i * slot + slot ≤ n * slot
 slot_row slot i n lt = grind (arith, rows)
 
 -- the numbers of a place, read from its address

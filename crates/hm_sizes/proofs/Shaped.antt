@@ -30,7 +30,7 @@ space_most : (region half : ℕ) → region + 1 ≤ 196 → half ≤ 2 ^ 35 → 
 space_most region half most small = omega (arith, mul-le (region + 1) (2 * half) 196 (2 ^ 36) most (omega arith))
 
 -- whole slabs below a size
-slabs_within : (size slab : ℕ) → size / slab * slab ≤ size
+pub slabs_within : (size slab : ℕ) → size / slab * slab ≤ size
 slabs_within size slab = omega (arith, div-add-mod' size slab)
 
 quotient_most : (size slab : ℕ) → size ≤ 2 ^ 35 → 4096 ≤ slab → size / slab ≤ 2 ^ 23

@@ -1,6 +1,6 @@
 //! Where a request goes whose block is to begin at a multiple of an alignment.
-ghost use Rattle.std.specs.Prelude.{◌↔◌, IsTrue};
-ghost use Rattle.hm_sizes.specs.Aligned.{IsAlignment, AlignedGives};
+ghost use Rattle.std.specs.Prelude.{ℕ, ◌<◌, ◌↔◌, IsTrue, MatchOption};
+ghost use Rattle.hm_sizes.specs.Aligned.{IsAlignment, ServesAligned, IsLeastAligned, AlignedGives};
 
 use crate::class::GREATEST;
 use crate::large::large_size;
@@ -31,13 +31,20 @@ pub fn class_aligned(asked: u64, align: u64) -> Option<Kind>
         return Some(Kind::TooLarge);
     }
     let size = raised(asked);
-    let class = SIZE_CLASSES
-        .iter()
-        .position(|class| class.slot >= size && class.slot.is_multiple_of(align));
-    match class {
-        Some(class) if align <= EACH_SLAB => Some(Kind::Small(ClassId(class as u8))),
+    match least_aligned(size, align) {
+        Some(class) if align <= EACH_SLAB => Some(Kind::Small(class)),
         _ => Some(Kind::Large(large_size(size))),
     }
+}
+
+/// The least class whose slots hold `size` bytes and stand at multiples of `align`.
+fn least_aligned(size: u64, align: u64) -> Option<ClassId>
+    requires { 16 < align }
+    ensures { MatchOption result ((class : ℕ) → ¬ ServesAligned size align class) (λ class. IsLeastAligned size align class.0) }
+{
+    let class = SIZE_CLASSES.iter().position(|class| class.slot >= size
+        && class.slot.is_multiple_of(align))?;
+    Some(ClassId(class as u8))
 }
 
 /// Whether this is a power of two up to 2^21.

@@ -99,7 +99,11 @@ impl Shape {
     pub fn usable(&self) -> u64
         ensures { result ≡ usable self.now }
     {
-        if self.has_bytes() { self.slot.saturating_sub(8) } else { 0 }
+        if self.has_bytes() {
+            self.slot.saturating_sub(8)
+        } else {
+            0
+        }
     }
 
     /// The size of a block: a slot's, but 0 in class 0.

@@ -1,4 +1,7 @@
-use crate::{ClassId, Config, Kind, Shape, class_of, place_of, shape_of};
+use crate::{
+    ClassId, Config, Home, Kind, Shape, class_aligned, class_of, home_of, place_of, shape_of,
+};
+use hm_outside::RegionId;
 
 /// Slot, slots, slab, length of the quarantine's parts and greatest request, class by class.
 const CLASSES: [(u64, u32, u64, u32, u32); 49] = [
@@ -93,6 +96,26 @@ fn requests(rt: HostRuntime) {
 }
 
 #[test]
+fn aligned_requests(rt: HostRuntime) {
+    for (asked, align, kind) in [
+        (100, 64, Some(Kind::Small(ClassId(8)))),
+        (1, 4096, Some(Kind::Small(ClassId(28)))),
+        (10, 3, None),
+        (131064, 16, Some(Kind::Small(ClassId(48)))),
+        (131065, 32, Some(Kind::Large(163840))),
+        (1, 2097152, Some(Kind::Large(4096))),
+        (1, 4194304, None),
+        (0, 0, None),
+        (0, 16, Some(Kind::Small(ClassId(0)))),
+        (0, 32, Some(Kind::Small(ClassId(2)))),
+        (1 << 31, 32, Some(Kind::TooLarge)),
+        (1 << 31, 48, None),
+    ] {
+        assert_eq!(rt; class_aligned(asked, align), kind, "{asked} at {align}");
+    }
+}
+
+#[test]
 fn places(rt: HostRuntime) {
     let first = (1 << 40) + 4096;
     let shape = Shape {
@@ -140,6 +163,35 @@ fn region_numbers(rt: HostRuntime) {
     assert_eq!(rt; shape.first, (1 << 40) + (49 + 33) * 2097152 + 8192);
     assert_eq!(rt; (shape.limit, shape.guard_interval), (17, 8));
     assert_eq!(rt; (shape.array, shape.ring), (16, 0));
+}
+
+/// The first and the last address of each region, and those beside them.
+#[test]
+fn homes(rt: HostRuntime) {
+    let config = Config {
+        arenas: 2,
+        class_region: 1 << 20,
+        large_space: 1 << 21,
+        ..Config::standard()
+    };
+    for region in 0..98 {
+        let start = (1 << 40) + u64::from(region) * 2097152;
+        let home = Home::Class(RegionId(region));
+        assert_eq!(rt; home_of(&config, start), home);
+        assert_eq!(rt; home_of(&config, start + 2097151), home);
+    }
+    for (addr, home) in [
+        ((1 << 40) - 1, Home::Outside),
+        ((1 << 40) + 98 * 2097152, Home::Outside),
+        ((1 << 46) - 1, Home::Outside),
+        (1 << 46, Home::Large),
+        ((1 << 46) + 2097151, Home::Large),
+        ((1 << 46) + 2097152, Home::Outside),
+        (0, Home::Outside),
+        (u64::MAX, Home::Outside),
+    ] {
+        assert_eq!(rt; home_of(&config, addr), home, "at {addr}");
+    }
 }
 
 #[test]
