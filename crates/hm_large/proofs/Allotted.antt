@@ -6,7 +6,7 @@ use Rattle.std.proofs.lemmas.Nat.{mod_below}
 use Rattle.hm_choice.specs.Stream.{Words, next_word, after_word, before_word}
 use Rattle.hm_choice.proofs.Places.{comes_again}
 use Rattle.hm_model.specs.Maps.{at}
-use Rattle.hm_outside.specs.PageRuns.{PageRuns}
+use Rattle.hm_outside.specs.declared.pages.Pages as pages
 use Rattle.hm_space.specs.Space.{FreeSpace, IsFreeRange, TakesRange}
 use Rattle.hm_sizes.specs.declared.config.Config.{Config}
 use Rattle.hm_sizes.specs.Configs.{IsValid}
@@ -87,10 +87,10 @@ pub found_least : (c : Config) (n : ℕ) (s : State) (k d : Store) (space : Free
 found_least c n s k d space align size guard a e ranges out found h =
     same_least c s (suc s.words) align size guard a (found c n (record s { words = suc s.words }) (shows_drawn c n s k d space e ranges out h))
 
-module _ {P : Type 0} (told : P → Bool) (runs : P → PageRuns) (faults : P → ℕ) (c : Config) (n : ℕ) (s : State) (asked align : ℕ) (k d : Store) (space : FreeSpace) (old now : P) (size word guard : ℕ) where
+module _ {P : Type 0} (meaning : pages.Ghosts P) (c : Config) (n : ℕ) (s : State) (asked align : ℕ) (k d : Store) (space : FreeSpace) (old now : P) (size word guard : ℕ) where
   -- what an attempt has of the word, once it is known how it ends
-  pub allots_from : (o : Outcome) (new : Store) → Shows c n s k → size ≡ size_for asked → word ≡ next_word k.words → guard ≡ guard_of size word → Ends told runs faults c n s asked align new old now guard o
-      → Allots told runs faults c n s asked align new old now (record { word = word; guard = guard; outcome = o })
+  pub allots_from : (o : Outcome) (new : Store) → Shows c n s k → size ≡ size_for asked → word ≡ next_word k.words → guard ≡ guard_of size word → Ends meaning c n s asked align new old now guard o
+      → Allots meaning c n s asked align new old now (record { word = word; guard = guard; outcome = o })
   allots_from o new h e drawn by ends = record { word = drawn ∙ ap next_word h.words; guard = by ∙ ap (λ z. guard_of z word) e; ends = ends }
 
 -- the table, the free ranges and the count once a block was put in

@@ -10,22 +10,23 @@ use Rattle.hm_model.specs.declared.entry.Call.{Call}
 use Rattle.hm_model.specs.declared.entry.Call.TheVariants as call
 use Rattle.hm_model.specs.declared.entry.Reply.{Reply}
 use Rattle.hm_model.specs.declared.entry.Reply.TheVariants as reply
+use Rattle.hm_model.specs.Calls.{IsRange, no_choices, no_words, entry_of}
 use Rattle.hm_model.specs.Machine.{run_keeps}
 use Rattle.hm_model.specs.Maps.{at, removed}
 use Rattle.hm_model.specs.Overlaid.{overlaid}
 use Rattle.hm_model.specs.Runs.{expand}
 use Rattle.hm_model.proofs.Lists.{same_eq, other_eq, eq_same}
 use Rattle.hm_model.proofs.Overlaid.{overlaid_apart, overlaid_written}
+use Rattle.hm_outside.specs.declared.pages.Pages as pages
 use Rattle.hm_outside.specs.PageRuns.{PageRuns, Reads, Writes, InNone, IsHeld, written}
 use Rattle.hm_sizes.specs.declared.config.Config.{Config}
 use Rattle.hm_large.specs.declared.store.Store.{Store}
 use Rattle.hm_large.specs.Blocks.{Block, Blocks, covers, covered, is_quarantined, is_owed, first_trap, bytes_read, overlay, written_over, mark}
 use Rattle.hm_large.specs.State.{State, start, step, moved, takes_back, releases, free_of}
-use Rattle.hm_large.specs.Rules.{Allowed, state, chose_none}
-use Rattle.hm_large.specs.Draws.{Drawn, EntryDraws, no_words}
+use Rattle.hm_large.specs.Rules.{Allowed, state}
+use Rattle.hm_large.specs.Draws.{Drawn, EntryDraws}
 use Rattle.hm_large.specs.Laws.{IsSound}
 use Rattle.hm_large.specs.Region.{HoldsBlocks}
-use Rattle.hm_large.specs.Calls.{entry_of}
 use Rattle.hm_large.specs.Kept.{kept_or, Shows, IsKept, AreGuarded}
 use Rattle.hm_large.specs.Stored.{HeldByNone}
 use Rattle.hm_large.proofs.BlockLists.{placed_at, covers_own, how_many_same, length_same}
@@ -33,7 +34,7 @@ use Rattle.hm_large.proofs.Places.{spans_from}
 use Rattle.hm_large.proofs.Tables.{map_test}
 use Rattle.hm_large.proofs.Accessed.{bytes_there, byte_there, no_trap, two_covered}
 use Rattle.hm_large.proofs.Legal.{live_once}
-use Rattle.hm_large.proofs.Entries.{terms_of, run_same, kept_sound, kept_plain, kept_push, shows_step, none_drawn}
+use Rattle.hm_large.proofs.Entries.{AreSame, all_same, terms_of, run_same, kept_sound, kept_plain, kept_push, shows_step, none_drawn}
 
 -- ---- each live block has a guard
 guarded_removed : (a : ℕ) (m : Blocks) → AreGuarded m → AreGuarded (removed a m)
@@ -62,9 +63,9 @@ guarded_moved n s e (call.GiveBack a stated) reply.Freed h draws = guarded_freed
 guarded_moved n s e (call.Fill a runs) reply.Filled h draws = guarded_same (overlay a (expand runs)) (λ e. refl) s.live h
 guarded_moved n s e c r h draws = h
 
-pub kept_guarded : (told : Bool) (runs : PageRuns) (faults : ℕ) (c : Config) (n : ℕ) (es : List Entry) (k : Store) → IsKept told runs faults c n es k → AreGuarded (state (terms_of c told) es).live
-kept_guarded told runs faults c n es k h =
-    subst (λ (s : State). AreGuarded s.live) (run_same (Drawn n) (Allowed (terms_of c told)) start es)
+pub kept_guarded : {P : Type 0} (meaning : pages.Ghosts P) (p : P) (c : Config) (n : ℕ) (es : List Entry) (k : Store) → IsKept meaning p c n es k → AreGuarded (state (terms_of c (meaning.told p)) es).live
+kept_guarded meaning p c n es k h =
+    subst (λ (s : State). AreGuarded s.live) (run_same (Drawn n) (Allowed (terms_of c (meaning.told p))) start es)
     (run_keeps step (Drawn n) (λ s. AreGuarded s.live) (λ s e g draws. guarded_moved n s e e.call e.reply g draws) start es tt h.drawn)
 
 -- ---- reading
@@ -183,40 +184,48 @@ shows_written c n s k a w h = record {
 }
 
 -- ---- entries
-module _ (told : Bool) (runs : PageRuns) (faults : ℕ) (c : Config) (n : ℕ) (es : List Entry) (k : Store) (who : Who) (a : ℕ) where
-  pub kept_fetched : (len : ℕ) (found : List (ℕ × ℕ)) → 1 ≤ len → len ≤ 2 ^ 30 → a < 2 ^ 47 → IsKept told runs faults c n es k → length (expand found) ≡ len → (IsTrue told → Reads runs a len (expand found))
-      → IsKept told runs faults c n (es ++ entry_of who (call.Fetch a len) (reply.Bytes found) chose_none no_words faults faults ∷ []) k
-  kept_fetched len found some most low h count reads =
-      kept_plain told runs faults c n es k (entry_of who (call.Fetch a len) (reply.Bytes found) chose_none no_words faults faults) h refl refl refl
-      ((some, most, low), (count, (λ tells. reads_blocks c (state (terms_of c told) es) runs a len (expand found) (kept_sound told runs faults c n es k h) (h.pages tells) (reads tells)), refl), refl, refl)
+module _ {P : Type 0} (meaning : pages.Ghosts P) (p : P) (c : Config) (n : ℕ) (es : List Entry) (k : Store) (who : Who) (a : ℕ) where
+  -- the bytes that the pages told
+  pub kept_fetched : (len : ℕ) (found : List (ℕ × ℕ)) → IsRange a len → IsKept meaning p c n es k → length (expand found) ≡ len → (IsTrue (meaning.told p) → Reads (meaning.runs p) a len (expand found))
+      → IsKept meaning p c n (es ++ entry_of who (call.Fetch a len) (reply.Bytes found) no_choices no_words (meaning.faults p) (meaning.faults p) ∷ []) k
+  kept_fetched len found asks h count reads =
+      kept_plain meaning p p c n es k (entry_of who (call.Fetch a len) (reply.Bytes found) no_choices no_words (meaning.faults p) (meaning.faults p)) h (all_same meaning p) refl refl refl
+      (asks, (count, (λ tells. reads_blocks c (state (terms_of c (meaning.told p)) es) (meaning.runs p) a len (expand found) (kept_sound meaning p c n es k h) (h.held tells) (reads tells)), refl), refl, refl)
 
-  pub kept_untold : (len trap : ℕ) → 1 ≤ len → len ≤ 2 ^ 30 → a < 2 ^ 47 → IsKept told runs faults c n es k → (IsTrue told → first_trap (state (terms_of c told) es).live a len ≡ Some trap)
-      → IsKept told runs faults c n (es ++ entry_of who (call.Fetch a len) (reply.Trap trap) chose_none no_words faults faults ∷ []) k
-  kept_untold len trap some most low h is =
-      kept_plain told runs faults c n es k (entry_of who (call.Fetch a len) (reply.Trap trap) chose_none no_words faults faults) h refl refl refl ((some, most, low), (is, refl), refl, refl)
+  -- the pages told no bytes
+  pub kept_untold : (len : ℕ) (trap : ℕ) → IsRange a len → IsKept meaning p c n es k → (IsTrue (meaning.told p) → first_trap (state (terms_of c (meaning.told p)) es).live a len ≡ Some trap)
+      → IsKept meaning p c n (es ++ entry_of who (call.Fetch a len) (reply.Trap trap) no_choices no_words (meaning.faults p) (meaning.faults p) ∷ []) k
+  kept_untold len trap asks h is =
+      kept_plain meaning p p c n es k (entry_of who (call.Fetch a len) (reply.Trap trap) no_choices no_words (meaning.faults p) (meaning.faults p)) h (all_same meaning p) refl refl refl (asks, (is, refl), refl, refl)
 
-  pub kept_trapped : (found : List (ℕ × ℕ)) (trap : ℕ) → 1 ≤ length (expand found) → length (expand found) ≤ 2 ^ 30 → a < 2 ^ 47 → IsKept told runs faults c n es k
-      → (IsTrue told → first_trap (state (terms_of c told) es).live a (length (expand found)) ≡ Some trap)
-      → IsKept told runs faults c n (es ++ entry_of who (call.Fill a found) (reply.Trap trap) chose_none no_words faults faults ∷ []) k
-  kept_trapped found trap some most low h is =
-      kept_plain told runs faults c n es k (entry_of who (call.Fill a found) (reply.Trap trap) chose_none no_words faults faults) h refl refl refl ((some, most, low), (is, refl), refl, refl)
+  -- nothing was written
+  pub kept_trapped : (now : P) (found : List (ℕ × ℕ)) (trap : ℕ) → IsRange a (length (expand found)) → IsKept meaning p c n es k → AreSame meaning p now
+      → (IsTrue (meaning.told p) → first_trap (state (terms_of c (meaning.told p)) es).live a (length (expand found)) ≡ Some trap)
+      → IsKept meaning now c n (es ++ entry_of who (call.Fill a found) (reply.Trap trap) no_choices no_words (meaning.faults p) (meaning.faults p) ∷ []) k
+  kept_trapped now found trap asks h same is =
+      kept_plain meaning p now c n es k (entry_of who (call.Fill a found) (reply.Trap trap) no_choices no_words (meaning.faults p) (meaning.faults p)) h same refl refl refl (asks, (is, refl), refl, refl)
 
-  pub kept_filled : (after : PageRuns) (found : List (ℕ × ℕ)) → 1 ≤ length (expand found) → length (expand found) ≤ 2 ^ 30 → a < 2 ^ 47 → IsKept told runs faults c n es k
-      → (IsTrue told → Writes runs a (length (expand found)) (expand found) after)
-      → IsKept told after faults c n (es ++ entry_of who (call.Fill a found) reply.Filled chose_none no_words faults faults ∷ []) k
-  kept_filled after found some most low h writes =
-      let t = terms_of c told in
+  pub kept_filled : (now : P) (found : List (ℕ × ℕ)) → IsRange a (length (expand found)) → IsKept meaning p c n es k → meaning.told now ≡ meaning.told p → meaning.faults now ≡ meaning.faults p
+      → (IsTrue (meaning.told p) → Writes (meaning.runs p) a (length (expand found)) (expand found) (meaning.runs now))
+      → IsKept meaning now c n (es ++ entry_of who (call.Fill a found) reply.Filled no_choices no_words (meaning.faults p) (meaning.faults p) ∷ []) k
+  kept_filled now found asks h telling count writes =
+      let t = terms_of c (meaning.told p) in
       let s : State = state t es in
-      let e = entry_of who (call.Fill a found) reply.Filled chose_none no_words faults faults in
-      let sound = kept_sound told runs faults c n es k h in
-      let reads = λ (tells : IsTrue told). (let w = writes tells in (let r : Reads runs a (length (expand found)) (take (length (expand found)) (drop (a - w.first) w.bytes)) = record { first = w.first; bytes = w.bytes; is_run = w.is_run; lies = w.lies; value = refl } in r)) in
+      let len : ℕ = length (expand found) in
+      let e = entry_of who (call.Fill a found) reply.Filled no_choices no_words (meaning.faults p) (meaning.faults p) in
+      let sound = kept_sound meaning p c n es k h in
+      let reads = λ (tells : IsTrue (meaning.told p)). (let w = writes tells in (let r : Reads (meaning.runs p) a len (take len (drop (a - w.first) w.bytes)) = record { first = w.first; bytes = w.bytes; is_run = w.is_run; lies = w.lies; value = refl } in r)) in
       let allowed : Allowed t s e = record {
         draws = none_drawn;
-        asks = (some, most, low);
+        asks = asks;
         follows = h.count;
         later = omega arith;
-        allows = ((λ tells. (reads_blocks c s runs a (length (expand found)) _ sound (h.pages tells) (reads tells)).0), refl);
+        allows = ((λ tells. (reads_blocks c s (meaning.runs p) a len _ sound (h.held tells) (reads tells)).0), refl);
       } in
-      kept_push told runs after faults faults c n es k k e h
-      (allowed, refl, (λ tells. writes_blocks c s runs after a (expand found) sound (h.pages tells) (writes tells)), shows_step c n (record s { live = written_over a (expand found) s.live }) k (0 + s.words) faults (shows_written c n s k a (expand found) h.shows) (omega arith))
-      refl
+      kept_push meaning p now c n es k k e h telling (
+        allowed,
+        refl,
+        (λ tells. writes_blocks c s (meaning.runs p) (meaning.runs now) a (expand found) sound (h.held tells) (writes tells)),
+        shows_step c n (record s { live = written_over a (expand found) s.live }) k (0 + s.words) (meaning.faults p) (shows_written c n s k a (expand found) h.shows) (omega arith),
+      )
+      count

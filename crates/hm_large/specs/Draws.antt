@@ -3,11 +3,11 @@ use Rattle.std.specs.Prelude.{◌≡◌, ℕ, zero, suc, List, Option, Some, Non
 use Rattle.std.specs.Bool.{MatchBool}
 use Rattle.hm_choice.specs.Stream.{Words, start_of, next_word, after_word}
 use Rattle.hm_model.specs.declared.entry.Entry.{Entry}
-use Rattle.hm_model.specs.declared.entry.Draws.{Draws}
 use Rattle.hm_model.specs.declared.entry.Call.{Call}
 use Rattle.hm_model.specs.declared.entry.Call.TheVariants.{Allot, GiveBack}
 use Rattle.hm_model.specs.declared.entry.Reply.{Reply}
 use Rattle.hm_model.specs.declared.entry.Reply.TheVariants.{Freed}
+use Rattle.hm_model.specs.Calls.{no_words, one_word}
 use Rattle.hm_model.specs.Machine.{Legal}
 use Rattle.hm_model.specs.Maps.{at}
 use Rattle.hm_quarantine.specs.LookingBack.{released}
@@ -26,12 +26,6 @@ stream_after seed (suc n) = after_word (stream_after seed n)
 -- the next word after so many
 abbrev pub word_after : ℕ → ℕ → ℕ
 word_after seed n = next_word (stream_after seed n)
-
-abbrev pub no_words : Draws
-no_words = record { used = 0; w0 = 0; w1 = 0; w2 = 0 }
-
-abbrev pub one_word : ℕ → Draws
-one_word word = record { used = 1; w0 = word; w1 = 0; w2 = 0 }
 
 -- the free of a block that goes into quarantine holds the next word, and releases what looking back finds; that of any
 -- other holds none

@@ -4,7 +4,7 @@ use Rattle.std.specs.Ordering.{nat_cmp}
 use Rattle.std.specs.BTreeMap as tree
 use Rattle.hm_model.specs.declared.entry.Entry.{Entry}
 use Rattle.hm_model.specs.Maps.{at, keys}
-use Rattle.hm_outside.specs.PageRuns.{PageRuns}
+use Rattle.hm_outside.specs.declared.pages.Pages as pages
 use Rattle.hm_quarantine.specs.Delay.{held, AreNew}
 use Rattle.hm_quarantine.specs.LookingBack.{ArePlaces, kept_after}
 use Rattle.hm_sizes.specs.declared.config.Config.{Config}
@@ -54,10 +54,10 @@ pub record Shows (c : Config) (number : ℕ) (s : State) (k : Store) : Type 0 wh
   pub new : AreNew array_length ring_length s.frees
 
 -- the history is legal and drawn, and the pages and the store are what it says
-pub record IsKept (told : Bool) (runs : PageRuns) (faults : ℕ) (c : Config) (number : ℕ) (es : List Entry) (k : Store) : Type 0 where
+pub record IsKept {P : Type 0} (meaning : pages.Ghosts P) (p : P) (c : Config) (number : ℕ) (es : List Entry) (k : Store) : Type 0 where
   pub valid : IsValid c
-  pub legal : IsLegal (record { config = c; told = told }) es
+  pub legal : IsLegal (record { config = c; told = meaning.told p }) es
   pub drawn : IsDrawn number es
-  pub count : faults ≡ (state (record { config = c; told = told }) es).faults
-  pub pages : IsTrue told → HoldsBlocks (state (record { config = c; told = told }) es).live runs
-  pub shows : Shows c number (state (record { config = c; told = told }) es) k
+  pub count : meaning.faults p ≡ (state (record { config = c; told = meaning.told p }) es).faults
+  pub held : IsTrue (meaning.told p) → HoldsBlocks (state (record { config = c; told = meaning.told p }) es).live (meaning.runs p)
+  pub shows : Shows c number (state (record { config = c; told = meaning.told p }) es) k

@@ -7,6 +7,7 @@ use Rattle.hm_model.specs.declared.entry.Call.TheVariants.{Allot, GiveBack, Meas
 use Rattle.hm_model.specs.declared.entry.Reply.{Reply}
 use Rattle.hm_model.specs.declared.entry.Reply.TheVariants.{Given, NoSpace, PagesFailed, Freed, WrongSize, NotLive, Usable, Bytes, Filled, Trap}
 use Rattle.hm_model.specs.declared.entry.Choices.{Choices}
+use Rattle.hm_model.specs.Calls.{AsksRange, no_choices}
 use Rattle.hm_model.specs.Entries.{AreDraws}
 use Rattle.hm_model.specs.Machine.{run, Legal}
 use Rattle.hm_model.specs.Maps.{at, has, among, removed}
@@ -25,9 +26,6 @@ pub record Terms : Type 0 where
 -- ---- choices
 abbrev pub chose : Option ℕ → Option ℕ → Choices
 chose released guard = record { canary = None; opened = None; released = released; retired = None; purged = None; unparked = None; guard = guard }
-
-abbrev pub chose_none : Choices
-chose_none = chose None None
 
 abbrev pub chose_guard : ℕ → Choices
 chose_guard guard = chose None (Some guard)
@@ -93,14 +91,9 @@ pub record AllowsFreed (s : State) (word : ℕ) (c : Choices) (a : ℕ) (stated 
 abbrev pub IsAlignment : ℕ → Type 0
 IsAlignment align = (k : ℕ) × (k ≤ 21) × (align ≡ 2 ^ k)
 
-abbrev pub IsRange : ℕ → ℕ → Type 0
-IsRange a len = (1 ≤ len) × (len ≤ 2 ^ 30) × (a < 2 ^ 47)
-
 abbrev pub Asks : Call → Type 0
 Asks (Allot asked align) = (asked ≤ 2 ^ 30) × IsAlignment align
-Asks (Fetch a len) = IsRange a len
-Asks (Fill a runs) = IsRange a (length (expand runs))
-Asks call = ⊤
+Asks call = AsksRange call
 
 -- ---- each call with each of its replies
 abbrev pub Allows : Terms → State → Entry → Call → Reply → Type 0
@@ -108,17 +101,17 @@ Allows t s e (Allot asked align) (Given a usable) = AllowsGiven t s (unwrap_or e
 Allows t s e (Allot asked align) NoSpace = AllowsNoSpace t s (unwrap_or e.choices.guard 0) asked align × (e.choices ≡ chose_guard (unwrap_or e.choices.guard 0))
 Allows t s e (Allot asked align) PagesFailed =
     AllowsPagesFailed t s e.faults_before e.faults_after (unwrap_or e.choices.guard 0) asked align × (e.choices ≡ chose_guard (unwrap_or e.choices.guard 0))
-Allows t s e (GiveBack a stated) NotLive = (has a s.live ≡ false) × (e.choices ≡ chose_none)
-Allows t s e (GiveBack a stated) (WrongSize block other) = (wrong_size (at a s.live) stated ≡ Some (block, other)) × (e.choices ≡ chose_none)
-Allows t s e (GiveBack a stated) PagesFailed = (has a s.live ≡ true) × (wrong_size (at a s.live) stated ≡ None) × (e.faults_before < e.faults_after) × (e.choices ≡ chose_none)
+Allows t s e (GiveBack a stated) NotLive = (has a s.live ≡ false) × (e.choices ≡ no_choices)
+Allows t s e (GiveBack a stated) (WrongSize block other) = (wrong_size (at a s.live) stated ≡ Some (block, other)) × (e.choices ≡ no_choices)
+Allows t s e (GiveBack a stated) PagesFailed = (has a s.live ≡ true) × (wrong_size (at a s.live) stated ≡ None) × (e.faults_before < e.faults_after) × (e.choices ≡ no_choices)
 Allows t s e (GiveBack a stated) Freed = AllowsFreed s e.draws.w0 e.choices a stated
-Allows t s e (Measure a) NotLive = (has a s.live ≡ false) × (e.choices ≡ chose_none)
-Allows t s e (Measure a) (Usable size) = (option_map (λ (b : Block). b.size) (at a s.live) ≡ Some size) × (e.choices ≡ chose_none)
+Allows t s e (Measure a) NotLive = (has a s.live ≡ false) × (e.choices ≡ no_choices)
+Allows t s e (Measure a) (Usable size) = (option_map (λ (b : Block). b.size) (at a s.live) ≡ Some size) × (e.choices ≡ no_choices)
 Allows t s e (Fetch a len) (Bytes runs) =
-    (length (expand runs) ≡ len) × (IsTrue t.told → (first_trap s.live a len ≡ None) × (expand runs ≡ bytes_read s.live a len)) × (e.choices ≡ chose_none)
-Allows t s e (Fetch a len) (Trap q) = (IsTrue t.told → first_trap s.live a len ≡ Some q) × (e.choices ≡ chose_none)
-Allows t s e (Fill a runs) Filled = (IsTrue t.told → first_trap s.live a (length (expand runs)) ≡ None) × (e.choices ≡ chose_none)
-Allows t s e (Fill a runs) (Trap q) = (IsTrue t.told → first_trap s.live a (length (expand runs)) ≡ Some q) × (e.choices ≡ chose_none)
+    (length (expand runs) ≡ len) × (IsTrue t.told → (first_trap s.live a len ≡ None) × (expand runs ≡ bytes_read s.live a len)) × (e.choices ≡ no_choices)
+Allows t s e (Fetch a len) (Trap q) = (IsTrue t.told → first_trap s.live a len ≡ Some q) × (e.choices ≡ no_choices)
+Allows t s e (Fill a runs) Filled = (IsTrue t.told → first_trap s.live a (length (expand runs)) ≡ None) × (e.choices ≡ no_choices)
+Allows t s e (Fill a runs) (Trap q) = (IsTrue t.told → first_trap s.live a (length (expand runs)) ≡ Some q) × (e.choices ≡ no_choices)
 Allows t s e call reply = ⊥
 
 pub record Allowed (t : Terms) (s : State) (e : Entry) : Type 0 where

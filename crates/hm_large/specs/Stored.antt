@@ -1,6 +1,7 @@
 -- What allotting and giving back change in the store.
 use Rattle.std.specs.Prelude.{◌≡◌, ℕ, zero, suc, ◌+◌, ◌*◌, ◌-◌, ◌^◌, ◌<◌, ◌≤◌, Bool, false, IsTrue, ◌∷◌, Option, Some, None}
 use Rattle.std.specs.FinMap as map
+use Rattle.hm_outside.specs.declared.pages.Pages as pages
 use Rattle.hm_outside.specs.PageRuns.{PageRuns, zeros}
 use Rattle.std.specs.Bool.{MatchBool}
 use Rattle.hm_model.specs.Maps.{at}
@@ -13,6 +14,7 @@ use Rattle.hm_large.specs.declared.store.Store.{Store}
 use Rattle.hm_model.specs.declared.entry.Reply.{Reply}
 use Rattle.hm_model.specs.declared.entry.Reply.TheVariants as reply
 use Rattle.hm_model.specs.declared.entry.Draws.{Draws}
+use Rattle.hm_model.specs.Calls.{no_words, one_word}
 use Rattle.hm_large.specs.declared.judge.Refusal.{Refusal}
 use Rattle.hm_large.specs.declared.judge.Refusal.TheVariants as refusal
 use Rattle.hm_large.specs.declared.judge.Verdict.{Verdict}
@@ -24,7 +26,7 @@ use Rattle.hm_large.specs.declared.allot.Outcome.TheVariants as outcome
 use Rattle.hm_large.specs.Blocks.{Block, Blocks, size_for, new_block, guard_of, is_quarantined, byte_at}
 use Rattle.hm_large.specs.State.{State, takes_back, releases, free_of, array_length, ring_length}
 use Rattle.hm_large.specs.Rules.{IsCandidate, IsLeastCandidate, Releases, wrong_size}
-use Rattle.hm_large.specs.Draws.{word_after, no_words, one_word}
+use Rattle.hm_large.specs.Draws.{word_after}
 use Rattle.hm_large.specs.Laws.{IsSound}
 use Rattle.hm_large.specs.Region.{HoldsBlocks}
 use Rattle.hm_large.specs.Kept.{kept_of, Shows}
@@ -34,21 +36,23 @@ abbrev pub words_with : Option ℕ → ℕ → ℕ
 words_with None words = words
 words_with (Some word) words = suc words
 
-module _ {P : Type 0} (told : P → Bool) (runs : P → PageRuns) (faults : P → ℕ) where
+module _ {P : Type 0} (meaning : pages.Ghosts P) where
   -- the runs are as before
   abbrev pub SameRuns : P → P → Type 0
-  SameRuns before now = IsTrue (told before) → runs now ≡ runs before
+  SameRuns before now = IsTrue (meaning.told before) → meaning.runs now ≡ meaning.runs before
 
   abbrev pub Ends : Config → ℕ → State → ℕ → ℕ → Store → P → P → ℕ → Outcome → Type 0
   Ends c number s asked align new before now guard (outcome.Given addr) =
       IsLeastCandidate c s align (size_for asked) guard addr
       × Shows c number (record s { live = (addr, new_block asked guard) ∷ s.live; words = suc s.words }) new
-      × (IsTrue (told before) → runs now ≡ map.insert (runs before) addr (zeros (size_for asked)))
-      × (faults before ≤ faults now)
+      × (IsTrue (meaning.told before) → meaning.runs now ≡ map.insert (meaning.runs before) addr (zeros (size_for asked)))
+      × (meaning.faults before ≤ meaning.faults now)
   Ends c number s asked align new before now guard outcome.NoSpace =
-      ((a : ℕ) → IsCandidate c s align (size_for asked) guard a → ⊥) × Shows c number (record s { words = suc s.words }) new × SameRuns before now × (faults now ≡ faults before)
+      ((a : ℕ) → IsCandidate c s align (size_for asked) guard a → ⊥) × Shows c number (record s { words = suc s.words }) new × SameRuns before now
+      × (meaning.faults now ≡ meaning.faults before)
   Ends c number s asked align new before now guard outcome.PagesFailed =
-      ((a : ℕ) × IsCandidate c s align (size_for asked) guard a) × Shows c number (record s { words = suc s.words }) new × SameRuns before now × (faults before < faults now)
+      ((a : ℕ) × IsCandidate c s align (size_for asked) guard a) × Shows c number (record s { words = suc s.words }) new × SameRuns before now
+      × (meaning.faults before < meaning.faults now)
 
   -- the next word was drawn, and the guard by it
   pub record Allots (c : Config) (number : ℕ) (s : State) (asked align : ℕ) (new : Store) (before now : P) (attempt : Attempt) : Type 0 where
@@ -60,7 +64,7 @@ module _ {P : Type 0} (told : P → Bool) (runs : P → PageRuns) (faults : P �
   pub record Declines (c : Config) (number : ℕ) (s : State) (new : Store) (before now : P) : Type 0 where
     pub shows : Shows c number s new
     pub runs_are : SameRuns before now
-    pub count : faults now ≡ faults before
+    pub count : meaning.faults now ≡ meaning.faults before
 
 -- there is a state that the pages and the store show
 pub record Stands (told : Bool) (runs : PageRuns) (k : Store) : Type 0 where

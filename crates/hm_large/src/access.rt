@@ -3,6 +3,7 @@ ghost use Rattle.std.specs.Prelude.{◌≡◌, ◌+◌, ◌<◌, ◌≤◌, ◌^
 ghost use Rattle.std.specs.Ordering.{nat_cmp};
 ghost use Rattle.std.specs.BTreeMap as tree;
 ghost use Rattle.hm_model.specs.Maps.{at};
+ghost use Rattle.hm_model.specs.Replies.{IsWithin};
 ghost use Rattle.hm_model.specs.Runs.{expand, total};
 ghost use Rattle.hm_outside.specs.PageRuns.{InNone, IsHeld, Reads, Writes};
 ghost use Rattle.hm_sizes.specs.declared.config.Config.{Config};
@@ -45,7 +46,8 @@ pub fn trap_from(store: &Store, addr: u64, len: u64) -> u64
     requires some { 1 ≤ len }
     requires low { addr < 2 ^ 47 }
     requires most { len ≤ 2 ^ 30 }
-    ensures { (c : Config) (number : ℕ) (s : State) → IsSound c s → AreGuarded s.live → Shows c number s store.now → HeldByNone s.live addr len
+    ensures within { IsWithin addr len result }
+    ensures first { (c : Config) (number : ℕ) (s : State) → IsSound c s → AreGuarded s.live → Shows c number s store.now → HeldByNone s.live addr len
         → first_trap s.live addr len ≡ Some result }
 {
     let left = live_left(store, addr);

@@ -130,9 +130,9 @@ pub fn allot<P: Pages>(
     ensures told { P.told pages.new ≡ P.told pages.old }
     ensures owed { store.new.owed ≤ store.old.owed + 1 }
     ensures allots { IfOk result (λ attempt. (c : Config) (number : ℕ) (s : State) → IsSound c s → Shows c number s store.old
-        → Allots P.told P.runs P.faults c number s asked align store.new pages.old pages.new attempt) }
+        → Allots P.Pages c number s asked align store.new pages.old pages.new attempt) }
     ensures declines { OnErr result ((c : Config) (number : ℕ) (s : State) → Shows c number s store.old
-        → Declines P.told P.runs P.faults c number s store.new pages.old pages.new) }
+        → Declines P.Pages c number s store.new pages.old pages.new) }
 {
     store.space.reserve_two()?;
     let size = size_of_block(asked);

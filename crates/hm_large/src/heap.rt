@@ -3,13 +3,14 @@
 ghost use Rattle.std.specs.Prelude.{◌≡◌, ◌+◌, ◌-◌, ◌<◌, ◌≤◌, ◌^◌, IsTrue, IsOk, OnOk, IfOk, OnErr, Some, None, true, false, length, vec_len, vec_capacity};
 ghost use Rattle.std.specs.FinMap as map;
 ghost use Rattle.hm_model.specs.Maps.{at};
+ghost use Rattle.hm_model.specs.Calls.{entry_of, one_word};
+ghost use Rattle.hm_model.specs.Replies.{IsLargeReply};
 ghost use Rattle.hm_model.specs.Runs.{expand};
 ghost use Rattle.hm_sizes.specs.Configs.{IsValid};
 ghost use Rattle.hm_large.specs.Blocks.{Block};
 ghost use Rattle.hm_large.specs.Rules.{IsAlignment, chose, chose_guard, wrong_size};
-ghost use Rattle.hm_large.specs.Draws.{one_word, no_words};
-ghost use Rattle.hm_large.specs.Region.{region_state, IsRegion};
-ghost use Rattle.hm_large.specs.Calls.{entry_of, Added, KeepsName, IsBuilt, IsAllotReply, IsGiveBackReply, IsMeasureReply, IsFetchReply, IsFillReply};
+ghost use Rattle.hm_large.specs.Region.{region_state, origin, IsRegion};
+ghost use Rattle.hm_large.specs.Calls.{Added, IsBuilt};
 ghost use Rattle.hm_large.specs.Stored.{attempt_reply, free_draws, measured_reply};
 
 use crate::access::{read, trap_from, write};
@@ -17,7 +18,7 @@ use crate::allot::{Attempt, Outcome, allot, size_of_block};
 use crate::judge::{Refusal, Verdict, judge, live_block};
 use crate::release::{Freeing, mark_failed, release};
 use crate::store::{KeptBlock, PAGE, Store};
-use hm_model::{Call, Choices, Draws, Entry, Reply, Runs, Who};
+use hm_model::{Call, Choices, Counted, Draws, Entry, Reply, Runs, Who};
 use hm_outside::{NoMemory, PageFault, Pages};
 use hm_sizes::Config;
 use std::alloc::Global;
@@ -49,26 +50,17 @@ impl<P: Pages> Model for LargeHeap<P> {
       pages = h.pages;
     } };
 
-    ghost invariant = { λ h. IsKept (P.told h.pages) (P.runs h.pages) (P.faults h.pages) h.config h.number h.entries.items h.store
+    ghost invariant = { λ h. IsKept P.Pages h.pages h.config h.number h.entries.items h.store
         × (h.store.owed ≤ h.entries.cap - h.entries.len) };
 }
 
-const NO_CHOICES: Choices = Choices {
-    canary: None,
-    opened: None,
-    released: None,
-    retired: None,
-    purged: None,
-    unparked: None,
-    guard: None,
-};
+impl<P: Pages> Counted for LargeHeap<P> {
+    ghost counted = { λ h. h.entries };
 
-const NO_DRAWS: Draws = Draws {
-    used: 0,
-    w0: 0,
-    w1: 0,
-    w2: 0,
-};
+    fn count(&self) -> u64 {
+        self.entries.len() as u64
+    }
+}
 
 // The reply to an attempt at allotting.
 fn reply_to(attempt: Attempt, asked: u64) -> Reply
@@ -85,17 +77,6 @@ fn reply_to(attempt: Attempt, asked: u64) -> Reply
     }
 }
 
-// The words of a call that drew one.
-fn drew(word: u32) -> Draws
-    ensures { result ≡ one_word word }
-{
-    Draws {
-        used: 1,
-        w0: word,
-        ..NO_DRAWS
-    }
-}
-
 // The entry of an attempt at allotting. The counts of page faults are those at its start and its end.
 fn allot_entry(who: Who, asked: u64, align: u64, attempt: Attempt, before: u64, now: u64) -> Entry
     requires { asked ≤ 2 ^ 30 }
@@ -107,24 +88,9 @@ fn allot_entry(who: Who, asked: u64, align: u64, attempt: Attempt, before: u64, 
         reply: reply_to(attempt, asked),
         choices: Choices {
             guard: Some(attempt.guard),
-            ..NO_CHOICES
+            ..Choices::none()
         },
-        draws: drew(attempt.word),
-        faults_before: before,
-        faults_after: now,
-    }
-}
-
-// The entry of a call that chose nothing and drew no word.
-fn plain_entry(who: Who, call: Call, reply: Reply, before: u64, now: u64) -> Entry
-    ensures { result ≡ entry_of who call reply (chose None None) no_words before now }
-{
-    Entry {
-        who,
-        call,
-        reply,
-        choices: NO_CHOICES,
-        draws: NO_DRAWS,
+        draws: Draws::one(attempt.word),
         faults_before: before,
         faults_after: now,
     }
@@ -135,8 +101,8 @@ fn draws_of(freeing: Freeing) -> Draws
     ensures { result ≡ free_draws freeing.word }
 {
     match freeing.word {
-        Some(word) => drew(word),
-        None => NO_DRAWS,
+        Some(word) => Draws::one(word),
+        None => Draws::none(),
     }
 }
 
@@ -157,7 +123,7 @@ fn free_entry(
         reply: Reply::Freed,
         choices: Choices {
             released: freeing.released,
-            ..NO_CHOICES
+            ..Choices::none()
         },
         draws: draws_of(freeing),
         faults_before: before,
@@ -266,10 +232,10 @@ impl<P: Pages> LargeHeap<P> {
     pub fn allot(&mut self, who: Who, asked: u64, align: u64) -> Result<Reply, NoMemory>
         requires asked { asked ≤ 2 ^ 30 }
         requires align { IsAlignment align }
-        ensures added { IfOk result (λ reply. Added P.faults self.old self.new who (Call.Allot asked align) reply) }
-        ensures replies { IfOk result IsAllotReply }
+        ensures added { IfOk result (Added P.Pages self.old self.new who (Call.Allot asked align)) }
+        ensures replies { IfOk result (IsLargeReply (Call.Allot asked align)) }
         ensures memory { OnErr result (self.new.entries ≡ self.old.entries) }
-        ensures name { KeepsName P.told self.old self.new }
+        ensures origin { origin P.told self.new ≡ origin P.told self.old }
         ensures region { IsRegion P.Pages self.new }
     {
         self.entries.reserve(self.store.owed + 2)?;
@@ -284,11 +250,11 @@ impl<P: Pages> LargeHeap<P> {
     /// Takes a block back. One that is live and of the right size never lacks memory, unless a page failed
     /// as it was to be taken back before.
     pub fn give_back(&mut self, who: Who, addr: u64, stated: Option<u64>) -> Result<Reply, NoMemory>
-        ensures added { IfOk result (λ reply. Added P.faults self.old self.new who (Call.GiveBack addr stated) reply) }
-        ensures replies { IfOk result IsGiveBackReply }
+        ensures added { IfOk result (Added P.Pages self.old self.new who (Call.GiveBack addr stated)) }
+        ensures replies { IfOk result (IsLargeReply (Call.GiveBack addr stated)) }
         ensures memory { OnErr result (self.new.entries ≡ self.old.entries) }
         ensures accepted { (b : Block) → at addr (region_state P.told self.old).live ≡ Some b → b.failed ≡ false → wrong_size (Some b) stated ≡ None → IsOk result }
-        ensures name { KeepsName P.told self.old self.new }
+        ensures origin { origin P.told self.new ≡ origin P.told self.old }
         ensures region { IsRegion P.Pages self.new }
     {
         let before = self.pages.faults();
@@ -297,7 +263,7 @@ impl<P: Pages> LargeHeap<P> {
                 self.entries.reserve(self.store.owed + 1)?;
                 let call = Call::GiveBack { addr, stated };
                 self.entries
-                    .push_reserved(plain_entry(who, call, refusal.reply(), before, before));
+                    .push_reserved(Entry::plain(who, call, refusal.reply(), before, before));
                 Ok(refusal.reply())
             }
             Verdict::Live(block) => {
@@ -315,7 +281,7 @@ impl<P: Pages> LargeHeap<P> {
                         mark_failed(&mut self.store, addr, block);
                         let call = Call::GiveBack { addr, stated };
                         self.entries
-                            .push_reserved(plain_entry(who, call, Reply::PagesFailed, before, now));
+                            .push_reserved(Entry::plain(who, call, Reply::PagesFailed, before, now));
                         Ok(Reply::PagesFailed)
                     }
                 }
@@ -325,10 +291,10 @@ impl<P: Pages> LargeHeap<P> {
 
     /// How many bytes the block at an address has.
     pub fn measure(&mut self, who: Who, addr: u64) -> Result<Reply, NoMemory>
-        ensures added { IfOk result (λ reply. Added P.faults self.old self.new who (Call.Measure addr) reply) }
-        ensures replies { IfOk result IsMeasureReply }
+        ensures added { IfOk result (Added P.Pages self.old self.new who (Call.Measure addr)) }
+        ensures replies { IfOk result (IsLargeReply (Call.Measure addr)) }
         ensures memory { OnErr result (self.new.entries ≡ self.old.entries) }
-        ensures name { KeepsName P.told self.old self.new }
+        ensures origin { origin P.told self.new ≡ origin P.told self.old }
         ensures region { IsRegion P.Pages self.new }
     {
         self.entries.reserve(self.store.owed + 1)?;
@@ -336,7 +302,7 @@ impl<P: Pages> LargeHeap<P> {
         let block = live_block(&self.store, addr);
         let call = Call::Measure { addr };
         self.entries
-            .push_reserved(plain_entry(who, call, measured(block), faults, faults));
+            .push_reserved(Entry::plain(who, call, measured(block), faults, faults));
         Ok(measured(block))
     }
 
@@ -345,10 +311,10 @@ impl<P: Pages> LargeHeap<P> {
         requires some { 1 ≤ len }
         requires most { len ≤ 2 ^ 30 }
         requires low { addr < 2 ^ 47 }
-        ensures added { IfOk result (λ reply. Added P.faults self.old self.new who (Call.Fetch addr len) reply) }
-        ensures replies { IfOk result IsFetchReply }
+        ensures added { IfOk result (Added P.Pages self.old self.new who (Call.Fetch addr len)) }
+        ensures replies { IfOk result (IsLargeReply (Call.Fetch addr len)) }
         ensures memory { OnErr result (self.new.entries ≡ self.old.entries) }
-        ensures name { KeepsName P.told self.old self.new }
+        ensures origin { origin P.told self.new ≡ origin P.told self.old }
         ensures region { IsRegion P.Pages self.new }
     {
         self.entries.reserve(self.store.owed + 1)?;
@@ -358,7 +324,7 @@ impl<P: Pages> LargeHeap<P> {
                 let reply = Reply::Bytes(runs.copy()?);
                 let call = Call::Fetch { addr, len };
                 self.entries
-                    .push_reserved(plain_entry(who, call, reply, faults, faults));
+                    .push_reserved(Entry::plain(who, call, reply, faults, faults));
                 Ok(Reply::Bytes(runs))
             }
             None => {
@@ -366,7 +332,7 @@ impl<P: Pages> LargeHeap<P> {
                 let reply = Reply::Trap { addr: trap };
                 let call = Call::Fetch { addr, len };
                 self.entries
-                    .push_reserved(plain_entry(who, call, reply, faults, faults));
+                    .push_reserved(Entry::plain(who, call, reply, faults, faults));
                 Ok(Reply::Trap { addr: trap })
             }
         }
@@ -377,10 +343,10 @@ impl<P: Pages> LargeHeap<P> {
         requires some { 1 ≤ length (expand runs.now) }
         requires most { length (expand runs.now) ≤ 2 ^ 30 }
         requires low { addr < 2 ^ 47 }
-        ensures added { IfOk result (λ reply. Added P.faults self.old self.new who (Call.Fill addr runs.now) reply) }
-        ensures replies { IfOk result IsFillReply }
+        ensures added { IfOk result (Added P.Pages self.old self.new who (Call.Fill addr runs.now)) }
+        ensures replies { IfOk result (IsLargeReply (Call.Fill addr runs.now)) }
         ensures memory { OnErr result (self.new.entries ≡ self.old.entries) }
-        ensures name { KeepsName P.told self.old self.new }
+        ensures origin { origin P.told self.new ≡ origin P.told self.old }
         ensures region { IsRegion P.Pages self.new }
     {
         self.entries.reserve(self.store.owed + 1)?;
@@ -391,13 +357,13 @@ impl<P: Pages> LargeHeap<P> {
         let faults = self.pages.faults();
         if write(&mut self.pages, addr, runs) {
             self.entries
-                .push_reserved(plain_entry(who, call, Reply::Filled, faults, faults));
+                .push_reserved(Entry::plain(who, call, Reply::Filled, faults, faults));
             Ok(Reply::Filled)
         } else {
             let trap = trap_from(&self.store, addr, runs.len());
             let reply = Reply::Trap { addr: trap };
             self.entries
-                .push_reserved(plain_entry(who, call, reply, faults, faults));
+                .push_reserved(Entry::plain(who, call, reply, faults, faults));
             Ok(Reply::Trap { addr: trap })
         }
     }

@@ -7,7 +7,6 @@ ghost use Rattle.hm_choice.specs.Stream.{next_word, after_word, drawn};
 ghost use Rattle.hm_model.specs.Maps.{at};
 ghost use Rattle.hm_quarantine.specs.Quarantine.{let_go, kept_with};
 ghost use Rattle.hm_sizes.specs.declared.config.Config.{Config};
-ghost use Rattle.hm_sizes.specs.Configs.{IsValid};
 ghost use Rattle.hm_large.specs.Blocks.{Block, marked};
 ghost use Rattle.hm_large.specs.State.{State};
 ghost use Rattle.hm_large.specs.Laws.{IsSound};
@@ -66,7 +65,7 @@ fn replace(store: &mut Store, addr: u64, block: KeptBlock)
 /// Takes a live block back, its pages being dropped already.
 pub fn release(store: &mut Store, addr: u64, block: KeptBlock) -> Freeing
     requires { StandsLive store.old addr block }
-    ensures frees { (c : Config) (number : ℕ) (s : State) (x : Block) → IsValid c → IsSound c s → Shows c number s store.old → at addr s.live ≡ Some x
+    ensures frees { (c : Config) (number : ℕ) (s : State) (x : Block) → IsSound c s → Shows c number s store.old → at addr s.live ≡ Some x
         → Frees c number s addr x store.new result }
     ensures owed { store.new.owed + (if block.failed then 0 else 1) ≡ store.old.owed }
 {

@@ -51,7 +51,7 @@ returns-in_default-clause-allots g c =
     let guard = c.draw_guard-word.result.1 in
     let drawn = shows_drawn config n s c.args.store.now c.draw_guard-word.new.store c.reserve_two.new.self c.draw_guard-word.ensures.store c.in_ok-reserve_two.ensures.ranges c.in_ok-reserve_two.ensures.out shows in
     let none : (a : ℕ) → IsCandidate config s c.args.align size guard a → ⊥ = same_none config s (suc s.words) c.args.align size guard (c.in_default.ensures.fits config n (record s { words = suc s.words }) drawn) in
-    allots_from g.P.Pages.told g.P.Pages.runs g.P.Pages.faults config n s c.args.asked c.args.align c.args.store.now c.draw_guard-word.new.store c.reserve_two.new.self c.args.pages.now c.args.pages.now size c.draw_guard-word.result.0 guard outcome.NoSpace c.draw_guard-word.new.store shows c.size_of_block-size.ensures.value c.draw_guard-word.ensures.word c.draw_guard-word.ensures.guard
+    allots_from g.P.Pages config n s c.args.asked c.args.align c.args.store.now c.draw_guard-word.new.store c.reserve_two.new.self c.args.pages.now c.args.pages.now size c.draw_guard-word.result.0 guard outcome.NoSpace c.draw_guard-word.new.store shows c.size_of_block-size.ensures.value c.draw_guard-word.ensures.word c.draw_guard-word.ensures.guard
     (subst (λ (z : ℕ). (a : ℕ) → IsCandidate config s c.args.align z guard a → ⊥) c.size_of_block-size.ensures.value none, drawn, (λ told. refl), refl)
 
 pub returns-in-Ok-clause-allots : goal.returns-in-Ok-clause-allots
@@ -60,7 +60,7 @@ returns-in-Ok-clause-allots g c =
     let guard = c.draw_guard-word.result.1 in
     let drawn = shows_drawn config n s c.args.store.now c.draw_guard-word.new.store c.reserve_two.new.self c.draw_guard-word.ensures.store c.in_ok-reserve_two.ensures.ranges c.in_ok-reserve_two.ensures.out shows in
     let least = found_least config n s c.args.store.now c.draw_guard-word.new.store c.reserve_two.new.self c.args.align size guard c.in-Some.addr c.draw_guard-word.ensures.store c.in_ok-reserve_two.ensures.ranges c.in_ok-reserve_two.ensures.out c.in-Some.ensures.fits shows in
-    allots_from g.P.Pages.told g.P.Pages.runs g.P.Pages.faults config n s c.args.asked c.args.align c.args.store.now c.draw_guard-word.new.store c.reserve_two.new.self c.args.pages.now c.open.new.pages size c.draw_guard-word.result.0 guard (outcome.Given c.in-Some.addr) c.take_range.new.store shows c.size_of_block-size.ensures.value c.draw_guard-word.ensures.word c.draw_guard-word.ensures.guard (
+    allots_from g.P.Pages config n s c.args.asked c.args.align c.args.store.now c.draw_guard-word.new.store c.reserve_two.new.self c.args.pages.now c.open.new.pages size c.draw_guard-word.result.0 guard (outcome.Given c.in-Some.addr) c.take_range.new.store shows c.size_of_block-size.ensures.value c.draw_guard-word.ensures.word c.draw_guard-word.ensures.guard (
       subst (λ (z : ℕ). IsLeastCandidate config s c.args.align z guard c.in-Some.addr) c.size_of_block-size.ensures.value least,
       shows_new config n s c.draw_guard-word.new.store c.take_range.new.store c.args.align c.args.asked size guard c.in-Some.addr (suc s.words) c.size_of_block-size.ensures.value
           (subst (λ (z : ℕ). IsCandidate config s c.args.align z guard c.in-Some.addr) c.size_of_block-size.ensures.value least.fits) drawn
@@ -79,7 +79,7 @@ returns-in-Err-Failed-clause-allots g c =
     let least = found_least config n s c.args.store.now c.draw_guard-word.new.store c.reserve_two.new.self c.args.align size guard c.in-Some.addr c.draw_guard-word.ensures.store c.in_ok-reserve_two.ensures.ranges c.in_ok-reserve_two.ensures.out c.in-Some.ensures.fits shows in
     let new : Store = record d { blocks = c.open.new.blocks } in
     let same : SameStore d new = record { blocks = c.in-Err-Failed.ensures.stays; ranges = refl; out = refl; quarantine = refl; owed_same = refl } in
-    allots_from g.P.Pages.told g.P.Pages.runs g.P.Pages.faults config n s c.args.asked c.args.align c.args.store.now c.draw_guard-word.new.store c.reserve_two.new.self c.args.pages.now c.open.new.pages size c.draw_guard-word.result.0 guard outcome.PagesFailed new shows c.size_of_block-size.ensures.value c.draw_guard-word.ensures.word c.draw_guard-word.ensures.guard
+    allots_from g.P.Pages config n s c.args.asked c.args.align c.args.store.now c.draw_guard-word.new.store c.reserve_two.new.self c.args.pages.now c.open.new.pages size c.draw_guard-word.result.0 guard outcome.PagesFailed new shows c.size_of_block-size.ensures.value c.draw_guard-word.ensures.word c.draw_guard-word.ensures.guard
     (subst (λ (z : ℕ). (a : ℕ) × IsCandidate config s c.args.align z guard a) c.size_of_block-size.ensures.value (c.in-Some.addr, least.fits), shows_table config n (record s { words = suc s.words }) d new drawn same refl, c.in-Err-Failed.ensures.unchanged, c.in-Err-Failed.ensures.cause.failed (ap (λ (r : PageRefusal). Err r) c.in-Err-Failed.field-0-is))
 
 pub returns-in-Err-NoMemory-clause-declines : goal.returns-in-Err-NoMemory-clause-declines

@@ -29,7 +29,7 @@ put_back-requires c =
 
 pub returns-then-block-ge-QUARANTINED_BELOW-clause-frees : goal.returns-then-block-ge-QUARANTINED_BELOW-clause-frees
 returns-then-block-ge-QUARANTINED_BELOW-clause-frees c =
-    λ config n s x valid sound shows live. let t = c.requires in
+    λ config n s x sound shows live. let t = c.requires in
     let old = c.args.store.now in
     let u = c.uncount.new.store in
     let new = c.put_back.new.store in
@@ -74,7 +74,7 @@ put_back-requires-in-Some c =
 
 pub returns-in-Some-clause-frees : goal.returns-in-Some-clause-frees
 returns-in-Some-clause-frees c =
-    λ config n s x valid sound shows live. let t = c.requires in
+    λ config n s x sound shows live. let t = c.requires in
     let old = c.args.store.now in
     let a = c.args.addr in
     let is : c.args.block ≡ kept_of false x = same_block config n s old a x c.args.block shows live (kept_live t.config t.number t.s old a t.block t.shows t.live ∙ ap Some (sym t.is)) in
@@ -85,7 +85,7 @@ returns-in-Some-clause-frees c =
 
 pub returns-in-None-clause-frees : goal.returns-in-None-clause-frees
 returns-in-None-clause-frees c =
-    λ config n s x valid sound shows live. let t = c.requires in
+    λ config n s x sound shows live. let t = c.requires in
     let old = c.args.store.now in
     let a = c.args.addr in
     let is : c.args.block ≡ kept_of false x = same_block config n s old a x c.args.block shows live (kept_live t.config t.number t.s old a t.block t.shows t.live ∙ ap Some (sym t.is)) in

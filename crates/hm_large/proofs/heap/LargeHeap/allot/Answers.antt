@@ -2,12 +2,12 @@ use Rattle.std.proofs.Common.{◌≡◌, ℕ, List, [], ◌∷◌, ◌++◌, sym
 use Rattle.hm_model.specs.declared.entry.Entry.{Entry}
 use Rattle.hm_model.specs.declared.entry.Reply.{Reply}
 use Rattle.hm_model.specs.declared.entry.Call.TheVariants as call
+use Rattle.hm_model.specs.Calls.{one_word, entry_of}
+use Rattle.hm_model.specs.Replies.{IsBlockReply}
 use Rattle.hm_large.specs.Rules.{chose_guard, state}
-use Rattle.hm_large.specs.Draws.{one_word}
-use Rattle.hm_large.specs.Calls.{entry_of}
 use Rattle.hm_large.specs.Kept.{IsKept}
 use Rattle.hm_large.specs.Stored.{attempt_reply}
-use Rattle.hm_large.proofs.Entries.{terms_of, kept_sound, kept_declined, kept_allotted, region_of, appended, added_of}
+use Rattle.hm_large.proofs.Entries.{terms_of, kept_sound, kept_declined, kept_allotted, allotted_replies, region_of, appended, added_of}
 use Rattle.hm_large.proofs.heap.LargeHeap.allot.Given.{Over}
 use Rattle.hm_large.proofs.heap.LargeHeap.allot.Goals as goal
 
@@ -15,15 +15,14 @@ pub allot-requires-clause-stands : goal.allot-requires-clause-stands
 allot-requires-clause-stands g c κs within =
     let h = c.self.inside in
     let k = c.self.invariant.0 in
-    let told = g.P.Pages.told h.pages in
     record {
       config = h.config;
       number = h.number;
-      s = state (terms_of h.config told) h.entries.items;
+      s = state (terms_of h.config (g.P.Pages.told h.pages)) h.entries.items;
       valid = k.valid;
-      sound = kept_sound told (g.P.Pages.runs h.pages) (g.P.Pages.faults h.pages) h.config h.number h.entries.items h.store k;
+      sound = kept_sound g.P.Pages h.pages h.config h.number h.entries.items h.store k;
       shows = k.shows;
-      holds = k.pages;
+      holds = k.held;
     }
 
 pub invariant_of-self-in_err-attempt : goal.invariant_of-self-in_err-attempt
@@ -31,8 +30,8 @@ invariant_of-self-in_err-attempt g c =
     let h = c.self.inside in
     let k = c.self.invariant.0 in
     let s = state (terms_of h.config (g.P.Pages.told h.pages)) h.entries.items in (
-      subst (λ (l : List Entry). IsKept (g.P.Pages.told c.allot.new.pages) (g.P.Pages.runs c.allot.new.pages) (g.P.Pages.faults c.allot.new.pages) h.config h.number l c.allot.new.store) (sym c.reserve.ensures.items)
-          (kept_declined g.P.Pages.told g.P.Pages.runs g.P.Pages.faults h.config h.number h.entries.items h.store c.allot.new.store h.pages c.allot.new.pages k c.allot.ensures.told (c.in_err-attempt.ensures.declines h.config h.number s k.shows)),
+      subst (λ (l : List Entry). IsKept g.P.Pages c.allot.new.pages h.config h.number l c.allot.new.store) (sym c.reserve.ensures.items)
+          (kept_declined g.P.Pages h.config h.number h.entries.items h.store c.allot.new.store h.pages c.allot.new.pages k c.allot.ensures.told (c.in_err-attempt.ensures.declines h.config h.number s k.shows)),
       omega (arith, c.self.invariant.1, c.allot.ensures.owed, c.in_ok-reserve.ensures.ok, c.reserve.ensures.len),
     )
 
@@ -54,19 +53,27 @@ pub invariant_of-self-2 : goal.invariant_of-self-2
 invariant_of-self-2 g c =
     let h = c.self.inside in
     let k = c.self.invariant.0 in
-    let told = g.P.Pages.told h.pages in
-    let s = state (terms_of h.config told) h.entries.items in
-    let sound = kept_sound told (g.P.Pages.runs h.pages) (g.P.Pages.faults h.pages) h.config h.number h.entries.items h.store k in (
-      subst (λ (l : List Entry). IsKept (g.P.Pages.told c.allot.new.pages) (g.P.Pages.runs c.allot.new.pages) (g.P.Pages.faults c.allot.new.pages) h.config h.number l c.allot.new.store) (sym (all_entries g c))
-          (kept_allotted g.P.Pages.told g.P.Pages.runs g.P.Pages.faults h.config h.number h.entries.items h.store c.allot.new.store h.pages c.allot.new.pages c.in_ok-attempt.attempt c.args.who c.args.asked c.args.align c.requires.asked c.requires.align k c.allot.ensures.told
+    let s = state (terms_of h.config (g.P.Pages.told h.pages)) h.entries.items in
+    let sound = kept_sound g.P.Pages h.pages h.config h.number h.entries.items h.store k in (
+      subst (λ (l : List Entry). IsKept g.P.Pages c.allot.new.pages h.config h.number l c.allot.new.store) (sym (all_entries g c))
+          (kept_allotted g.P.Pages h.config h.number h.entries.items h.store c.allot.new.store h.pages c.allot.new.pages c.in_ok-attempt.attempt c.args.who c.args.asked c.args.align c.requires.asked c.requires.align k c.allot.ensures.told
           (c.in_ok-attempt.ensures.allots h.config h.number s sound k.shows)),
       omega (arith, c.self.invariant.1, c.allot.ensures.owed, c.in_ok-reserve.ensures.ok, c.reserve.ensures.len, c.push_reserved.ensures.len, c.push_reserved.ensures.capacity),
     )
 
+pub returns-clause-replies : goal.returns-clause-replies
+returns-clause-replies g c =
+    let h = c.self.inside in
+    let k = c.self.invariant.0 in
+    let s = state (terms_of h.config (g.P.Pages.told h.pages)) h.entries.items in
+    let sound = kept_sound g.P.Pages h.pages h.config h.number h.entries.items h.store k in
+    subst IsBlockReply (sym c.reply_to.ensures)
+    (allotted_replies g.P.Pages h.config h.number h.entries.items h.store c.allot.new.store h.pages c.allot.new.pages c.in_ok-attempt.attempt s c.args.asked c.args.align k.valid (c.in_ok-attempt.ensures.allots h.config h.number s sound k.shows))
+
 pub returns-clause-added : goal.returns-clause-added
 returns-clause-added g c =
     let a = c.in_ok-attempt.attempt in
-    added_of g.P.Pages.faults c.args.self.now _ _ c.args.who (call.Allot c.args.asked c.args.align) c.reply_to.result (chose_guard a.guard) (one_word a.word) c.self.view_is
+    added_of g.P.Pages c.args.self.now _ _ _ c.args.who (call.Allot c.args.asked c.args.align) c.reply_to.result (chose_guard a.guard) (one_word a.word) c.self.view_is
     (all_entries g c ∙ ap (λ (r : Reply). c.self.inside.entries.items ++ entry_of c.args.who (call.Allot c.args.asked c.args.align) r (chose_guard a.guard) (one_word a.word) (g.P.Pages.faults c.self.inside.pages) (g.P.Pages.faults c.allot.new.pages) ∷ []) (sym c.reply_to.ensures))
 
 pub returns-clause-region : goal.returns-clause-region
