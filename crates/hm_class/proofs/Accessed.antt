@@ -5,10 +5,11 @@ use Rattle.std.proofs.lemmas.Bool.{cases_eq}
 use Rattle.std.proofs.lemmas.Bool.Decides.{nat_tests}
 use Rattle.std.proofs.lemmas.Nat.{div-add-mod', mod_below}
 use Rattle.std.proofs.lemmas.List.{length-take, length-drop}
-use Rattle.std.proofs.lemmas.Option.{none-some}
+use Rattle.std.proofs.lemmas.Option.{none-some, same_Some}
 use Rattle.hm_outside.specs.PageRuns.{PageRuns, IsHeld, Reads, Writes}
 use Rattle.hm_model.specs.Maps.{at}
 use Rattle.hm_model.specs.Overlaid.{overlaid}
+use Rattle.hm_model.specs.Replies.{IsWithin}
 use Rattle.hm_model.proofs.Overlaid.{overlaid_two, overlaid_nil}
 use Rattle.hm_sizes.specs.declared.shape.Shape.{Shape}
 use Rattle.hm_sizes.specs.Shapes.{IsShape, slab_at, slab_of, has_bytes}
@@ -162,6 +163,15 @@ trap_told p uses s runs a zero shape shows h = refl
 trap_told p uses s runs a (suc n) shape shows h =
     ap (λ (b : Bool). cond b (first_trap p s (a + 1) n) (Some a)) (byte_told p uses s runs a shape shows h)
     ∙ ap (λ (o : Option ℕ). cond (is_accessible p uses a) o (Some a)) (trap_told p uses s runs (a + 1) n shape shows h)
+
+-- it is an address of the range
+within_later : (b : Bool) (a n q : ℕ) (later : Option ℕ) → (later ≡ Some q → IsWithin (a + 1) n q) → cond b later (Some a) ≡ Some q → IsWithin a (suc n) q
+within_later true a n q later within e = (omega (arith, (within e).0), omega (arith, (within e).1))
+within_later false a n q later within e = (omega (arith, same_Some a q e), omega (arith, same_Some a q e))
+
+pub trap_within : (p : Shape) (uses : Uses) (a n q : ℕ) → trap_in p uses a n ≡ Some q → IsWithin a n q
+trap_within p uses a zero q e = absurd (none-some q e)
+trap_within p uses a (suc n) q e = within_later (is_accessible p uses a) a n q (trap_in p uses (a + 1) n) (trap_within p uses (a + 1) n q) e
 
 -- ---- ranges without a trap
 -- an address with a byte lies in an open slab, and slabs have bytes

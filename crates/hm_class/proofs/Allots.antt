@@ -2,6 +2,7 @@
 use Rattle.std.proofs.Common.{◌≡◌, ℕ, zero, suc, ◌+◌, ◌<◌, ◌≤◌, Bool, true, false, IsTrue, cond, not, ◌&&◌, List, [], ◌∷◌, ◌++◌, length, reverse, Option, Some, None, is_some, unwrap_or, option_map, sym, ◌∙◌, ap, subst, refl, arith, true≢false}
 use Rattle.hm_choice.specs.Stream.{Words, next_word, after_word, canary_of, drawn}
 use Rattle.hm_quarantine.specs.Quarantine.{Kept}
+use Rattle.hm_outside.specs.declared.pages.Pages as pages
 use Rattle.hm_outside.specs.PageRuns.{PageRuns}
 use Rattle.hm_model.specs.declared.entry.Entry.{Entry}
 use Rattle.hm_model.specs.declared.entry.Who.{Who}
@@ -20,7 +21,7 @@ use Rattle.hm_class_rules.specs.Kinds.{Kind, Neither, kind}
 use Rattle.hm_class_rules.specs.Steps.{step, opened, taken_new}
 use Rattle.hm_class_rules.specs.Drawn.{first_free}
 use Rattle.hm_class_rules.specs.Draws.{Undrawn, event_of, after_words}
-use Rattle.hm_class_rules.specs.Rules.{Terms, Allows, Source, NoneServes, state, chose_none}
+use Rattle.hm_class_rules.specs.Rules.{Terms, Allows, Source, NoneServes, state}
 use Rattle.hm_class_rules.specs.Stepped.{IsSteppedEntry}
 use Rattle.hm_class.specs.declared.next_slab.NextSlab.{NextSlab}
 use Rattle.hm_class.specs.declared.next_slab.NextSlab.TheVariants as next
@@ -28,7 +29,7 @@ use Rattle.hm_class.specs.declared.outcome.Canary.{Canary}
 use Rattle.hm_class.specs.declared.outcome.Event.{Event}
 use Rattle.hm_class.specs.declared.slabs.Slabs.{Slabs}
 use Rattle.hm_class.specs.Uses.{Uses, SlabUse, lives, slab_in, opened_slab, fresh_slab, kind_at, live_count, with_open, taken_uses, still_shut}
-use Rattle.hm_class.specs.Calls.{entry_of, no_draws, one_draw}
+use Rattle.hm_model.specs.Calls.{no_choices, entry_of, no_words, one_word}
 use Rattle.hm_class.specs.Finds.{Finds, Serves, KeepsRuns, CanOpen, made_runs, drawn_canary, canary_stream}
 use Rattle.hm_class.specs.Outcomes.{reply_of, canary_value, chose_opened, start_draws}
 use Rattle.hm_class.specs.Rooms.{SameSlabs}
@@ -90,16 +91,16 @@ live_opened p l all n canary there =
     omega (arith, count_changed (taken_uses p l all) n (opened_slab canary) b.0 b.1 lives, live_taken p l all)
 
 -- how many are live once a slab was found
-pub found_counted : {P : Type 0} (tells : P → Bool) (runs_of : P → PageRuns) (faults_of : P → ℕ) (p : Shape) (k k₁ : Slabs) (begun mid : P) (stream stream₁ : Words) → ((n : ℕ) → new_of p k ≡ Some n → CanOpen p k n) → k.live ≡ live_count k.slabs.items
-    → (n : NextSlab) → Finds tells runs_of faults_of p k k₁ begun mid stream stream₁ n → k₁.live ≡ live_count k₁.slabs.items
-found_counted tells runs_of faults_of p k k₁ begun mid stream stream₁ opens counted (next.Open n) f = f.1.0.live ∙ counted ∙ ap live_count (sym f.1.0.slabs)
-found_counted tells runs_of faults_of p k k₁ begun mid stream stream₁ opens counted (next.New n canary) f = f.1.live ∙ counted ∙ sym (ap live_count f.1.slabs ∙ live_opened p k.shut.items k.slabs.items n (unwrap_or (canary_value canary) 0) (opens n f.0.1).there)
-found_counted tells runs_of faults_of p k k₁ begun mid stream stream₁ opens counted next.Exhausted f = f.1.0.live ∙ counted ∙ ap live_count (sym f.1.0.slabs)
-found_counted tells runs_of faults_of p k k₁ begun mid stream stream₁ opens counted next.PagesFailed f = f.2.live ∙ counted ∙ ap live_count (sym f.2.slabs)
+pub found_counted : {P : Type 0} (meaning : pages.Ghosts P) (p : Shape) (k k₁ : Slabs) (begun mid : P) (stream stream₁ : Words) → ((n : ℕ) → new_of p k ≡ Some n → CanOpen p k n) → k.live ≡ live_count k.slabs.items
+    → (n : NextSlab) → Finds meaning p k k₁ begun mid stream stream₁ n → k₁.live ≡ live_count k₁.slabs.items
+found_counted meaning p k k₁ begun mid stream stream₁ opens counted (next.Open n) f = f.1.0.live ∙ counted ∙ ap live_count (sym f.1.0.slabs)
+found_counted meaning p k k₁ begun mid stream stream₁ opens counted (next.New n canary) f = f.1.live ∙ counted ∙ sym (ap live_count f.1.slabs ∙ live_opened p k.shut.items k.slabs.items n (unwrap_or (canary_value canary) 0) (opens n f.0.1).there)
+found_counted meaning p k k₁ begun mid stream stream₁ opens counted next.Exhausted f = f.1.0.live ∙ counted ∙ ap live_count (sym f.1.0.slabs)
+found_counted meaning p k k₁ begun mid stream stream₁ opens counted next.PagesFailed f = f.2.live ∙ counted ∙ ap live_count (sym f.2.slabs)
 
 -- slabs that are as before
-pub same_slabs : {P : Type 0} (tells : P → Bool) (runs_of : P → PageRuns) (faults_of : P → ℕ) (k k₁ : Slabs) (begun mid : P) (stream stream₁ : Words) → KeepsRuns tells runs_of faults_of k k₁ begun mid stream stream₁ → SameSlabs k k₁
-same_slabs tells runs_of faults_of k k₁ begun mid stream stream₁ q = record {
+pub same_slabs : {P : Type 0} (meaning : pages.Ghosts P) (k k₁ : Slabs) (begun mid : P) (stream stream₁ : Words) → KeepsRuns meaning k k₁ begun mid stream stream₁ → SameSlabs k k₁
+same_slabs meaning k k₁ begun mid stream stream₁ q = record {
   slabs = q.slabs;
   live = q.live;
   partial = ap (λ v. v.items) q.lists.partial;
@@ -109,30 +110,30 @@ same_slabs tells runs_of faults_of k k₁ begun mid stream stream₁ q = record 
 
 module _ (told : Bool) (runs : PageRuns) (faults : ℕ) (c : Config) (number arena : ℕ) (p : Shape) (es : List Entry) (k : Slabs) (stream : Words) (quarantine : Kept) (parking : List (Option ℕ))
     (kept : IsKept told runs faults c number arena p es k stream quarantine parking)
-    {P : Type 0} (tells : P → Bool) (runs_of : P → PageRuns) (faults_of : P → ℕ) (begun mid now : P) (k₁ k' : Slabs) (stream₁ stream' : Words) (who : Who) (asked : ℕ)
-    (told_begun : tells begun ≡ told) (told_mid : tells mid ≡ tells begun) (runs_begun : runs_of begun ≡ runs) (is : faults_of begun ≡ faults) (same : faults_of now ≡ faults_of mid)
+    {P : Type 0} (meaning : pages.Ghosts P) (begun mid now : P) (k₁ k' : Slabs) (stream₁ stream' : Words) (who : Who) (asked : ℕ)
+    (told_begun : meaning.told begun ≡ told) (told_mid : meaning.told mid ≡ meaning.told begun) (runs_begun : meaning.runs begun ≡ runs) (is : meaning.faults begun ≡ faults) (same : meaning.faults now ≡ meaning.faults mid)
     (asks : raised asked ≤ class_size_of p) (live : k'.live ≡ live_count k'.slabs.items) where
   abbrev first : State
   first = state (terms_of told c p) es
 
   abbrev Ends : Event → Type 0
-  Ends e = IsKept told (runs_of now) (faults_of now) c number arena p (es ++ entry_of who (Allot asked 1) (reply_of e.outcome) e.choices e.draws (faults_of begun) (faults_of now) ∷ []) k' stream' quarantine parking
+  Ends e = IsKept told (meaning.runs now) (meaning.faults now) c number arena p (es ++ entry_of who (Allot asked 1) (reply_of e.outcome) e.choices e.draws (meaning.faults begun) (meaning.faults now) ∷ []) k' stream' quarantine parking
 
-  tell : IsTrue told → IsTrue (tells mid)
+  tell : IsTrue told → IsTrue (meaning.told mid)
   tell y = told_mid ∙ told_begun ∙ y
 
   -- no slab was found: an entry that draws nothing
-  unserved : (answer : Reply) → event_of (Allot asked 1) answer ≡ Undrawn → Allows (terms_of told c p) first (faults_of begun) (faults_of now) chose_none (Allot asked 1) answer → faults_of begun ≤ faults_of now
-      → step p first (entry_of who (Allot asked 1) answer chose_none no_draws (faults_of begun) (faults_of now)) ≡ record first { faults = faults_of now }
-      → (IsTrue told → runs_of now ≡ runs) → k'.slabs.items ≡ k.slabs.items → k'.live ≡ k.live → k'.partial.items ≡ k.partial.items → k'.empty.items ≡ k.empty.items → k'.shut.items ≡ k.shut.items → stream' ≡ stream
-      → IsKept told (runs_of now) (faults_of now) c number arena p (es ++ entry_of who (Allot asked 1) answer chose_none no_draws (faults_of begun) (faults_of now) ∷ []) k' stream' quarantine parking
+  unserved : (answer : Reply) → event_of (Allot asked 1) answer ≡ Undrawn → Allows (terms_of told c p) first (meaning.faults begun) (meaning.faults now) no_choices (Allot asked 1) answer → meaning.faults begun ≤ meaning.faults now
+      → step p first (entry_of who (Allot asked 1) answer no_choices no_words (meaning.faults begun) (meaning.faults now)) ≡ record first { faults = meaning.faults now }
+      → (IsTrue told → meaning.runs now ≡ runs) → k'.slabs.items ≡ k.slabs.items → k'.live ≡ k.live → k'.partial.items ≡ k.partial.items → k'.empty.items ≡ k.empty.items → k'.shut.items ≡ k.shut.items → stream' ≡ stream
+      → IsKept told (meaning.runs now) (meaning.faults now) c number arena p (es ++ entry_of who (Allot asked 1) answer no_choices no_words (meaning.faults begun) (meaning.faults now) ∷ []) k' stream' quarantine parking
   unserved answer undrawn allows later after runs_same items live_same partial empty shut stream_same =
       let t : Terms = terms_of told c p in
-      let e : Entry = entry_of who (Allot asked 1) answer chose_none no_draws (faults_of begun) (faults_of now) in
-      let s' : State = record first { faults = faults_of now } in
-      let shows' : Shows p k.slabs.items (step p first e) = subst (λ (s : State). Shows p k.slabs.items s) (sym after) (shows_count p k.slabs.items first (faults_of now) kept.follows.shows) in
-      pushed told runs faults c number arena p es k stream quarantine parking kept (runs_of now) (faults_of now) k' stream' quarantine parking e
-      (allowed_of t first who (Allot asked 1) answer chose_none no_draws (faults_of begun) (faults_of now) no_draws_are (asks, refl) (is ∙ kept.count) later allows)
+      let e : Entry = entry_of who (Allot asked 1) answer no_choices no_words (meaning.faults begun) (meaning.faults now) in
+      let s' : State = record first { faults = meaning.faults now } in
+      let shows' : Shows p k.slabs.items (step p first e) = subst (λ (s : State). Shows p k.slabs.items s) (sym after) (shows_count p k.slabs.items first (meaning.faults now) kept.follows.shows) in
+      pushed told runs faults c number arena p es k stream quarantine parking kept (meaning.runs now) (meaning.faults now) k' stream' quarantine parking e
+      (allowed_of t first who (Allot asked 1) answer no_choices no_words (meaning.faults begun) (meaning.faults now) no_draws_are (asks, refl) (is ∙ kept.count) later allows)
       (stepped_undrawn t (cells_of first k stream quarantine parking) e undrawn refl refl) refl
       (record {
         shows = subst (λ (u : Uses). Shows p u (step p first e)) (sym items) shows';
@@ -140,7 +141,7 @@ module _ (told : Bool) (runs : PageRuns) (faults : ℕ) (c : Config) (number are
         counted = live;
         live_all = omega (arith, kept.follows.live_all, live_same, ap (λ (s : State). length s.live) after);
       })
-      (λ y. subst (λ (s : State). HoldsSlabs p s.opens (runs_of now)) (sym after) (subst (λ (r : PageRuns). HoldsSlabs p first.opens r) (sym (runs_same y)) (kept.slabs y)))
+      (λ y. subst (λ (s : State). HoldsSlabs p s.opens (meaning.runs now)) (sym after) (subst (λ (r : PageRuns). HoldsSlabs p first.opens r) (sym (runs_same y)) (kept.slabs y)))
       (next_undrawn t first k stream quarantine parking e kept.served.shape undrawn refl kept.follows.shows shows'
       ∙ same_cells (step p first e) stream stream' (reverse k.partial.items) (reverse k'.partial.items) (reverse k.empty.items) (reverse k'.empty.items) quarantine quarantine parking parking
       (sym stream_same) (ap (λ (l : List ℕ). reverse l) (sym partial)) (ap (λ (l : List ℕ). reverse l) (sym empty)) refl refl)
@@ -151,10 +152,10 @@ module _ (told : Bool) (runs : PageRuns) (faults : ℕ) (c : Config) (number are
   next_new : (o : Option ℕ) → new_of p k ≡ o → unopened p first.shut first.next ≡ o
   next_new o e = ap (λ (l : List ℕ). unopened p l first.next) (sym kept.follows.shut) ∙ ap (λ (m : ℕ). unopened p k.shut.items m) kept.follows.shows.next ∙ e
 
-  runs_as : (x : P) → (IsTrue (tells begun) → runs_of x ≡ runs_of begun) → IsTrue told → runs_of x ≡ runs
+  runs_as : (x : P) → (IsTrue (meaning.told begun) → meaning.runs x ≡ meaning.runs begun) → IsTrue told → meaning.runs x ≡ runs
   runs_as x e y = e (told_begun ∙ y) ∙ runs_begun
 
-  pub kept_allotted : (n : NextSlab) (e : Event) → Finds tells runs_of faults_of p k k₁ begun mid stream stream₁ n → Serves tells runs_of faults_of p k₁ k' mid now stream₁ stream' n e → Ends e
+  pub kept_allotted : (n : NextSlab) (e : Event) → Finds meaning p k k₁ begun mid stream stream₁ n → Serves meaning p k₁ k' mid now stream₁ stream' n e → Ends e
   kept_allotted next.Exhausted e f v =
       let q = f.1.0 in
       let w = v.1 in
@@ -173,8 +174,8 @@ module _ (told : Bool) (runs : PageRuns) (faults : ℕ) (c : Config) (number are
       let on = serving_open told runs faults c number arena p es k stream quarantine parking kept n f.0 in
       let at = open_place p first n 0 (sound_now told runs faults c number arena p es k stream quarantine parking kept) on (omega (arith, kept.served.shape.slots_some)) in
       subst (λ (x : Choices). Ends (record { outcome = e.outcome; choices = x; draws = e.draws })) (sym v.1)
-      (subst (λ (x : Draws). Ends (record { outcome = e.outcome; choices = chose_none; draws = x })) (sym v.2)
-      (kept_serve told runs faults c number arena p es k stream quarantine parking kept tells runs_of faults_of mid now k₁ k' stream₁ stream' n (kind_at k₁.slabs.items n) chose_none (one_draw (next_word stream₁)) who asked (faults_of begun) (faults_of now)
+      (subst (λ (x : Draws). Ends (record { outcome = e.outcome; choices = no_choices; draws = x })) (sym v.2)
+      (kept_serve told runs faults c number arena p es k stream quarantine parking kept meaning mid now k₁ k' stream₁ stream' n (kind_at k₁.slabs.items n) no_choices (one_word (next_word stream₁)) who asked (meaning.faults begun) (meaning.faults now)
       tell asks is (omega (arith, same, f.1.1))
       (subst (λ (u : Uses). IsServing u n) (sym q.slabs) (serving told runs faults c number arena p es k stream quarantine parking kept n f.0)) at.below at.no_guard on
       (subst (λ (u : Uses). Shows p u first) (sym q.slabs) kept.follows.shows)
@@ -184,8 +185,8 @@ module _ (told : Bool) (runs : PageRuns) (faults : ℕ) (c : Config) (number are
       (kind_is p k.slabs.items first n kept.served.shape kept.follows.shows ∙ ap (λ (u : Uses). kind_at u n) (sym q.slabs))
       (one_draw_are (next_word stream₁)) (ap (λ (x : Words). after_word x) (sym q.stream_same))
       ((allows_now told runs faults c number arena p es k stream quarantine parking kept).source n f.0) (no_canary (has_bytes p)) refl
-      (λ a slab here answer picks. subst (λ (x : Words). IsSteppedEntry t (cells_of first k stream quarantine parking) (entry_of who (Allot asked 1) answer chose_none (one_draw (next_word x)) (faults_of begun) (faults_of now))) (sym q.stream_same)
-      (stepped_open t (cells_of first k stream quarantine parking) first who asked a n (faults_of begun) (faults_of now) answer refl kept.served.valid.random picks slab
+      (λ a slab here answer picks. subst (λ (x : Words). IsSteppedEntry t (cells_of first k stream quarantine parking) (entry_of who (Allot asked 1) answer no_choices (one_word (next_word x)) (meaning.faults begun) (meaning.faults now))) (sym q.stream_same)
+      (stepped_open t (cells_of first k stream quarantine parking) first who asked a n (meaning.faults begun) (meaning.faults now) answer refl kept.served.valid.random picks slab
       (subst (λ (x : Words). first_free p first n (drawn p.slots (next_word x)) ≡ Some a) q.stream_same here) f.0))
       e.outcome v.0))
   kept_allotted (next.New n canary) e f v =
@@ -200,7 +201,7 @@ module _ (told : Bool) (runs : PageRuns) (faults : ℕ) (c : Config) (number are
       let live₁ : k₁.live ≡ live_count k₁.slabs.items = q.live ∙ kept.follows.counted ∙ sym (ap live_count items ∙ live_opened p first.shut k.slabs.items n (unwrap_or cv 0) fresh.there) in
       subst (λ (x : Choices). Ends (record { outcome = e.outcome; choices = x; draws = e.draws })) (sym v.1)
       (subst (λ (x : Draws). Ends (record { outcome = e.outcome; choices = chose_opened n canary; draws = x })) (sym v.2)
-      (kept_serve told runs faults c number arena p es k stream quarantine parking kept tells runs_of faults_of mid now k₁ k' stream₁ stream' n Neither (chose_opened n canary) (start_draws canary (next_word stream₁)) who asked (faults_of begun) (faults_of now)
+      (kept_serve told runs faults c number arena p es k stream quarantine parking kept meaning mid now k₁ k' stream₁ stream' n Neither (chose_opened n canary) (start_draws canary (next_word stream₁)) who asked (meaning.faults begun) (meaning.faults now)
       tell asks is (omega (arith, same, q.later))
       (subst (λ (u : Uses). IsServing u n) (sym items) (opened_serves told runs faults c number arena p es k stream quarantine parking kept n cv f.0.1)) fresh.below fresh.no_guard
       (opened_open told runs faults c number arena p es k stream quarantine parking kept n cv f.0.1)
@@ -215,9 +216,9 @@ module _ (told : Bool) (runs : PageRuns) (faults : ℕ) (c : Config) (number are
       (refl, none_serves f.0.0, next_new (Some n) f.0.1)
       (ap (λ (x : Option Canary). is_some (canary_value x)) q.canary_is ∙ canary_there p stream) refl
       (λ a slab here answer picks.
-      subst (λ (x : Words). IsSteppedEntry t (cells_of first k stream quarantine parking) (entry_of who (Allot asked 1) answer (chose_opened n canary) (start_draws canary (next_word x)) (faults_of begun) (faults_of now))) (sym q.stream_is)
-      (subst (λ (x : Option Canary). IsSteppedEntry t (cells_of first k stream quarantine parking) (entry_of who (Allot asked 1) answer (chose_opened n x) (start_draws x (next_word (canary_stream p stream))) (faults_of begun) (faults_of now))) (sym q.canary_is)
-      (stepped_new t (cells_of first k stream quarantine parking) first who asked a n (faults_of begun) (faults_of now) answer refl kept.served.valid.random picks slab
+      subst (λ (x : Words). IsSteppedEntry t (cells_of first k stream quarantine parking) (entry_of who (Allot asked 1) answer (chose_opened n canary) (start_draws canary (next_word x)) (meaning.faults begun) (meaning.faults now))) (sym q.stream_is)
+      (subst (λ (x : Option Canary). IsSteppedEntry t (cells_of first k stream quarantine parking) (entry_of who (Allot asked 1) answer (chose_opened n x) (start_draws x (next_word (canary_stream p stream))) (meaning.faults begun) (meaning.faults now))) (sym q.canary_is)
+      (stepped_new t (cells_of first k stream quarantine parking) first who asked a n (meaning.faults begun) (meaning.faults now) answer refl kept.served.valid.random picks slab
       (subst (λ (x : Option Canary). first_free p (opened p (Some n) (canary_value x) first) n (drawn p.slots (next_word (canary_stream p stream))) ≡ Some a) q.canary_is
       (subst (λ (x : Words). first_free p s₁ n (drawn p.slots (next_word x)) ≡ Some a) q.stream_is here)))))
       e.outcome v.0))

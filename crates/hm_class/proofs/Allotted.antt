@@ -4,6 +4,7 @@ use Rattle.std.specs.Option.{option_and_then, option_map_or}
 use Rattle.std.proofs.lemmas.Option.{slice_get-get_or}
 use Rattle.hm_choice.specs.Stream.{Words, next_word, after_word, drawn}
 use Rattle.hm_quarantine.specs.Quarantine.{Kept}
+use Rattle.hm_outside.specs.declared.pages.Pages as pages
 use Rattle.hm_outside.specs.PageRuns.{PageRuns}
 use Rattle.hm_model.specs.Maps.{put}
 use Rattle.hm_model.specs.declared.entry.Entry.{Entry}
@@ -23,7 +24,7 @@ use Rattle.hm_class_rules.specs.Kinds.{Kind, Partial, Empty, kind}
 use Rattle.hm_class_rules.specs.Steps.{opened}
 use Rattle.hm_class_rules.specs.Drawn.{first_free}
 use Rattle.hm_class_rules.specs.Draws.{Picked, event_of, after_words}
-use Rattle.hm_class_rules.specs.Rules.{Terms, Source, state, chose, chose_none}
+use Rattle.hm_class_rules.specs.Rules.{Terms, Source, state, chose}
 use Rattle.hm_class_rules.specs.Stepped.{IsSteppedEntry, listed}
 use Rattle.hm_class_rules.proofs.Alike.{drawn_below}
 use Rattle.hm_class_rules.proofs.Streams.{next_below}
@@ -32,7 +33,7 @@ use Rattle.hm_class.specs.declared.slab.SlotUse.{SlotUse}
 use Rattle.hm_class.specs.declared.slab.SlotUse.TheVariants.{Never}
 use Rattle.hm_class.specs.declared.slabs.Slabs.{Slabs}
 use Rattle.hm_class.specs.Uses.{Uses, SlabUse, occupied, is_available, slab_in, use_at, first_at, first_from, kind_at, live_count}
-use Rattle.hm_class.specs.Calls.{entry_of}
+use Rattle.hm_model.specs.Calls.{no_choices, entry_of}
 use Rattle.hm_class.specs.Outcomes.{reply_of}
 use Rattle.hm_class.specs.Finds.{Serve}
 use Rattle.hm_class.specs.Region.{HoldsSlabs}
@@ -53,12 +54,12 @@ not_occupied u e = turned (occupied u) e
 -- slab n, which serves, was served from
 module _ (told : Bool) (runs : PageRuns) (faults : ℕ) (c : Config) (number arena : ℕ) (p : Shape) (es : List Entry) (k : Slabs) (stream : Words) (quarantine : Kept) (parking : List (Option ℕ))
     (kept : IsKept told runs faults c number arena p es k stream quarantine parking)
-    {P : Type 0} (tells : P → Bool) (runs_of : P → PageRuns) (faults_of : P → ℕ) (mid now : P) (k₁ k' : Slabs) (stream₁ stream' : Words) (n : ℕ) (kind₀ : Kind) (choices : Choices) (draws : Draws) (who : Who) (asked f f' : ℕ)
-    (tell : IsTrue told → IsTrue (tells mid)) (asks : raised asked ≤ class_size_of p) (is : f ≡ faults) (later : f ≤ f')
+    {P : Type 0} (meaning : pages.Ghosts P) (mid now : P) (k₁ k' : Slabs) (stream₁ stream' : Words) (n : ℕ) (kind₀ : Kind) (choices : Choices) (draws : Draws) (who : Who) (asked f f' : ℕ)
+    (tell : IsTrue told → IsTrue (meaning.told mid)) (asks : raised asked ≤ class_size_of p) (is : f ≡ faults) (later : f ≤ f')
     (serves : IsServing k₁.slabs.items n) (below : n < p.limit) (no_guard : IsGuard p n → ⊥)
     (on : is_open (opened p choices.opened choices.canary (state (terms_of told c p) es)) n ≡ true)
     (shows : Shows p k₁.slabs.items (opened p choices.opened choices.canary (state (terms_of told c p) es)))
-    (slabs : IsTrue told → HoldsSlabs p (opened p choices.opened choices.canary (state (terms_of told c p) es)).opens (runs_of mid))
+    (slabs : IsTrue told → HoldsSlabs p (opened p choices.opened choices.canary (state (terms_of told c p) es)).opens (meaning.runs mid))
     (live_mid : k₁.live ≡ live_count k₁.slabs.items) (live_now : k'.live ≡ live_count k'.slabs.items)
     (live_all : length (opened p choices.opened choices.canary (state (terms_of told c p) es)).live ≤ k₁.live)
     (shut : k₁.shut.items ≡ (opened p choices.opened choices.canary (state (terms_of told c p) es)).shut)
@@ -69,8 +70,8 @@ module _ (told : Bool) (runs : PageRuns) (faults : ℕ) (c : Config) (number are
     (stepped : (a : ℕ) → slab_of p a ≡ n → first_free p (opened p choices.opened choices.canary (state (terms_of told c p) es)) n (drawn p.slots (next_word stream₁)) ≡ Some a → (r : Reply) → event_of (Allot asked 1) r ≡ Picked a
     → IsSteppedEntry (terms_of told c p) (cells_of (state (terms_of told c p) es) k stream quarantine parking) (entry_of who (Allot asked 1) r choices draws f f'))
   where
-    pub kept_serve : (o : Outcome) → Serve tells runs_of faults_of p n kind₀ k₁ k' mid now stream₁ stream' o
-        → IsKept told (runs_of now) f' c number arena p (es ++ entry_of who (Allot asked 1) (reply_of o) choices draws f f' ∷ []) k' stream' quarantine parking
+    pub kept_serve : (o : Outcome) → Serve meaning p n kind₀ k₁ k' mid now stream₁ stream' o
+        → IsKept told (meaning.runs now) f' c number arena p (es ++ entry_of who (Allot asked 1) (reply_of o) choices draws f f' ∷ []) k' stream' quarantine parking
     kept_serve o v =
         let then : State = opened p choices.opened choices.canary (state (terms_of told c p) es) in
         let i : ℕ = v.index in
@@ -88,7 +89,7 @@ module _ (told : Bool) (runs : PageRuns) (faults : ℕ) (c : Config) (number are
         let slab : slab_of p (place p n i) ≡ n = slab_of_place p n i kept.served.shape lt in
         let here : first_free p then n start ≡ Some (place p n i) = picked p k₁.slabs.items then n start i b shows serves.is_slab serves.on start_lt v.first in
         let untaken : is_taken then (place p n i) ≡ false = taken_is p k₁.slabs.items then n i shows lt ∙ ap (λ (o : Option SlotUse). option_map_or occupied o false) was ∙ free in
-        kept_gives told runs faults c number arena p es k stream quarantine parking kept tells runs_of mid now k₁ k' stream' n i kind₀ b choices draws who asked f f'
+        kept_gives told runs faults c number arena p es k stream quarantine parking kept meaning mid now k₁ k' stream' n i kind₀ b choices draws who asked f f'
         tell asks is later lt serves.is_slab u was free on shows slabs live_mid live_now live_all (ap (λ v. v.items) v.shut ∙ shut)
         (v.partial ∙ ap (λ (l : List ℕ). listed Partial n kind₀ (kind_at k'.slabs.items n) (reverse l)) partial) (v.empty ∙ ap (λ (l : List ℕ). listed Empty n kind₀ (kind_at k'.slabs.items n) (reverse l)) empty)
         was_kind are (taken ∙ sym v.stream_is)

@@ -14,14 +14,14 @@ use Rattle.hm_class_rules.specs.State.{State}
 use Rattle.hm_class_rules.specs.Steps.{opened}
 use Rattle.hm_class_rules.specs.Drawn.{first_free}
 use Rattle.hm_class_rules.specs.Draws.{Event, Picked, event, event_of, words_of, words_from, after_words, word_count, canary_words, start_words, start_slot, word_after}
-use Rattle.hm_class_rules.specs.Rules.{Terms, chose_none}
+use Rattle.hm_class_rules.specs.Rules.{Terms}
 use Rattle.hm_class_rules.specs.Stepped.{Cells, front, IsSteppedEntry, IsSteppedEvent}
 use Rattle.hm_class.specs.declared.outcome.Canary.{Canary}
-use Rattle.hm_class.specs.Calls.{entry_of, one_draw}
+use Rattle.hm_model.specs.Calls.{no_choices, entry_of, one_word}
 use Rattle.hm_class.specs.Finds.{drawn_canary, canary_stream}
 use Rattle.hm_class.specs.Outcomes.{canary_value, chose_opened, start_draws}
 
-pub one_draw_are : (w : ℕ) → AreDraws (one_draw w)
+pub one_draw_are : (w : ℕ) → AreDraws (one_word w)
 one_draw_are w = record { first = λ lt. absurd (omega (arith, lt)); second = λ lt. refl; third = λ lt. refl }
 
 pub three_draws_are : (canary : Canary) (w : ℕ) → AreDraws (start_draws (Some canary) w)
@@ -63,9 +63,9 @@ no_words false = refl
 module _ (t : Terms) (c : Cells) (s : State) (who : Who) (asked a n f f' : ℕ) (r : Reply) (same : c.state ≡ s) (random : t.config.random_slots ≡ true) (is : event_of (Allot asked 1) r ≡ Picked a) (slab : slab_of t.shape a ≡ n) where
   -- of an open slab
   pub stepped_open : first_free t.shape s n (drawn t.shape.slots (next_word c.stream)) ≡ Some a → front c.partial c.empty ≡ Some n
-      → IsSteppedEntry t c (entry_of who (Allot asked 1) r chose_none (one_draw (next_word c.stream)) f f')
+      → IsSteppedEntry t c (entry_of who (Allot asked 1) r no_choices (one_word (next_word c.stream)) f f')
   stepped_open place source =
-      stepped_picked t c s (entry_of who (Allot asked 1) r chose_none (one_draw (next_word c.stream)) f f') a n 0 (next_word c.stream) same random is slab (no_words (has_bytes t.shape)) refl refl refl tt place (λ none. source)
+      stepped_picked t c s (entry_of who (Allot asked 1) r no_choices (one_word (next_word c.stream)) f f') a n 0 (next_word c.stream) same random is slab (no_words (has_bytes t.shape)) refl refl refl tt place (λ none. source)
 
   -- of a slab that was opened
   pub stepped_new : first_free t.shape (opened t.shape (Some n) (canary_value (drawn_canary t.shape c.stream)) s) n (drawn t.shape.slots (next_word (canary_stream t.shape c.stream))) ≡ Some a

@@ -7,6 +7,7 @@ use mir.Syntax.{w64}
 use Rattle.std.proofs.lemmas.Option.{none-some}
 use Rattle.hm_choice.specs.Stream.{Words, next_word, after_word, canary_of, drawn}
 use Rattle.hm_quarantine.specs.Quarantine.{Kept}
+use Rattle.hm_outside.specs.declared.pages.Pages as pages
 use Rattle.hm_outside.specs.PageRuns.{PageRuns, MeetsNone, IsHeld, Reads, Writes, zeros}
 use Rattle.hm_model.specs.Machine.{run_push, Legal_push}
 use Rattle.hm_model.specs.declared.entry.Entry.{Entry}
@@ -22,7 +23,7 @@ use Rattle.hm_model.specs.Entries.{AreDraws}
 use Rattle.hm_sizes.specs.declared.config.Config.{Config}
 use Rattle.hm_sizes.specs.declared.shape.Shape.{Shape}
 use Rattle.hm_sizes.specs.declared.class.ClassId.{ClassId}
-use Rattle.hm_sizes.specs.Classes.{class_size, slot_size}
+use Rattle.hm_sizes.specs.Classes.{class_count, class_size, slot_size}
 use Rattle.hm_sizes.specs.Shapes.{IsShape, place, slab_at, slab_of, has_bytes, usable, class_size_of}
 use Rattle.hm_sizes.specs.Sizes.{raised}
 use Rattle.hm_class_rules.specs.State.{State, start, is_open, is_live}
@@ -31,7 +32,7 @@ use Rattle.hm_class_rules.specs.Bytes.{first_nonzero, usable_bytes, overlaid_sla
 use Rattle.hm_class_rules.specs.Draws.{Event, Picked, Returned, Undrawn, event, event_of, drawn_shape}
 use Rattle.hm_class_rules.specs.Drawn.{IsDrawn}
 use Rattle.hm_class_rules.specs.DrawnLaws.{AreKept, AllowsDrawn}
-use Rattle.hm_class_rules.specs.Rules.{Terms, Allowed, Allows, Asks, Picks, IsLegal, state, IsLiveBlock, chose_none, wrong_size, wrong_canary}
+use Rattle.hm_class_rules.specs.Rules.{Terms, Allowed, Allows, Asks, Picks, IsLegal, state, IsLiveBlock, wrong_size, wrong_canary}
 use Rattle.hm_class_rules.specs.Laws.{IsSound}
 use Rattle.hm_class_rules.specs.Stepped.{Cells, cells, next, IsSteppedEntry, IsStepped, first_cells}
 use Rattle.hm_class_rules.proofs.Legal.{sound}
@@ -39,7 +40,7 @@ use Rattle.hm_class_rules.proofs.NextEntry.{lists_are_kept, drawn_is_allowed, on
 use Rattle.hm_class_rules.proofs.Alike.{drawn_is_stepped}
 use Rattle.hm_class.specs.declared.access.Fetched.{Fetched}
 use Rattle.hm_class.specs.declared.access.Fetched.TheVariants.{Bytes, Trap}
-use Rattle.hm_class.specs.Access.{Fetches, Fills, RepliesTo}
+use Rattle.hm_class.specs.Access.{Fetches, IsFetched, Fills, RepliesTo}
 use Rattle.hm_class.specs.declared.outcome.Outcome.{Outcome}
 use Rattle.hm_class.specs.declared.outcome.Outcome.TheVariants as outcome
 use Rattle.hm_class.specs.declared.slabs.Slot.{Slot}
@@ -47,7 +48,9 @@ use Rattle.hm_class.specs.declared.slabs.Slabs.{Slabs}
 use Rattle.hm_class.specs.Uses.{Uses, SlabUse, canary_at, live_count}
 use Rattle.hm_class.specs.Region.{Region, IsRegion, IsTakenBack, HoldsSlabs, region_shape, terms}
 use Rattle.hm_class.specs.Rooms.{SameSlabs}
-use Rattle.hm_class.specs.Calls.{entry_of, no_draws, Added}
+use Rattle.hm_model.specs.Calls.{Adds, no_choices, entry_of, no_words}
+use Rattle.hm_model.specs.Replies.{IsClassReply, IsFetchReply}
+use Rattle.hm_class.specs.Calls.{Added}
 use Rattle.hm_class.specs.Outcomes.{reply_of}
 use Rattle.hm_class.specs.Judgements.{Refusals, RefusesCanary, Accepts, Measures, other_number}
 use Rattle.hm_class.specs.Kept.{Shows, Follows, IsServed, IsKept, terms_of, cells_of}
@@ -56,17 +59,27 @@ use Rattle.hm_class.proofs.Listed.{next_undrawn, stepped_undrawn}
 use Rattle.hm_class.proofs.Permitted.{allowed_of, no_slot, unused, double_free, live_block, live_open, canary_found, told_pair}
 
 -- ---- what callers see
-pub region_of : {P : Type 0} (told : P → Bool) (runs : P → PageRuns) (faults : P → ℕ) (r : Region P) (p : Shape) (k : Slabs) (stream : Words) (quarantine : Kept) (parking : List (Option ℕ)) → r.class ≡ p.class
-    → IsKept (told r.pages) (runs r.pages) (faults r.pages) r.config r.number r.arena p r.entries k stream quarantine parking → k.live ≤ r.spare → IsRegion told runs faults r
-region_of told runs faults r p k stream quarantine parking class kept room =
-    let is : p ≡ region_shape r = kept.served.is ∙ ap (λ c. drawn_shape r.number r.config r.arena c) (sym class) in
-    let same : terms_of (told r.pages) r.config p ≡ terms told r = ap (λ (q : Shape). terms_of (told r.pages) r.config q) is in
+-- the region's numbers are those of its first word
+pub shape_is : {P : Type 0} (meaning : pages.Ghosts P) (r : Region P) (p : Shape) (k : Slabs) (stream : Words) (quarantine : Kept) (parking : List (Option ℕ)) → r.class ≡ p.class
+    → IsKept (meaning.told r.pages) (meaning.runs r.pages) (meaning.faults r.pages) r.config r.number r.arena p r.entries k stream quarantine parking → p ≡ region_shape r
+shape_is meaning r p k stream quarantine parking class kept = kept.served.is ∙ ap (λ c. drawn_shape r.number r.config r.arena c) (sym class)
+
+pub region_of : {P : Type 0} (meaning : pages.Ghosts P) (r : Region P) (p : Shape) (k : Slabs) (stream : Words) (quarantine : Kept) (parking : List (Option ℕ)) → r.class ≡ p.class
+    → IsKept (meaning.told r.pages) (meaning.runs r.pages) (meaning.faults r.pages) r.config r.number r.arena p r.entries k stream quarantine parking → k.live ≤ r.spare → IsRegion meaning r
+region_of meaning r p k stream quarantine parking class kept room =
+    let tells : Bool = meaning.told r.pages in
+    let is : p ≡ region_shape r = shape_is meaning r p k stream quarantine parking class kept in
+    let same : terms_of tells r.config p ≡ terms meaning.told r = ap (λ (q : Shape). terms_of tells r.config q) is in
     record {
+      valid = kept.served.valid;
+      arena_below = kept.served.arena_below;
+      class_below = subst (λ (k : ClassId). k.0 < class_count) (sym class) kept.served.class_below;
+      shape = subst IsShape is kept.served.shape;
       legal = subst (λ (t : Terms). IsLegal t r.entries) same kept.legal;
       drawn = subst (λ (t : Terms). IsDrawn r.number r.arena t r.entries) same
-          ((drawn_is_stepped r.number r.arena (terms_of (told r.pages) r.config p) r.entries kept.served.valid.park_some kept.served.shape kept.legal).1 kept.stepped);
+          ((drawn_is_stepped r.number r.arena (terms_of tells r.config p) r.entries kept.served.valid.park_some kept.served.shape kept.legal).1 kept.stepped);
       count = kept.count ∙ ap (λ (t : Terms). (state t r.entries).faults) same;
-      slabs = λ t. subst (λ (q : Shape). HoldsSlabs q (state (terms_of (told r.pages) r.config q) r.entries).opens (runs r.pages)) is (kept.slabs t);
+      slabs = λ t. subst (λ (q : Shape). HoldsSlabs q (state (terms_of tells r.config q) r.entries).opens (meaning.runs r.pages)) is (kept.slabs t);
       room = subst (λ (t : Terms). length (state t r.entries).live ≤ r.spare) same (omega (arith, kept.follows.live_all, room));
     }
 
@@ -75,13 +88,29 @@ pub appended : (new room old : List Entry) (x e : Entry) → new ≡ room ++ x �
 appended new room old x e pushed same is = pushed ∙ ap (λ (l : List Entry). l ++ x ∷ []) same ∙ ap (λ (y : Entry). old ++ y ∷ []) is
 
 -- the entry that was added
-pub added_of : {P : Type 0} (faults : P → ℕ) (old new view : Region P) (who : Who) (call : Call) (answer : Reply) (choices : Choices) (draws : Draws) (before now : ℕ) → view ≡ old
-    → new.entries ≡ view.entries ++ entry_of who call answer choices draws before now ∷ [] → before ≡ faults view.pages → now ≡ faults new.pages → Added faults old new who call answer
-added_of faults old new view who call answer choices draws before now same all is is' = subst (λ (r : Region _). Added faults r new who call answer) same (record {
+pub added_of : {P : Type 0} (meaning : pages.Ghosts P) (old view : Region P) (new : List Entry) (last : P) (who : Who) (call : Call) (answer : Reply) (choices : Choices) (draws : Draws) (before now : ℕ) → view ≡ old
+    → new ≡ view.entries ++ entry_of who call answer choices draws before now ∷ [] → before ≡ meaning.faults view.pages → now ≡ meaning.faults last
+    → Adds who call answer (meaning.faults old.pages) (meaning.faults last) old.entries new
+added_of meaning old view new last who call answer choices draws before now same all is is' = subst (λ (r : Region _). Adds who call answer (meaning.faults r.pages) (meaning.faults last) r.entries new) same (record {
   choices = choices;
   draws = draws;
-  entries = all ∙ ap (λ (n : ℕ). view.entries ++ entry_of who call answer choices draws n now ∷ []) is ∙ ap (λ (n : ℕ). view.entries ++ entry_of who call answer choices draws (faults view.pages) n ∷ []) is';
+  entries = all ∙ ap (λ (n : ℕ). view.entries ++ entry_of who call answer choices draws n now ∷ []) is
+      ∙ ap (λ (n : ℕ). view.entries ++ entry_of who call answer choices draws (meaning.faults view.pages) n ∷ []) is';
 })
+
+-- a reply that a slot of these numbers may have is one that the region may have
+pub reply_of_region : {P : Type 0} (meaning : pages.Ghosts P) (r old : Region P) (p : Shape) (k : Slabs) (stream : Words) (quarantine : Kept) (parking : List (Option ℕ)) (call : Call) (given answer : Reply) → r ≡ old → r.class ≡ p.class
+    → IsKept (meaning.told r.pages) (meaning.runs r.pages) (meaning.faults r.pages) r.config r.number r.arena p r.entries k stream quarantine parking → answer ≡ given → IsClassReply (usable p) call given
+    → IsClassReply (usable (region_shape old)) call answer
+reply_of_region meaning r old p k stream quarantine parking call given answer view class kept same reply =
+    subst (λ (q : Region _). IsClassReply (usable (region_shape q)) call answer) view
+    (subst (λ (q : Shape). IsClassReply (usable q) call answer) (shape_is meaning r p k stream quarantine parking class kept)
+    (subst (λ (x : Reply). IsClassReply (usable p) call x) (sym same) reply))
+
+-- the reply to a fetch
+pub fetch_reply : (a len : ℕ) (fetched : Fetched) (r : Reply) → IsFetched a len fetched → RepliesTo fetched r → IsFetchReply a len r
+fetch_reply a len (Bytes read) r is replies = subst (λ (x : Reply). IsFetchReply a len x) (sym replies.1) (ap (λ (l : List ℕ). length l) replies.2 ∙ is)
+fetch_reply a len (Trap q) r is replies = subst (λ (x : Reply). IsFetchReply a len x) (sym replies) is
 
 -- what is asked for fits a slot
 pub asks_of : (c : Config) (number arena : ℕ) (p : Shape) (x : ℕ) → IsServed c number arena p → x ≤ class_size p.class.0 → x ≤ class_size_of p
@@ -93,7 +122,7 @@ asks_of c number arena p x served le =
     of true n le = le
     of false n le = le
 
-pub no_draws_are : AreDraws no_draws
+pub no_draws_are : AreDraws no_words
 no_draws_are = record { first = λ lt. refl; second = λ lt. refl; third = λ lt. refl }
 
 -- ---- one entry more
@@ -149,15 +178,15 @@ module _ (told : Bool) (runs : PageRuns) (faults : ℕ) (c : Config) (number are
   })
 
   -- an entry that draws nothing, after which the same slots say what the state says
-  pub kept_undrawn : (runs' : PageRuns) (who : Who) (call : Call) (answer : Reply) (f : ℕ) (s' : State) → f ≡ faults → event_of call answer ≡ Undrawn → Allows (terms_of told c p) before f f chose_none call answer → Asks p call
-      → step p before (entry_of who call answer chose_none no_draws f f) ≡ record s' { faults = f } → Shows p k.slabs.items s' → s'.live ≡ before.live → s'.shut ≡ before.shut → (IsTrue told → HoldsSlabs p s'.opens runs')
-      → IsKept told runs' faults c number arena p (es ++ entry_of who call answer chose_none no_draws f f ∷ []) k stream quarantine parking
+  pub kept_undrawn : (runs' : PageRuns) (who : Who) (call : Call) (answer : Reply) (f : ℕ) (s' : State) → f ≡ faults → event_of call answer ≡ Undrawn → Allows (terms_of told c p) before f f no_choices call answer → Asks p call
+      → step p before (entry_of who call answer no_choices no_words f f) ≡ record s' { faults = f } → Shows p k.slabs.items s' → s'.live ≡ before.live → s'.shut ≡ before.shut → (IsTrue told → HoldsSlabs p s'.opens runs')
+      → IsKept told runs' faults c number arena p (es ++ entry_of who call answer no_choices no_words f f ∷ []) k stream quarantine parking
   kept_undrawn runs' who call answer f s' is undrawn allows asks after shows live shut slabs =
-      let e : Entry = entry_of who call answer chose_none no_draws f f in
+      let e : Entry = entry_of who call answer no_choices no_words f f in
       let t : Terms = terms_of told c p in
       let shows' : Shows p k.slabs.items (step p before e) = subst (λ (s : State). Shows p k.slabs.items s) (sym after) (shows_count p k.slabs.items s' f shows) in
       pushed runs' faults k stream quarantine parking e
-      (allowed_of t before who call answer chose_none no_draws f f no_draws_are asks (is ∙ kept.count) (omega arith) allows)
+      (allowed_of t before who call answer no_choices no_words f f no_draws_are asks (is ∙ kept.count) (omega arith) allows)
       (stepped_undrawn t held e undrawn refl refl) (sym is)
       (record {
         shows = shows';
@@ -169,20 +198,20 @@ module _ (told : Bool) (runs : PageRuns) (faults : ℕ) (c : Config) (number are
       (next_undrawn t before k stream quarantine parking e kept.served.shape undrawn refl kept.follows.shows shows')
 
   -- nothing changed
-  pub kept_still : (who : Who) (call : Call) (answer : Reply) (f : ℕ) → f ≡ faults → event_of call answer ≡ Undrawn → Allows (terms_of told c p) before f f chose_none call answer → Asks p call
-      → step p before (entry_of who call answer chose_none no_draws f f) ≡ record before { faults = f }
-      → IsKept told runs faults c number arena p (es ++ entry_of who call answer chose_none no_draws f f ∷ []) k stream quarantine parking
+  pub kept_still : (who : Who) (call : Call) (answer : Reply) (f : ℕ) → f ≡ faults → event_of call answer ≡ Undrawn → Allows (terms_of told c p) before f f no_choices call answer → Asks p call
+      → step p before (entry_of who call answer no_choices no_words f f) ≡ record before { faults = f }
+      → IsKept told runs faults c number arena p (es ++ entry_of who call answer no_choices no_words f f ∷ []) k stream quarantine parking
   kept_still who call answer f is undrawn allows asks same = kept_undrawn runs who call answer f before is undrawn allows asks same kept.follows.shows refl refl kept.slabs
 
   -- ---- giving back and measuring
   abbrev no_change : Who → Call → Reply → ℕ → Type 0
-  no_change who call answer f = IsKept told runs faults c number arena p (es ++ entry_of who call answer chose_none no_draws f f ∷ []) k stream quarantine parking
+  no_change who call answer f = IsKept told runs faults c number arena p (es ++ entry_of who call answer no_choices no_words f f ∷ []) k stream quarantine parking
 
-  module _ {P : Type 0} (tells : P → Bool) (runs_of : P → PageRuns) (pages : P) (told_is : tells pages ≡ told) (runs_is : runs_of pages ≡ runs) (who : Who) (a f : ℕ) (is : f ≡ faults) where
-    tell_now : IsTrue told → IsTrue (tells pages)
+  module _ {P : Type 0} (meaning : pages.Ghosts P) (pages : P) (told_is : meaning.told pages ≡ told) (runs_is : meaning.runs pages ≡ runs) (who : Who) (a f : ℕ) (is : f ≡ faults) where
+    tell_now : IsTrue told → IsTrue (meaning.told pages)
     tell_now t = told_is ∙ t
 
-    canary_told : (stated : Option ℕ) (held found : ℕ) → RefusesCanary tells runs_of p k pages a stated held found → IsTrue told → wrong_canary p before a ≡ Some (held, found)
+    canary_told : (stated : Option ℕ) (held found : ℕ) → RefusesCanary meaning p k pages a stated held found → IsTrue told → wrong_canary p before a ≡ Some (held, found)
     canary_told stated kept_one found r t =
         canary_found p k.slabs.items before r.slot.slab r.slot.index a runs (Some found) kept.served.shape r.own r.judged.0
         (live_open p before r.slot.slab r.slot.index kept.served.shape sound_now r.judged.0.slot (ap (λ (q : ℕ). is_live before q) (sym r.judged.0.is) ∙ (live_block p k.slabs.items before a kept.served.shape kept.follows.shows r.slot r.judged).live)) kept.follows.shows (kept.slabs t)
@@ -191,15 +220,15 @@ module _ (told : Bool) (runs : PageRuns) (faults : ℕ) (c : Config) (number are
         ∙ ap (λ (x : ℕ). told_pair x found) (sym r.kept_is)
 
     -- a block that is to be taken back is not refused
-    pub refusal_false : (stated : Option ℕ) (o : Outcome) → Refusals tells runs_of p k pages a stated o → IsTrue told → IsLiveBlock p before a → wrong_size p stated ≡ None → wrong_canary p before a ≡ None → ⊥
+    pub refusal_false : (stated : Option ℕ) (o : Outcome) → Refusals meaning p k pages a stated o → (has_bytes p ≡ true → IsTrue told) → IsLiveBlock p before a → wrong_size p stated ≡ None → wrong_canary p before a ≡ None → ⊥
     refusal_false stated outcome.NoSlot r t block size canary = no_slot p k.slabs.items before a kept.served.shape kept.follows.shows r block.place
     refusal_false stated outcome.Unused r t block size canary = true≢false (sym block.given ∙ (unused p k.slabs.items before a kept.served.shape kept.follows.shows r).1)
     refusal_false stated outcome.DoubleFree r t block size canary = true≢false (sym block.live ∙ (double_free p k.slabs.items before a kept.served.shape kept.follows.shows r).2)
     refusal_false stated (outcome.WrongSize b other) r t block size canary = none-some (b, other) (sym size ∙ r.size)
-    refusal_false stated (outcome.Canary kept_one found) r t block size canary = none-some (kept_one, found) (sym canary ∙ canary_told stated kept_one found r t)
+    refusal_false stated (outcome.Canary kept_one found) r t block size canary = none-some (kept_one, found) (sym canary ∙ canary_told stated kept_one found r (t r.own))
     refusal_false stated other r t block size canary = absurd r
 
-    pub kept_refused : (stated : Option ℕ) (o : Outcome) → Refusals tells runs_of p k pages a stated o → no_change who (GiveBack a stated) (reply_of o) f
+    pub kept_refused : (stated : Option ℕ) (o : Outcome) → Refusals meaning p k pages a stated o → no_change who (GiveBack a stated) (reply_of o) f
     kept_refused stated outcome.NoSlot r = kept_still who (GiveBack a stated) reply.NoSlot f is refl (no_slot p k.slabs.items before a kept.served.shape kept.follows.shows r, refl) tt refl
     kept_refused stated outcome.Unused r = kept_still who (GiveBack a stated) reply.Unused f is refl (unused p k.slabs.items before a kept.served.shape kept.follows.shows r, refl) tt refl
     kept_refused stated outcome.DoubleFree r = kept_still who (GiveBack a stated) reply.DoubleFree f is refl (double_free p k.slabs.items before a kept.served.shape kept.follows.shows r, refl) tt refl
@@ -229,7 +258,7 @@ module _ (told : Bool) (runs : PageRuns) (faults : ℕ) (c : Config) (number are
         (kept_still who (Fetch a len) (reply.Trap q) f is refl ((λ t. fetches t before kept.follows.shows (kept.slabs t)), refl) (some, most, below) refl)
 
     pub kept_filled : (runs' : PageRuns) (rs : List (ℕ × ℕ)) (bytes : List ℕ) (o : Outcome) → bytes ≡ expand rs → 1 ≤ length (expand rs) → length (expand rs) ≤ 2 ^ 30 → Fills told runs runs' p k.slabs.items a bytes o
-        → IsKept told runs' faults c number arena p (es ++ entry_of who (Fill a rs) (reply_of o) chose_none no_draws f f ∷ []) k stream quarantine parking
+        → IsKept told runs' faults c number arena p (es ++ entry_of who (Fill a rs) (reply_of o) no_choices no_words f f ∷ []) k stream quarantine parking
     kept_filled runs' rs bytes outcome.Filled same some most fills =
         let w : List ℕ = expand rs in
         let now : IsTrue told → (first_trap p before a (length w) ≡ None) × HoldsSlabs p (write p a w before).opens runs' = λ t.
@@ -242,12 +271,15 @@ module _ (told : Bool) (runs : PageRuns) (faults : ℕ) (c : Config) (number are
     kept_filled runs' rs bytes other same some most fills = absurd fills
 
 -- a block that is to be taken back is not refused, as callers see it
-pub never_refused : {P : Type 0} (told : P → Bool) (runs : P → PageRuns) (faults : P → ℕ) (r : Region P) (p : Shape) (k : Slabs) (stream : Words) (quarantine : Kept) (parking : List (Option ℕ)) (a : ℕ) (stated : Option ℕ) (o : Outcome) → r.class ≡ p.class
-    → IsKept (told r.pages) (runs r.pages) (faults r.pages) r.config r.number r.arena p r.entries k stream quarantine parking → Refusals told runs p k r.pages a stated o → IsTakenBack told r a stated → ⊥
-never_refused told runs faults r p k stream quarantine parking a stated o class kept refused taken =
-    let is : p ≡ region_shape r = kept.served.is ∙ ap (λ c. drawn_shape r.number r.config r.arena c) (sym class) in
-    let same : terms_of (told r.pages) r.config p ≡ terms told r = ap (λ (q : Shape). terms_of (told r.pages) r.config q) is in
-    refusal_false (told r.pages) (runs r.pages) (faults r.pages) r.config r.number r.arena p r.entries k stream quarantine parking kept told runs r.pages refl refl (record { caller = 0; round = 0; thread = 0; step = 0; part = 0 }) a (faults r.pages) refl stated o refused taken.tells
+pub never_refused : {P : Type 0} (meaning : pages.Ghosts P) (r : Region P) (p : Shape) (k : Slabs) (stream : Words) (quarantine : Kept) (parking : List (Option ℕ)) (a : ℕ) (stated : Option ℕ) (o : Outcome)
+    → r.class ≡ p.class → IsKept (meaning.told r.pages) (meaning.runs r.pages) (meaning.faults r.pages) r.config r.number r.arena p r.entries k stream quarantine parking
+    → Refusals meaning p k r.pages a stated o → IsTakenBack meaning.told r a stated → ⊥
+never_refused meaning r p k stream quarantine parking a stated o class kept refused taken =
+    let tells : Bool = meaning.told r.pages in
+    let is : p ≡ region_shape r = shape_is meaning r p k stream quarantine parking class kept in
+    let same : terms_of tells r.config p ≡ terms meaning.told r = ap (λ (q : Shape). terms_of tells r.config q) is in
+    refusal_false tells (meaning.runs r.pages) (meaning.faults r.pages) r.config r.number r.arena p r.entries k stream quarantine parking kept meaning r.pages refl refl
+    (record { caller = 0; round = 0; thread = 0; step = 0; part = 0 }) a (meaning.faults r.pages) refl stated o refused (λ own. taken.tells (ap has_bytes (sym is) ∙ own))
     (subst (λ (t : Terms). IsLiveBlock t.shape (state t r.entries) a) (sym same) taken.block)
     (subst (λ (q : Shape). wrong_size q stated ≡ None) (sym is) taken.size)
     (subst (λ (t : Terms). wrong_canary t.shape (state t r.entries) a ≡ None) (sym same) taken.canary)

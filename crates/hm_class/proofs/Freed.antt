@@ -18,7 +18,7 @@ use Rattle.hm_class_rules.proofs.Alike.{drawn_below}
 use Rattle.hm_class_rules.proofs.Streams.{next_below}
 use Rattle.hm_class.specs.declared.outcome.Emptied.{Emptied}
 use Rattle.hm_class.specs.declared.outcome.Emptied.TheVariants as emptied
-use Rattle.hm_class.specs.Calls.{entry_of, no_draws, one_draw}
+use Rattle.hm_model.specs.Calls.{entry_of, no_words, one_word}
 use Rattle.hm_class.specs.Frees.{array_word, place_of_word, array_stream}
 use Rattle.hm_class.specs.Outcomes.{freed_choices, freed_draws}
 

@@ -33,7 +33,7 @@ use Rattle.hm_class.specs.declared.slabs.Refusal.TheVariants as refusal
 use Rattle.hm_class.specs.declared.slabs.Verdict.TheVariants as verdict
 use Rattle.hm_class.specs.Uses.{Uses, SlabUse, lives, was_given, occupied, has_available, is_available, is_partly, is_unused, has_occupied, kind_of, kind_at, slab_in, use_at, passes_at, canary_at, taken_uses, with_slab, fresh_slab}
 use Rattle.hm_class.specs.Sources.{Refuses, Judges}
-use Rattle.hm_class.specs.Calls.{entry_of}
+use Rattle.hm_model.specs.Calls.{entry_of}
 use Rattle.hm_class.specs.Judgements.{other_number}
 use Rattle.hm_class.specs.Kept.{Shows}
 use Rattle.hm_class.specs.Region.{HoldsSlabs}

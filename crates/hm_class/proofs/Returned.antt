@@ -7,6 +7,7 @@ use Rattle.std.proofs.lemmas.List.{length-replicate, length-reverse}
 use Rattle.std.proofs.lemmas.Option.{none-some, same_Some}
 use Rattle.hm_choice.specs.Stream.{Words, next_word, after_word, drawn}
 use Rattle.hm_quarantine.specs.Quarantine.{Kept, let_go, kept_with}
+use Rattle.hm_outside.specs.declared.pages.Pages as pages
 use Rattle.hm_outside.specs.PageRuns.{PageRuns, IsHeld, IsRun, Reads, Writes, zeros}
 use Rattle.hm_model.specs.Maps.{among, at, has, removed, without}
 use Rattle.hm_model.proofs.Lists.{times_among}
@@ -36,7 +37,7 @@ use Rattle.hm_class.specs.declared.slabs.Slabs.{Slabs}
 use Rattle.hm_class.specs.declared.slabs.Slot.{Slot}
 use Rattle.hm_class.specs.Uses.{Uses, SlabUse, lives, occupied, is_available, has_occupied, has_available, is_partly, is_unused, is_held, kind_of, kind_at, slab_in, use_at, passes_at, with_slot, with_use, with_shut, shut_slab, live_count}
 use Rattle.hm_class.specs.Rooms.{SameLists}
-use Rattle.hm_class.specs.Calls.{entry_of}
+use Rattle.hm_model.specs.Calls.{entry_of}
 use Rattle.hm_class.specs.Outcomes.{freed_choices, freed_draws}
 use Rattle.hm_class.specs.Frees as frees
 use Rattle.hm_class.specs.Frees.{array_word, place_of_word, array_stream, Clears, CanRelease, Settles, KeepsPlaces, JoinsSlab, RetiresSlab, PurgesSlab, is_surplus, freed_uses, with_unparked, released_slab}
@@ -86,9 +87,9 @@ shut_live all n b is = omega (arith, count_changed all n shut_slab b is lives)
 -- ---- the slot is held
 module _ (told : Bool) (runs : PageRuns) (faults : ℕ) (c : Config) (number arena : ℕ) (p : Shape) (es : List Entry) (k : Slabs) (stream : Words) (quarantine : Kept) (parking : List (Option ℕ))
     (kept : IsKept told runs faults c number arena p es k stream quarantine parking)
-    {P : Type 0} (tells : P → Bool) (runs_of : P → PageRuns) (begun half : P) (k₁ : Slabs) (a n i : ℕ) (told_is : tells begun ≡ told) (runs_is : runs_of begun ≡ runs)
+    {P : Type 0} (meaning : pages.Ghosts P) (begun half : P) (k₁ : Slabs) (a n i : ℕ) (told_is : meaning.told begun ≡ told) (runs_is : meaning.runs begun ≡ runs)
     (is : a ≡ place p n i) (lt : i < p.slots) (was : use_at k.slabs.items n i ≡ Some Live) (items : k₁.slabs.items ≡ with_use k.slabs.items n i Held)
-    (cleared : Clears tells runs_of p begun half a) where
+    (cleared : Clears meaning p begun half a) where
   abbrev first : State
   first = state (terms_of told c p) es
 
@@ -107,20 +108,20 @@ module _ (told : Bool) (runs : PageRuns) (faults : ℕ) (c : Config) (number are
   was_open : is_open first n ≡ true
   was_open = live_open p first n i kept.served.shape (sound_now told runs faults c number arena p es k stream quarantine parking kept) lt (ap (λ (q : ℕ). is_live first q) (sym is) ∙ was_live)
 
-  pub held_slabs : IsTrue told → HoldsSlabs p taken.opens (runs_of half)
+  pub held_slabs : IsTrue told → HoldsSlabs p taken.opens (meaning.runs half)
   held_slabs y = of (has_bytes p) refl
     where
       w : List ℕ
       w = zeros (usable p)
 
-      before : HoldsSlabs p first.opens (runs_of begun)
+      before : HoldsSlabs p first.opens (meaning.runs begun)
       before = subst (λ (r : PageRuns). HoldsSlabs p first.opens r) (sym runs_is) (kept.slabs y)
 
-      of : (own : Bool) → has_bytes p ≡ own → HoldsSlabs p taken.opens (runs_of half)
-      of true own = holds_write p first.opens a (usable p) w (runs_of begun) (runs_of half) kept.served.shape (length-replicate (usable p) 0) before
-          (cleared.some own (told_is ∙ y) (subst (λ (q : ℕ). IsHeld (runs_of begun) q (usable p)) (sym is) (usable_held p first n i (runs_of begun) kept.served.shape own was_open lt before)))
+      of : (own : Bool) → has_bytes p ≡ own → HoldsSlabs p taken.opens (meaning.runs half)
+      of true own = holds_write p first.opens a (usable p) w (meaning.runs begun) (meaning.runs half) kept.served.shape (length-replicate (usable p) 0) before
+          (cleared.some own (told_is ∙ y) (subst (λ (q : ℕ). IsHeld (meaning.runs begun) q (usable p)) (sym is) (usable_held p first n i (meaning.runs begun) kept.served.shape own was_open lt before)))
       of false off = subst (λ (r : PageRuns). HoldsSlabs p taken.opens r) (sym (cleared.none off (told_is ∙ y)))
-          (holds_without p first.opens taken.opens (runs_of begun) off (whole_write (bytes_of_slab p) p a w first.opens before.whole) before)
+          (holds_without p first.opens taken.opens (meaning.runs begun) off (whole_write (bytes_of_slab p) p a w first.opens before.whole) before)
 
   pub held_sound : IsSound p taken
   held_sound = sound_takes_back p first a (sound_now told runs faults c number arena p es k stream quarantine parking kept) was_live
@@ -167,21 +168,21 @@ module _ (told : Bool) (runs : PageRuns) (faults : ℕ) (c : Config) (number are
             ∙ held_use k₁.slabs.items r.slab r.slot (sym (held_shows.held r.slab r.slot r.is_place.slot) ∙ ap (λ (q : ℕ). among q taken.held) (sym r.is_place.is) ∙ at_b);
       }
 
-  pub can_release : (b : ℕ) (told_half : tells half ≡ told) → among b taken.held ≡ true → CanRelease tells runs_of p k₁ half b
+  pub can_release : (b : ℕ) (told_half : meaning.told half ≡ told) → among b taken.held ≡ true → CanRelease meaning p k₁ half b
   can_release b told_half at_b =
       let r = is_released b at_b in
       record {
         from = r.from;
         below = r.below;
         there = ap (λ (o : Option SlotUse). is_some o) r.used;
-        run = λ own y. slab_run p taken.opens (slab_of p b) (runs_of half) own r.open_slab (held_slabs (sym told_half ∙ y));
+        run = λ own y. slab_run p taken.opens (slab_of p b) (meaning.runs half) own r.open_slab (held_slabs (sym told_half ∙ y));
       }
 
   at_released : (o : Option ℕ) (b : ℕ) → Releases p taken o → o ≡ Some b → among b taken.held ≡ true
   at_released None b r e = absurd (none-some b e)
   at_released (Some x) b r e = ap (λ (q : ℕ). among q taken.held) (sym (same_Some x b e)) ∙ r.0
 
-  pub release_ready : (o : Option ℕ) → o ≡ let_go quarantine a (place_of_word p (next_word stream)) → tells half ≡ told → IfSome o (λ b. CanRelease tells runs_of p k₁ half b)
+  pub release_ready : (o : Option ℕ) → o ≡ let_go quarantine a (place_of_word p (next_word stream)) → meaning.told half ≡ told → IfSome o (λ b. CanRelease meaning p k₁ half b)
   release_ready None e told_half = tt
   release_ready (Some b) e told_half = can_release b told_half (at_released (let_go quarantine a (place_of_word p (next_word stream))) b release_now (sym e))
 

@@ -3,6 +3,7 @@ use Rattle.std.proofs.Common.{◌≡◌, ℕ, ◌+◌, ◌<◌, ◌≤◌, Bool,
 use Rattle.std.specs.Prelude.{vec_len, vec_capacity}
 use Rattle.std.proofs.lemmas.Option.{same_Some}
 use Rattle.hm_choice.specs.Stream.{Words, next_word, drawn}
+use Rattle.hm_outside.specs.declared.pages.Pages as pages
 use Rattle.hm_outside.specs.PageRuns.{PageRuns}
 use Rattle.hm_sizes.specs.declared.shape.Shape.{Shape}
 use Rattle.hm_sizes.specs.Shapes.{IsShape}
@@ -28,31 +29,31 @@ use Rattle.hm_class.proofs.Used.{counted}
 pub room_less : (k : Slabs) (n m : ℕ) → m ≤ n → HasRoom k n → HasRoom k m
 room_less k n m le h = record { partial = omega (arith, h.partial, le); empty = omega (arith, h.empty, le); shut = omega (arith, h.shut, le) }
 
-module _ {P : Type 0} (told : P → Bool) (runs : P → PageRuns) (faults : P → ℕ) (p : Shape) (k k₁ k' : Slabs) (begun mid now : P) (stream stream₁ stream' : Words) where
-  pub found_room : (n : NextSlab) (m : ℕ) → Finds told runs faults p k k₁ begun mid stream stream₁ n → HasRoom k m → HasRoom k₁ m
+module _ {P : Type 0} (meaning : pages.Ghosts P) (p : Shape) (k k₁ k' : Slabs) (begun mid now : P) (stream stream₁ stream' : Words) where
+  pub found_room : (n : NextSlab) (m : ℕ) → Finds meaning p k k₁ begun mid stream stream₁ n → HasRoom k m → HasRoom k₁ m
   found_room (next.Open n) m f h = room_same k k₁ m f.1.0.lists h
   found_room (next.New n canary) m f h = f.1.room m h
   found_room next.Exhausted m f h = room_same k k₁ m f.1.0.lists h
   found_room next.PagesFailed m f h = room_same k k₁ m f.2.lists h
 
-  pub found_live : (n : NextSlab) → Finds told runs faults p k k₁ begun mid stream stream₁ n → k₁.live ≡ k.live
+  pub found_live : (n : NextSlab) → Finds meaning p k k₁ begun mid stream stream₁ n → k₁.live ≡ k.live
   found_live (next.Open n) f = f.1.0.live
   found_live (next.New n canary) f = f.1.live
   found_live next.Exhausted f = f.1.0.live
   found_live next.PagesFailed f = f.2.live
 
-  pub served_room : (n : NextSlab) (e : Event) (m : ℕ) → Serves told runs faults p k₁ k' mid now stream₁ stream' n e → HasRoom k₁ (m + 1) → HasRoom k' m
+  pub served_room : (n : NextSlab) (e : Event) (m : ℕ) → Serves meaning p k₁ k' mid now stream₁ stream' n e → HasRoom k₁ (m + 1) → HasRoom k' m
   served_room (next.Open n) e m v h = v.0.room m h
   served_room (next.New n canary) e m v h = v.0.room m h
   served_room next.Exhausted e m v h = room_same k₁ k' m v.1.lists (room_less k₁ (m + 1) m (omega arith) h)
   served_room next.PagesFailed e m v h = room_same k₁ k' m v.1.lists (room_less k₁ (m + 1) m (omega arith) h)
 
-  given_more : (o : Outcome) (n i : ℕ) (u : SlotUse) → use_at k₁.slabs.items n i ≡ Some u → Gives told runs p k₁ k' mid now (slot_in n i) o → live_count k'.slabs.items ≤ live_count k₁.slabs.items + 1
+  given_more : (o : Outcome) (n i : ℕ) (u : SlotUse) → use_at k₁.slabs.items n i ≡ Some u → Gives meaning p k₁ k' mid now (slot_in n i) o → live_count k'.slabs.items ≤ live_count k₁.slabs.items + 1
   given_more (outcome.Given a size) n i u was g = omega (arith, ap live_count g.slabs, counted lives k₁.slabs.items n i Live u was)
   given_more (outcome.Overwritten a at found) n i u was g = omega (arith, ap live_count g.slabs, counted lives k₁.slabs.items n i (Condemned (passes_at was_given k₁.slabs.items n i)) u was)
   given_more other n i u was g = absurd g
 
-  more_live : (n : ℕ) (kind : Kind) (o : Outcome) → IsShape p → CanPick p k₁ n → Serve told runs faults p n kind k₁ k' mid now stream₁ stream' o → live_count k'.slabs.items ≤ live_count k₁.slabs.items + 1
+  more_live : (n : ℕ) (kind : Kind) (o : Outcome) → IsShape p → CanPick p k₁ n → Serve meaning p n kind k₁ k' mid now stream₁ stream' o → live_count k'.slabs.items ≤ live_count k₁.slabs.items + 1
   more_live n kind o shape can v =
       let start_lt : drawn p.slots (next_word stream₁) < p.slots = drawn_below p.slots (next_word stream₁) (omega (arith, shape.slots_some)) (next_below stream₁) in
       let first = can.first (drawn p.slots (next_word stream₁)) start_lt in
@@ -61,7 +62,7 @@ module _ {P : Type 0} (told : P → Bool) (runs : P → PageRuns) (faults : P �
       let u = mapped occupied (use_at k₁.slabs.items n v.index) false free in
       given_more o n v.index u.0 u.1 v.gives
 
-  pub served_live : (n : NextSlab) (e : Event) → IsShape p → CanServe p k₁ n → Serves told runs faults p k₁ k' mid now stream₁ stream' n e → k₁.live ≡ live_count k₁.slabs.items → k'.live ≡ live_count k'.slabs.items → k'.live ≤ k₁.live + 1
+  pub served_live : (n : NextSlab) (e : Event) → IsShape p → CanServe p k₁ n → Serves meaning p k₁ k' mid now stream₁ stream' n e → k₁.live ≡ live_count k₁.slabs.items → k'.live ≡ live_count k'.slabs.items → k'.live ≤ k₁.live + 1
   served_live (next.Open n) e shape can v old new = omega (arith, old, new, more_live n _ e.outcome shape can v.0)
   served_live (next.New n canary) e shape can v old new = omega (arith, old, new, more_live n _ e.outcome shape can v.0)
   served_live next.Exhausted e shape can v old new = omega (arith, v.1.live)

@@ -4,6 +4,7 @@ use Rattle.std.specs.Option.{option_and_then, option_map_or}
 use Rattle.std.proofs.lemmas.Option.{none-some, same_Some}
 use Rattle.hm_choice.specs.Stream.{Words, next_word, after_word, canary_of, drawn}
 use Rattle.hm_quarantine.specs.Quarantine.{Kept}
+use Rattle.hm_outside.specs.declared.pages.Pages as pages
 use Rattle.hm_outside.specs.PageRuns.{PageRuns, MeetsNone}
 use Rattle.hm_model.specs.declared.entry.Entry.{Entry}
 use Rattle.hm_model.specs.declared.entry.Who.{Who}
@@ -20,7 +21,7 @@ use Rattle.hm_class_rules.specs.Kinds.{Kind, Neither, kind}
 use Rattle.hm_class_rules.specs.Steps.{opened}
 use Rattle.hm_class_rules.specs.Drawn.{first_free}
 use Rattle.hm_class_rules.specs.Draws.{Event, Picked, event, words_of, words_from, word_count, canary_words, start_words, start_slot, word_after}
-use Rattle.hm_class_rules.specs.Rules.{Terms, Picks, Source, NoneServes, state, chose_none}
+use Rattle.hm_class_rules.specs.Rules.{Terms, Picks, Source, NoneServes, state}
 use Rattle.hm_class_rules.specs.Stepped.{Cells, front, IsSteppedEntry, IsSteppedEvent}
 use Rattle.hm_class_rules.proofs.Changes.{taken_opened}
 use Rattle.hm_class.specs.declared.next_slab.NextSlab.{NextSlab}
@@ -28,7 +29,7 @@ use Rattle.hm_class.specs.declared.next_slab.NextSlab.TheVariants as next
 use Rattle.hm_class.specs.declared.slab.SlotUse.{SlotUse}
 use Rattle.hm_class.specs.declared.slabs.Slabs.{Slabs}
 use Rattle.hm_class.specs.Uses.{Uses, SlabUse, occupied, slab_in, use_at, passes_at, kind_at, taken_uses, with_open, opened_slab}
-use Rattle.hm_class.specs.Calls.{entry_of, no_draws}
+use Rattle.hm_model.specs.Calls.{no_choices, entry_of, no_words}
 use Rattle.hm_class.specs.Finds.{Finds, CanOpen, CanPick, CanServe, HasFirst}
 use Rattle.hm_class.specs.Outcomes.{canary_value}
 use Rattle.hm_class.specs.Sources.{new_of, front_of}
@@ -116,11 +117,11 @@ module _ (told : Bool) (runs : PageRuns) (faults : ℕ) (c : Config) (number are
     opened_open = opened_shows.opens n ∙ ap (λ (o : Option SlabUse). option_map_or (λ (b : SlabUse). b.opened) o false) opened_is
 
   -- what was found can be served
-  pub can_serve : {P : Type 0} (tells : P → Bool) (runs_of : P → PageRuns) (faults_of : P → ℕ) (begun mid : P) (k₁ : Slabs) (stream₁ : Words) (n : NextSlab) → Finds tells runs_of faults_of p k k₁ begun mid stream stream₁ n → CanServe p k₁ n
-  can_serve tells runs_of faults_of begun mid k₁ stream₁ (next.Open n) f =
+  pub can_serve : {P : Type 0} (meaning : pages.Ghosts P) (begun mid : P) (k₁ : Slabs) (stream₁ : Words) (n : NextSlab) → Finds meaning p k k₁ begun mid stream stream₁ n → CanServe p k₁ n
+  can_serve meaning begun mid k₁ stream₁ (next.Open n) f =
       can_pick p k₁ k.slabs.items now_is n f.1.0.slabs (open_place p now_is n 0 (sound_now told runs faults c number arena p es k stream quarantine parking kept) (serving_open n f.0) (omega (arith, kept.served.shape.slots_some))).below kept.follows.shows (serving n f.0)
-  can_serve tells runs_of faults_of begun mid k₁ stream₁ (next.New n canary) f =
+  can_serve meaning begun mid k₁ stream₁ (next.New n canary) f =
       can_pick p k₁ (then_uses n (canary_value canary) f.0.1) (then n (canary_value canary) f.0.1) n
       (f.1.slabs ∙ ap (λ (l : List ℕ). with_open (taken_uses p l k.slabs.items) n (unwrap_or (canary_value canary) 0)) kept.follows.shut) (is_new n f.0.1).below (opened_shows n (canary_value canary) f.0.1) (opened_serves n (canary_value canary) f.0.1)
-  can_serve tells runs_of faults_of begun mid k₁ stream₁ next.Exhausted f = tt
-  can_serve tells runs_of faults_of begun mid k₁ stream₁ next.PagesFailed f = tt
+  can_serve meaning begun mid k₁ stream₁ next.Exhausted f = tt
+  can_serve meaning begun mid k₁ stream₁ next.PagesFailed f = tt

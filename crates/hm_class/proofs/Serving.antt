@@ -2,6 +2,7 @@
 use Rattle.std.proofs.Common.{◌≡◌, ℕ, ◌+◌, ◌≤◌, Bool, true, List, reverse, Option, Some, None, is_some, sym, ◌∙◌, ap, subst, refl, arith, true≢false}
 use Rattle.std.specs.Prelude.{vec_len, vec_capacity}
 use Rattle.hm_choice.specs.Stream.{Words, next_word, after_word, drawn}
+use Rattle.hm_outside.specs.declared.pages.Pages as pages
 use Rattle.hm_outside.specs.PageRuns.{PageRuns}
 use Rattle.hm_sizes.specs.declared.shape.Shape.{Shape}
 use Rattle.hm_class_rules.specs.Kinds.{Kind, Partial, Empty}
@@ -33,14 +34,14 @@ room_after old mid new n m kind then same moved h =
 pub listed_through : (wanted : Kind) (n : ℕ) (kind then then' : Kind) (old mid new : List ℕ) → mid ≡ old → then ≡ then' → reverse new ≡ listed wanted n kind then (reverse mid) → reverse new ≡ listed wanted n kind then' (reverse old)
 listed_through wanted n kind then then' old mid new same is e = e ∙ ap (λ (k : Kind). listed wanted n kind k (reverse mid)) is ∙ ap (λ (l : List ℕ). listed wanted n kind then' (reverse l)) same
 
-module _ {P : Type 0} (told : P → Bool) (runs : P → PageRuns) (faults : P → ℕ) (p : Shape) (n : ℕ) (kind then : Kind) (old mid new : Slabs) (before now : P) (stream stream' : Words) (index : ℕ) (moved : Relists n kind then mid new) where
-  gives_on : (o : Outcome) → Gives told runs p old mid before now (slot_in n index) o → Gives told runs p old new before now (slot_in n index) o
+module _ {P : Type 0} (meaning : pages.Ghosts P) (p : Shape) (n : ℕ) (kind then : Kind) (old mid new : Slabs) (before now : P) (stream stream' : Words) (index : ℕ) (moved : Relists n kind then mid new) where
+  gives_on : (o : Outcome) → Gives meaning p old mid before now (slot_in n index) o → Gives meaning p old new before now (slot_in n index) o
   gives_on (outcome.Given a size) g = record { addr_is = g.addr_is; size_is = g.size_is; clean = g.clean; slabs = ap (λ v. v.items) moved.slabs ∙ g.slabs; written = g.written }
   gives_on (outcome.Overwritten a at found) g = record { addr_is = g.addr_is; stained = g.stained; slabs = ap (λ v. v.items) moved.slabs ∙ g.slabs; same = g.same }
   gives_on other g = absurd g
 
-  pub serve_of : (o : Outcome) → first_at old.slabs.items n (drawn p.slots (next_word stream)) ≡ Some index → Gives told runs p old mid before now (slot_in n index) o → SameLists old mid → then ≡ kind_at mid.slabs.items n → stream' ≡ after_word stream
-      → Serve told runs faults p n kind old new before now stream stream' o
+  pub serve_of : (o : Outcome) → first_at old.slabs.items n (drawn p.slots (next_word stream)) ≡ Some index → Gives meaning p old mid before now (slot_in n index) o → SameLists old mid → then ≡ kind_at mid.slabs.items n → stream' ≡ after_word stream
+      → Serve meaning p n kind old new before now stream stream' o
   serve_of o first g same is taken =
       let after : then ≡ kind_at new.slabs.items n = is ∙ ap (λ (u : Uses). kind_at u n) (sym (ap (λ v. v.items) moved.slabs)) in
       record {

@@ -7,6 +7,7 @@ use Rattle.std.proofs.lemmas.List.{length-replicate, length-reverse}
 use Rattle.std.proofs.lemmas.Option.{none-some, same_Some, slice_get_within}
 use Rattle.hm_choice.specs.Stream.{Words, next_word, after_word, drawn}
 use Rattle.hm_quarantine.specs.Quarantine.{Kept, let_go, kept_with}
+use Rattle.hm_outside.specs.declared.pages.Pages as pages
 use Rattle.hm_outside.specs.PageRuns.{PageRuns, IsHeld, IsRun, Reads, Writes, zeros}
 use Rattle.hm_model.specs.Maps.{among, at, has, removed, without}
 use Rattle.hm_model.proofs.Lists.{times_among}
@@ -40,7 +41,7 @@ use Rattle.hm_class.specs.declared.slabs.Slabs.{Slabs}
 use Rattle.hm_class.specs.declared.slabs.Slot.{Slot}
 use Rattle.hm_class.specs.Uses.{Uses, SlabUse, lives, occupied, is_available, has_occupied, has_available, is_partly, is_unused, is_held, kind_of, kind_at, slab_in, use_at, passes_at, with_slot, with_use, with_shut, shut_slab, live_count}
 use Rattle.hm_class.specs.Rooms.{SameLists}
-use Rattle.hm_class.specs.Calls.{entry_of}
+use Rattle.hm_model.specs.Calls.{entry_of}
 use Rattle.hm_class.specs.Outcomes.{freed_choices, freed_draws}
 use Rattle.hm_class.specs.Frees as frees
 use Rattle.hm_class.specs.Frees.{array_word, place_of_word, array_stream, Clears, CanRelease, Settles, KeepsPlaces, JoinsSlab, RetiresSlab, PurgesSlab, is_surplus, freed_uses, with_unparked, released_slab}
@@ -106,9 +107,9 @@ clean_without p s a off = ap (λ (b : Bool). cond (b && not (found_canary p s a 
 
 module _ (told : Bool) (runs : PageRuns) (faults : ℕ) (c : Config) (number arena : ℕ) (p : Shape) (es : List Entry) (k : Slabs) (stream : Words) (quarantine : Kept) (parking : List (Option ℕ))
     (kept : IsKept told runs faults c number arena p es k stream quarantine parking)
-    {P : Type 0} (tells : P → Bool) (runs_of : P → PageRuns) (faults_of : P → ℕ) (begun half now : P) (k₁ k' : Slabs) (stream' : Words) (parking' : List (Option ℕ)) (a : ℕ) (slot : Slot) (stated : Option ℕ) (who : Who) (f f' : ℕ)
-    (told_is : tells begun ≡ told) (runs_is : runs_of begun ≡ runs) (accepts : Accepts tells runs_of p k begun a stated slot)
-    (items : k₁.slabs.items ≡ with_use k.slabs.items slot.slab slot.index Held) (cleared : Clears tells runs_of p begun half a) (lists : SameLists k k₁) (live₁ : k₁.live ≡ live_count k₁.slabs.items) (live' : k'.live ≡ live_count k'.slabs.items)
+    {P : Type 0} (meaning : pages.Ghosts P) (begun half now : P) (k₁ k' : Slabs) (stream' : Words) (parking' : List (Option ℕ)) (a : ℕ) (slot : Slot) (stated : Option ℕ) (who : Who) (f f' : ℕ)
+    (told_is : meaning.told begun ≡ told) (runs_is : meaning.runs begun ≡ runs) (accepts : Accepts meaning p k begun a stated slot)
+    (items : k₁.slabs.items ≡ with_use k.slabs.items slot.slab slot.index Held) (cleared : Clears meaning p begun half a) (lists : SameLists k k₁) (live₁ : k₁.live ≡ live_count k₁.slabs.items) (live' : k'.live ≡ live_count k'.slabs.items)
     (is : f ≡ faults) (later : f ≤ f') where
   abbrev t : Terms
   t = terms_of told c p
@@ -122,7 +123,7 @@ module _ (told : Bool) (runs : PageRuns) (faults : ℕ) (c : Config) (number are
   clean : IsTrue told → wrong_canary p first a ≡ None
   clean y = of (has_bytes p) refl
     where
-      slabs : HoldsSlabs p first.opens (runs_of begun)
+      slabs : HoldsSlabs p first.opens (meaning.runs begun)
       slabs = subst (λ (r : PageRuns). HoldsSlabs p first.opens r) (sym runs_is) (kept.slabs y)
 
       on : is_open first slot.slab ≡ true
@@ -130,7 +131,7 @@ module _ (told : Bool) (runs : PageRuns) (faults : ℕ) (c : Config) (number are
           (ap (λ (q : ℕ). is_live first q) (sym accepts.judged.0.is) ∙ (live_block p k.slabs.items first a kept.served.shape kept.follows.shows slot accepts.judged).live)
 
       of : (own : Bool) → has_bytes p ≡ own → wrong_canary p first a ≡ None
-      of true own = canary_found p k.slabs.items first slot.slab slot.index a (runs_of begun) None kept.served.shape own accepts.judged.0 on kept.follows.shows slabs (accepts.canary own (told_is ∙ y))
+      of true own = canary_found p k.slabs.items first slot.slab slot.index a (meaning.runs begun) None kept.served.shape own accepts.judged.0 on kept.follows.shows slabs (accepts.canary own (told_is ∙ y))
       of false off = clean_without p first a off
 
   -- once the slabs, the pages and the lists follow
@@ -138,17 +139,17 @@ module _ (told : Bool) (runs : PageRuns) (faults : ℕ) (c : Config) (number are
       → step p first (entry_freed p stream who a stated released n e f f') ≡ record final { faults = f' }
       → Empties t (releases released taken) f f' (freed_choices released n e) (surplus p (releases released taken) released)
       → IsNextWord stream (p.array == 0) e → IsUnparked t (cells_of first k stream quarantine parking) e
-      → Shows p k'.slabs.items final → k'.shut.items ≡ final.shut → length final.live ≤ k'.live → (IsTrue told → HoldsSlabs p final.opens (runs_of now))
+      → Shows p k'.slabs.items final → k'.shut.items ≡ final.shut → length final.live ≤ k'.live → (IsTrue told → HoldsSlabs p final.opens (meaning.runs now))
       → touched p released (Returned a) ≡ m → kind p first m ≡ kb → kind p final m ≡ ka
       → reverse k'.partial.items ≡ listed Partial m kb ka (reverse k.partial.items) → reverse k'.empty.items ≡ listed Empty m kb ka (reverse k.empty.items)
       → stream' ≡ stream_after (array_stream p stream) e → parking' ≡ parking_with (parking_place t (freed_draws (array_word p (next_word stream)) e)) (freed_choices released n e).retired parking
-      → IsKept told (runs_of now) f' c number arena p (es ++ entry_freed p stream who a stated released n e f f' ∷ []) k' stream' (kept_with quarantine a (place_of_word p (next_word stream))) parking'
+      → IsKept told (meaning.runs now) f' c number arena p (es ++ entry_freed p stream who a stated released n e f f' ∷ []) k' stream' (kept_with quarantine a (place_of_word p (next_word stream))) parking'
   finish released n m e final kb ka let_is after empties next unparked shows shut live slabs at was now_is partial empty taken_words places =
       let x : Entry = entry_freed p stream who a stated released n e f f' in
       let same : (freed_choices released n e).released ≡ released = released_is released n e in
       let release : Releases p taken released = subst (λ (o : Option ℕ). Releases p taken o) (sym let_is)
-      (release_now told runs faults c number arena p es k stream quarantine parking kept tells runs_of begun half k₁ a slot.slab slot.index told_is runs_is accepts.judged.0.is accepts.judged.0.slot accepts.judged.1 items cleared) in
-      pushed told runs faults c number arena p es k stream quarantine parking kept (runs_of now) f' k' stream' (kept_with quarantine a (place_of_word p (next_word stream))) parking' x
+      (release_now told runs faults c number arena p es k stream quarantine parking kept meaning begun half k₁ a slot.slab slot.index told_is runs_is accepts.judged.0.is accepts.judged.0.slot accepts.judged.1 items cleared) in
+      pushed told runs faults c number arena p es k stream quarantine parking kept (meaning.runs now) f' k' stream' (kept_with quarantine a (place_of_word p (next_word stream))) parking' x
       (allowed_of t first who (GiveBack a stated) reply.Freed (freed_choices released n e) (freed_draws (array_word p (next_word stream)) e) f f' (draws_are p stream e) tt (is ∙ kept.count) later (record {
         block = live_block p k.slabs.items first a kept.served.shape kept.follows.shows slot accepts.judged;
         size = accepts.size;
@@ -164,23 +165,23 @@ module _ (told : Bool) (runs : PageRuns) (faults : ℕ) (c : Config) (number are
         counted = live';
         live_all = omega (arith, live, ap (λ (s : State). length s.live) after);
       })
-      (λ y. subst (λ (s : State). HoldsSlabs p s.opens (runs_of now)) (sym after) (slabs y))
+      (λ y. subst (λ (s : State). HoldsSlabs p s.opens (meaning.runs now)) (sym after) (slabs y))
       (next_freed t first k k' stream stream' quarantine (kept_with quarantine a (place_of_word p (next_word stream))) parking parking' x a m kb ka refl (ap (λ (o : Option ℕ). touched p o (Returned a)) same ∙ at) was
       (ap (λ (s : State). kind p s m) after ∙ now_is) (after_freed p stream e ∙ sym taken_words) partial empty
       (ap (λ (i : ℕ). kept_with quarantine a i) (sym (place_drawn p stream e))) places)
 
   -- the slots with the freed one held
   shows₁ : Shows p k₁.slabs.items taken
-  shows₁ = held_shows told runs faults c number arena p es k stream quarantine parking kept tells runs_of begun half k₁ a slot.slab slot.index told_is runs_is accepts.judged.0.is accepts.judged.0.slot accepts.judged.1 items cleared
+  shows₁ = held_shows told runs faults c number arena p es k stream quarantine parking kept meaning begun half k₁ a slot.slab slot.index told_is runs_is accepts.judged.0.is accepts.judged.0.slot accepts.judged.1 items cleared
 
-  slabs₁ : IsTrue told → HoldsSlabs p taken.opens (runs_of half)
-  slabs₁ = held_slabs told runs faults c number arena p es k stream quarantine parking kept tells runs_of begun half k₁ a slot.slab slot.index told_is runs_is accepts.judged.0.is accepts.judged.0.slot accepts.judged.1 items cleared
+  slabs₁ : IsTrue told → HoldsSlabs p taken.opens (meaning.runs half)
+  slabs₁ = held_slabs told runs faults c number arena p es k stream quarantine parking kept meaning begun half k₁ a slot.slab slot.index told_is runs_is accepts.judged.0.is accepts.judged.0.slot accepts.judged.1 items cleared
 
   kind₁ : (m : ℕ) → kind p first m ≡ kind_at k₁.slabs.items m
-  kind₁ = kind_then told runs faults c number arena p es k stream quarantine parking kept tells runs_of begun half k₁ a slot.slab slot.index told_is runs_is accepts.judged.0.is accepts.judged.0.slot accepts.judged.1 items cleared
+  kind₁ = kind_then told runs faults c number arena p es k stream quarantine parking kept meaning begun half k₁ a slot.slab slot.index told_is runs_is accepts.judged.0.is accepts.judged.0.slot accepts.judged.1 items cleared
 
   live : is_live first a ≡ true
-  live = was_live told runs faults c number arena p es k stream quarantine parking kept tells runs_of begun half k₁ a slot.slab slot.index told_is runs_is accepts.judged.0.is accepts.judged.0.slot accepts.judged.1 items cleared
+  live = was_live told runs faults c number arena p es k stream quarantine parking kept meaning begun half k₁ a slot.slab slot.index told_is runs_is accepts.judged.0.is accepts.judged.0.slot accepts.judged.1 items cleared
 
   live_taken : length taken.live ≤ k₁.live
   live_taken = omega (arith, kept.follows.live_all, kept.follows.counted, live₁, ap live_count items, counted lives k.slabs.items slot.slab slot.index Held Live accepts.judged.1, length_taken a first.live live)
@@ -189,10 +190,10 @@ module _ (told : Bool) (runs : PageRuns) (faults : ℕ) (c : Config) (number are
   lists_from wanted m kb ka old mid new same e = e ∙ ap (λ (l : List ℕ). listed wanted m kb ka (reverse l)) same
 
   abbrev Ends : Option ℕ → ℕ → Emptied → Type 0
-  Ends released n e = IsKept told (runs_of now) f' c number arena p (es ++ entry_freed p stream who a stated released n e f f' ∷ []) k' stream' (kept_with quarantine a (place_of_word p (next_word stream))) parking'
+  Ends released n e = IsKept told (meaning.runs now) f' c number arena p (es ++ entry_freed p stream who a stated released n e f f' ∷ []) k' stream' (kept_with quarantine a (place_of_word p (next_word stream))) parking'
 
   -- nothing left the quarantine
-  pub kept_held : (e : Emptied) → None ≡ let_go quarantine a (place_of_word p (next_word stream)) → e ≡ emptied.Kept → k'.slabs.items ≡ k₁.slabs.items → SameLists k₁ k' → k'.live ≡ k₁.live → (IsTrue told → runs_of now ≡ runs_of half) → stream' ≡ array_stream p stream → parking' ≡ parking
+  pub kept_held : (e : Emptied) → None ≡ let_go quarantine a (place_of_word p (next_word stream)) → e ≡ emptied.Kept → k'.slabs.items ≡ k₁.slabs.items → SameLists k₁ k' → k'.live ≡ k₁.live → (IsTrue told → meaning.runs now ≡ meaning.runs half) → stream' ≡ array_stream p stream → parking' ≡ parking
       → Ends None 0 e
   kept_held e none e_is same same_lists same_live same_runs words places =
       let m : ℕ = slab_of p a in
@@ -219,10 +220,10 @@ module _ (told : Bool) (runs : PageRuns) (faults : ℕ) (c : Config) (number are
 
     release : Releases p taken (Some b)
     release = subst (λ (o : Option ℕ). Releases p taken o) (sym let_is)
-        (release_now told runs faults c number arena p es k stream quarantine parking kept tells runs_of begun half k₁ a slot.slab slot.index told_is runs_is accepts.judged.0.is accepts.judged.0.slot accepts.judged.1 items cleared)
+        (release_now told runs faults c number arena p es k stream quarantine parking kept meaning begun half k₁ a slot.slab slot.index told_is runs_is accepts.judged.0.is accepts.judged.0.slot accepts.judged.1 items cleared)
 
-    place_b : IsReleased told runs faults c number arena p es k stream quarantine parking kept tells runs_of begun half k₁ a slot.slab slot.index told_is runs_is accepts.judged.0.is accepts.judged.0.slot accepts.judged.1 items cleared b
-    place_b = is_released told runs faults c number arena p es k stream quarantine parking kept tells runs_of begun half k₁ a slot.slab slot.index told_is runs_is accepts.judged.0.is accepts.judged.0.slot accepts.judged.1 items cleared b release.0
+    place_b : IsReleased told runs faults c number arena p es k stream quarantine parking kept meaning begun half k₁ a slot.slab slot.index told_is runs_is accepts.judged.0.is accepts.judged.0.slot accepts.judged.1 items cleared b
+    place_b = is_released told runs faults c number arena p es k stream quarantine parking kept meaning begun half k₁ a slot.slab slot.index told_is runs_is accepts.judged.0.is accepts.judged.0.slot accepts.judged.1 items cleared b release.0
 
     shows₂ : Shows p uses₂ freed
     shows₂ =
@@ -250,7 +251,7 @@ module _ (told : Bool) (runs : PageRuns) (faults : ℕ) (c : Config) (number are
     free_live : live_count uses₂ ≡ live_count k₁.slabs.items
     free_live = omega (arith, counted lives k₁.slabs.items m (slot_of p b) Free Held place_b.used)
 
-    pub kept_released : (e : Emptied) → frees.Releases tells runs_of faults_of p b k₁ k' half now (array_stream p stream) stream' parking parking' e → tells half ≡ told → f ≡ faults_of half → f' ≡ faults_of now → Ends (Some b) m e
+    pub kept_released : (e : Emptied) → frees.Releases meaning p b k₁ k' half now (array_stream p stream) stream' parking parking' e → meaning.told half ≡ told → f ≡ meaning.faults half → f' ≡ meaning.faults now → Ends (Some b) m e
     kept_released emptied.Kept v told_half half_is now_is =
         let j = v.1 in
         finish (Some b) m m emptied.Kept freed (kind_at k₁.slabs.items m) (kind_at uses₂ m) let_is refl
@@ -279,7 +280,7 @@ module _ (told : Bool) (runs : PageRuns) (faults : ℕ) (c : Config) (number are
         (j.shut ∙ ap (λ (l : List ℕ). with_unparked l u) (ap (λ v. v.items) lists.shut ∙ kept.follows.shut) ∙ shut_with u freed)
         (omega (arith, live_taken, live₁, live', ap live_count j.slabs, shut_live uses₂ m g.slab g.is_slab, free_live, ap (λ (l : List (ℕ × ℕ)). length l) (unparked_live u freed)))
         (λ y. subst (λ (r : PageRuns). HoldsSlabs p (retires (Some m) s₃).opens r) (sym (j.dropped.0 (told_half ∙ y)))
-        (subst (λ (l : List (ℕ × Slab)). HoldsSlabs p (removed m l) (cond (has_bytes p) (map.remove (runs_of half) (slab_at p m)) (runs_of half))) (sym (unparked_opens u freed)) (holds_retired p taken.opens m (runs_of half) kept.served.shape (slabs₁ y))))
+        (subst (λ (l : List (ℕ × Slab)). HoldsSlabs p (removed m l) (cond (has_bytes p) (map.remove (meaning.runs half) (slab_at p m)) (meaning.runs half))) (sym (unparked_opens u freed)) (holds_retired p taken.opens m (meaning.runs half) kept.served.shape (slabs₁ y))))
         refl (kind₁ m) (kind_shut p (retires (Some m) s₃) m kept.served.shape (has_removed_same m s₃.opens))
         (lists_from Partial m (kind_at k₁.slabs.items m) Neither k.partial.items k₁.partial.items k'.partial.items (ap (λ v. v.items) lists.partial) j.lists.partial) (lists_from Empty m (kind_at k₁.slabs.items m) Neither k.empty.items k₁.empty.items k'.empty.items (ap (λ v. v.items) lists.empty) j.lists.empty)
         j.stream_is (j.parking_is ∙ ap (λ (x : ℕ). slice_set parking (drawn x w) (Some m)) length_is ∙ ap (λ (i : ℕ). slice_set parking i (Some m)) (sym (parking_drawn t stream w u)))
@@ -291,23 +292,23 @@ module _ (told : Bool) (runs : PageRuns) (faults : ℕ) (c : Config) (number are
         finish (Some b) m m emptied.Purged final (kind_at k₁.slabs.items m) Empty let_is refl
         (subst (λ (o : Option ℕ). Empties t freed f f' (freed_choices (Some b) m emptied.Purged) o) (sym (surplus_when true v.0)) (inr (refl, refl, refl, j.dropped.0, rose))) tt tt
         (subst (λ (x : Uses). Shows p x final) (sym j.slabs) shows₃) (j.shut ∙ ap (λ v. v.items) lists.shut ∙ kept.follows.shut) (omega (arith, live_taken, live₁, live', ap live_count j.slabs, free_live))
-        (λ y. subst (λ (r : PageRuns). HoldsSlabs p final.opens r) (sym (j.dropped.1 (told_half ∙ y))) (holds_purged p taken.opens m (runs_of half) kept.served.shape j.dropped.0 place_b.open_slab (slabs₁ y)))
+        (λ y. subst (λ (r : PageRuns). HoldsSlabs p final.opens r) (sym (j.dropped.1 (told_half ∙ y))) (holds_purged p taken.opens m (meaning.runs half) kept.served.shape j.dropped.0 place_b.open_slab (slabs₁ y)))
         refl (kind₁ m) (kind_is p uses₂ final m kept.served.shape shows₃ ∙ sym (kind_is p uses₂ freed m kept.served.shape shows₂) ∙ kind_empty p freed m (first_of _ _ (sym surplus_is ∙ v.0)))
         (lists_from Partial m (kind_at k₁.slabs.items m) Empty k.partial.items k₁.partial.items k'.partial.items (ap (λ v. v.items) lists.partial) j.lists.partial) (lists_from Empty m (kind_at k₁.slabs.items m) Empty k.empty.items k₁.empty.items k'.empty.items (ap (λ v. v.items) lists.empty) j.lists.empty)
         j.stream_is j.parking_is
 
   -- what was released, if anything, and its slab
-  pub kept_ended : (released : Option ℕ) (e : Emptied) → released ≡ let_go quarantine a (place_of_word p (next_word stream)) → Settles tells runs_of faults_of p k₁ k' half now (array_stream p stream) stream' parking parking' released e
-      → tells half ≡ told → f ≡ faults_of half → f' ≡ faults_of now → Ends released (released_slab p released) e
+  pub kept_ended : (released : Option ℕ) (e : Emptied) → released ≡ let_go quarantine a (place_of_word p (next_word stream)) → Settles meaning p k₁ k' half now (array_stream p stream) stream' parking parking' released e
+      → meaning.told half ≡ told → f ≡ meaning.faults half → f' ≡ meaning.faults now → Ends released (released_slab p released) e
   kept_ended None e let_is v told_half half_is now_is = kept_held e let_is v.0 v.1 v.2 (live' ∙ ap live_count v.1 ∙ sym live₁) (λ y. v.3.runs_same (told_half ∙ y)) v.3.stream_is v.3.parking_is
   kept_ended (Some b) e let_is v told_half half_is now_is = kept_released b let_is e v told_half half_is now_is
 
   -- what is released was not live, and no fault is taken back
-  pub live_ended : (released : Option ℕ) (e : Emptied) → released ≡ let_go quarantine a (place_of_word p (next_word stream)) → Settles tells runs_of faults_of p k₁ k' half now (array_stream p stream) stream' parking parking' released e
+  pub live_ended : (released : Option ℕ) (e : Emptied) → released ≡ let_go quarantine a (place_of_word p (next_word stream)) → Settles meaning p k₁ k' half now (array_stream p stream) stream' parking parking' released e
       → live_count k'.slabs.items + 1 ≡ live_count k.slabs.items
   live_ended released e let_is v = omega (arith, same released e let_is v, ap live_count items, counted lives k.slabs.items slot.slab slot.index Held Live accepts.judged.1)
     where
-      same : (released : Option ℕ) (e : Emptied) → released ≡ let_go quarantine a (place_of_word p (next_word stream)) → Settles tells runs_of faults_of p k₁ k' half now (array_stream p stream) stream' parking parking' released e → live_count k'.slabs.items ≡ live_count k₁.slabs.items
+      same : (released : Option ℕ) (e : Emptied) → released ≡ let_go quarantine a (place_of_word p (next_word stream)) → Settles meaning p k₁ k' half now (array_stream p stream) stream' parking parking' released e → live_count k'.slabs.items ≡ live_count k₁.slabs.items
       same None e let_is v = ap live_count v.1
       same (Some b) emptied.Kept let_is v = ap live_count v.1.slabs ∙ free_live b let_is
       same (Some b) (emptied.Retired w u) let_is v =
@@ -315,9 +316,9 @@ module _ (told : Bool) (runs : PageRuns) (faults : ℕ) (c : Config) (number are
           ap live_count v.1.slabs ∙ shut_live (uses₂ b let_is) (slab_of p b) g.slab g.is_slab ∙ free_live b let_is
       same (Some b) emptied.Purged let_is v = ap live_count v.1.slabs ∙ free_live b let_is
 
-pub settled_later : {P : Type 0} (tells : P → Bool) (runs_of : P → PageRuns) (faults_of : P → ℕ) (p : Shape) (k₁ k' : Slabs) (half now : P) (stream stream' : Words) (parking parking' : List (Option ℕ)) (released : Option ℕ) (e : Emptied)
-    → Settles tells runs_of faults_of p k₁ k' half now stream stream' parking parking' released e → faults_of half ≤ faults_of now
-settled_later tells runs_of faults_of p k₁ k' half now stream stream' parking parking' None e v = omega (arith, v.3.count_same)
-settled_later tells runs_of faults_of p k₁ k' half now stream stream' parking parking' (Some b) emptied.Kept v = omega (arith, v.1.places.count_same)
-settled_later tells runs_of faults_of p k₁ k' half now stream stream' parking parking' (Some b) (emptied.Retired w u) v = v.1.dropped.1
-settled_later tells runs_of faults_of p k₁ k' half now stream stream' parking parking' (Some b) emptied.Purged v = omega (arith, v.1.dropped.2)
+pub settled_later : {P : Type 0} (meaning : pages.Ghosts P) (p : Shape) (k₁ k' : Slabs) (half now : P) (stream stream' : Words) (parking parking' : List (Option ℕ)) (released : Option ℕ) (e : Emptied)
+    → Settles meaning p k₁ k' half now stream stream' parking parking' released e → meaning.faults half ≤ meaning.faults now
+settled_later meaning p k₁ k' half now stream stream' parking parking' None e v = omega (arith, v.3.count_same)
+settled_later meaning p k₁ k' half now stream stream' parking parking' (Some b) emptied.Kept v = omega (arith, v.1.places.count_same)
+settled_later meaning p k₁ k' half now stream stream' parking parking' (Some b) (emptied.Retired w u) v = v.1.dropped.1
+settled_later meaning p k₁ k' half now stream stream' parking parking' (Some b) emptied.Purged v = omega (arith, v.1.dropped.2)

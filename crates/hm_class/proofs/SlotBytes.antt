@@ -1,5 +1,5 @@
 -- The first byte that is not zero, and canaries as bytes.
-use Rattle.std.proofs.Common.{◌≡◌, ◌≢◌, ℕ, zero, suc, ◌<◌, ◌==◌, Bool, true, false, cond, not, List, [], ◌∷◌, length, get_or, Option, Some, None, sym, ◌∙◌, ap, refl, arith}
+use Rattle.std.proofs.Common.{◌≡◌, ◌≢◌, ℕ, zero, suc, ◌<◌, ◌==◌, Bool, true, false, cond, not, List, [], ◌∷◌, length, get_or, Option, Some, None, sym, ◌∙◌, ap, refl, arith, true≢false}
 use Rattle.std.specs.List.{position}
 use Rattle.std.specs.Int.{to_le_bytes, from_le_bytes}
 use mir.Syntax.{w64}
@@ -43,9 +43,18 @@ first_of_none bs e =
 pub first_of_some : (bs : List ℕ) (i : ℕ) → position (λ b. not (b == 0)) bs ≡ Some i → first_nonzero bs ≡ Some (i, get_or bs i 0)
 first_of_some bs i e = let r = position-Some (λ (b : ℕ). not (b == 0)) bs i 0 e in first_at bs i r.0 r.1 r.2
 
+-- what is found stands among the bytes, and is not zero
+pub some_nonzero : (bs : List ℕ) (i n : ℕ) → position (λ b. not (b == 0)) bs ≡ Some i → length bs ≡ n → (i < n) × (get_or bs i 0 ≢ 0)
+some_nonzero bs i n e len =
+    let r = position-Some (λ (b : ℕ). not (b == 0)) bs i 0 e in
+    (omega (arith, r.0, len), λ zero_here. true≢false (sym r.1 ∙ ap (λ (b : ℕ). not (b == 0)) zero_here))
+
 -- other bytes are another number
 pub other_number : (bs : List ℕ) (canary : ℕ) → length bs ≡ 8 → ((i : ℕ) → get_or bs i 0 < 256) → bs ≢ to_le_bytes w64 canary → (from_le_bytes w64 bs == canary) ≡ false
 other_number bs canary len bytes ne = by_false _ (λ yes. ne (sym (le_bytes_8 bs canary len bytes (sym (same _ _ yes)))))
   where
     same : (a b : ℕ) → (a == b) ≡ true → a ≡ b
     same a b e = grind (arith, nat_tests)
+
+pub not_number : (bs : List ℕ) (canary found : ℕ) → length bs ≡ 8 → ((i : ℕ) → get_or bs i 0 < 256) → bs ≢ to_le_bytes w64 canary → found ≡ from_le_bytes w64 bs → canary ≢ found
+not_number bs canary found len bytes ne is same = ne (sym (le_bytes_8 bs canary len bytes (same ∙ is)))

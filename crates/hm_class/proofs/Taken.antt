@@ -6,6 +6,7 @@ use mir.Syntax.{w64}
 use Rattle.std.proofs.lemmas.Option.{none-some, same_Some}
 use Rattle.hm_choice.specs.Stream.{Words, next_word, after_word, canary_of, drawn}
 use Rattle.hm_quarantine.specs.Quarantine.{Kept}
+use Rattle.hm_outside.specs.declared.pages.Pages as pages
 use Rattle.hm_outside.specs.PageRuns.{PageRuns, IsHeld, Reads, Writes}
 use Rattle.hm_model.specs.declared.entry.Entry.{Entry}
 use Rattle.hm_model.specs.declared.entry.Who.{Who}
@@ -34,7 +35,7 @@ use Rattle.hm_class.specs.declared.slab.SlotUse.{SlotUse}
 use Rattle.hm_class.specs.declared.slab.SlotUse.TheVariants.{Live, Condemned}
 use Rattle.hm_class.specs.declared.slabs.Slabs.{Slabs}
 use Rattle.hm_class.specs.Uses.{Uses, SlabUse, slab_in, lives, was_given, occupied, kind_at, use_at, passes_at, canary_at, with_use, live_count, first_at}
-use Rattle.hm_class.specs.Calls.{entry_of}
+use Rattle.hm_model.specs.Calls.{entry_of}
 use Rattle.hm_class.specs.Outcomes.{reply_of}
 use Rattle.hm_class.specs.Gives.{Gives, Stains, Seals}
 use Rattle.hm_class.specs.Finds.{Serve, slot_in}
@@ -61,18 +62,18 @@ no_usable p s a off =
     ap (λ (n : ℕ). first_nonzero (bytes_from p s a n)) none
 
 -- ---- what is found, and what is written
-module _ {P : Type 0} (tells : P → Bool) (runs_of : P → PageRuns) (p : Shape) (all : Uses) (s : State) (n i : ℕ) (mid now : P) (told : Bool) (tell : IsTrue told → IsTrue (tells mid))
-    (shape : IsShape p) (on : is_open s n ≡ true) (lt : i < p.slots) (shows : Shows p all s) (slabs : IsTrue told → HoldsSlabs p s.opens (runs_of mid)) where
-  pub found_told : (a : ℕ) (found : Option (ℕ × ℕ)) → a ≡ place p n i → Stains tells runs_of p mid a found → IsTrue told → first_nonzero (usable_bytes p s a) ≡ found
+module _ {P : Type 0} (meaning : pages.Ghosts P) (p : Shape) (all : Uses) (s : State) (n i : ℕ) (mid now : P) (told : Bool) (tell : IsTrue told → IsTrue (meaning.told mid))
+    (shape : IsShape p) (on : is_open s n ≡ true) (lt : i < p.slots) (shows : Shows p all s) (slabs : IsTrue told → HoldsSlabs p s.opens (meaning.runs mid)) where
+  pub found_told : (a : ℕ) (found : Option (ℕ × ℕ)) → a ≡ place p n i → Stains meaning p mid a found → IsTrue told → first_nonzero (usable_bytes p s a) ≡ found
   found_told a found is stains t = of (has_bytes p) refl
     where
       of : (own : Bool) → has_bytes p ≡ own → first_nonzero (usable_bytes p s a) ≡ found
-      of true own = ap (λ (x : ℕ). first_nonzero (usable_bytes p s x)) is ∙ first_found p s n i (runs_of mid) found shape own on lt (slabs t)
-          (subst (λ (x : ℕ). IsHeld (runs_of mid) x (usable p) → (slice : List ℕ) × Reads (runs_of mid) x (usable p) slice × (found ≡ first_nonzero slice)) is (stains.some own (tell t)))
+      of true own = ap (λ (x : ℕ). first_nonzero (usable_bytes p s x)) is ∙ first_found p s n i (meaning.runs mid) found shape own on lt (slabs t)
+          (subst (λ (x : ℕ). IsHeld (meaning.runs mid) x (usable p) → (slice : List ℕ) × Reads (meaning.runs mid) x (usable p) slice × (found ≡ first_nonzero slice)) is (stains.some own (tell t)))
       of false off = no_usable p s a off ∙ sym (stains.none off)
 
   -- the pages with the slot's canary
-  pub given_slabs : (a asked : ℕ) → a ≡ place p n i → Seals tells runs_of p mid now a (canary_at all n) → IsTrue told → HoldsSlabs p (gives p (place p n i) asked s).opens (runs_of now)
+  pub given_slabs : (a asked : ℕ) → a ≡ place p n i → Seals meaning p mid now a (canary_at all n) → IsTrue told → HoldsSlabs p (gives p (place p n i) asked s).opens (meaning.runs now)
   given_slabs a asked is seals t = of (has_bytes p) refl
     where
       q : ℕ
@@ -81,14 +82,14 @@ module _ {P : Type 0} (tells : P → Bool) (runs_of : P → PageRuns) (p : Shape
       w : List ℕ
       w = to_le_bytes w64 (canary_at all n)
 
-      same : HoldsSlabs p (overlaid_slabs p (q + usable p) w s.opens) (runs_of now) → HoldsSlabs p (gives p q asked s).opens (runs_of now)
-      same h = subst (λ (k : ℕ). HoldsSlabs p (overlaid_slabs p (q + usable p) (to_le_bytes w64 k) s.opens) (runs_of now)) (sym (kept_is p all s n i shape lt shows)) h
+      same : HoldsSlabs p (overlaid_slabs p (q + usable p) w s.opens) (meaning.runs now) → HoldsSlabs p (gives p q asked s).opens (meaning.runs now)
+      same h = subst (λ (k : ℕ). HoldsSlabs p (overlaid_slabs p (q + usable p) (to_le_bytes w64 k) s.opens) (meaning.runs now)) (sym (kept_is p all s n i shape lt shows)) h
 
-      of : (own : Bool) → has_bytes p ≡ own → HoldsSlabs p (gives p q asked s).opens (runs_of now)
-      of true own = same (holds_write p s.opens (q + usable p) 8 w (runs_of mid) (runs_of now) shape refl (slabs t)
-          (subst (λ (x : ℕ). Writes (runs_of mid) (x + usable p) 8 w (runs_of now)) is (seals.some own (tell t) (subst (λ (x : ℕ). IsHeld (runs_of mid) (x + usable p) 8) (sym is) (canary_held p s n i (runs_of mid) shape own on lt (slabs t))))))
+      of : (own : Bool) → has_bytes p ≡ own → HoldsSlabs p (gives p q asked s).opens (meaning.runs now)
+      of true own = same (holds_write p s.opens (q + usable p) 8 w (meaning.runs mid) (meaning.runs now) shape refl (slabs t)
+          (subst (λ (x : ℕ). Writes (meaning.runs mid) (x + usable p) 8 w (meaning.runs now)) is (seals.some own (tell t) (subst (λ (x : ℕ). IsHeld (meaning.runs mid) (x + usable p) 8) (sym is) (canary_held p s n i (meaning.runs mid) shape own on lt (slabs t))))))
       of false off = same (subst (λ (r : PageRuns). HoldsSlabs p (overlaid_slabs p (q + usable p) w s.opens) r) (sym (seals.none off (tell t)))
-          (holds_without p s.opens (overlaid_slabs p (q + usable p) w s.opens) (runs_of mid) off (whole_write (bytes_of_slab p) p (q + usable p) w s.opens (slabs t).whole) (slabs t)))
+          (holds_without p s.opens (overlaid_slabs p (q + usable p) w s.opens) (meaning.runs mid) off (whole_write (bytes_of_slab p) p (q + usable p) w s.opens (slabs t).whole) (slabs t)))
 
 -- ---- how many are live
 more_live : (all all' : Uses) (n i : ℕ) (u v : SlotUse) → use_at all n i ≡ Some v → all' ≡ with_use all n i u → live_count all' + weight lives v ≡ live_count all + weight lives u
@@ -97,12 +98,12 @@ more_live all all' n i u v was items = omega (arith, ap live_count items, counte
 -- ---- a slot of slab n is given, or condemned
 module _ (told : Bool) (runs : PageRuns) (faults : ℕ) (c : Config) (number arena : ℕ) (p : Shape) (es : List Entry) (k : Slabs) (stream : Words) (quarantine : Kept) (parking : List (Option ℕ))
     (kept : IsKept told runs faults c number arena p es k stream quarantine parking)
-    {P : Type 0} (tells : P → Bool) (runs_of : P → PageRuns) (mid now : P) (k₁ k' : Slabs) (stream' : Words) (n i : ℕ) (kind₀ : Kind) (b : SlabUse) (choices : Choices) (draws : Draws) (who : Who) (asked f f' : ℕ)
-    (tell : IsTrue told → IsTrue (tells mid)) (asks : raised asked ≤ class_size_of p) (is : f ≡ faults) (later : f ≤ f')
+    {P : Type 0} (meaning : pages.Ghosts P) (mid now : P) (k₁ k' : Slabs) (stream' : Words) (n i : ℕ) (kind₀ : Kind) (b : SlabUse) (choices : Choices) (draws : Draws) (who : Who) (asked f f' : ℕ)
+    (tell : IsTrue told → IsTrue (meaning.told mid)) (asks : raised asked ≤ class_size_of p) (is : f ≡ faults) (later : f ≤ f')
     (lt : i < p.slots) (is_slab : slab_in k₁.slabs.items n ≡ Some b) (v : SlotUse) (was : use_at k₁.slabs.items n i ≡ Some v) (free : occupied v ≡ false)
     (on : is_open (opened p choices.opened choices.canary (state (terms_of told c p) es)) n ≡ true)
     (shows : Shows p k₁.slabs.items (opened p choices.opened choices.canary (state (terms_of told c p) es)))
-    (slabs : IsTrue told → HoldsSlabs p (opened p choices.opened choices.canary (state (terms_of told c p) es)).opens (runs_of mid))
+    (slabs : IsTrue told → HoldsSlabs p (opened p choices.opened choices.canary (state (terms_of told c p) es)).opens (meaning.runs mid))
     (live_mid : k₁.live ≡ live_count k₁.slabs.items) (live_now : k'.live ≡ live_count k'.slabs.items)
     (live_all : length (opened p choices.opened choices.canary (state (terms_of told c p) es)).live ≤ k₁.live)
     (shut : k'.shut.items ≡ (opened p choices.opened choices.canary (state (terms_of told c p) es)).shut)
@@ -116,8 +117,8 @@ module _ (told : Bool) (runs : PageRuns) (faults : ℕ) (c : Config) (number are
     abbrev then : State
     then = opened p choices.opened choices.canary (state (terms_of told c p) es)
 
-    pub kept_gives : (o : Outcome) → Gives tells runs_of p k₁ k' mid now (slot_in n i) o
-        → IsKept told (runs_of now) f' c number arena p (es ++ entry_of who (Allot asked 1) (reply_of o) choices draws f f' ∷ []) k' stream' quarantine parking
+    pub kept_gives : (o : Outcome) → Gives meaning p k₁ k' mid now (slot_in n i) o
+        → IsKept told (meaning.runs now) f' c number arena p (es ++ entry_of who (Allot asked 1) (reply_of o) choices draws f f' ∷ []) k' stream' quarantine parking
     kept_gives (outcome.Given a size) g =
         let t : Terms = terms_of told c p in
         let q : ℕ = place p n i in
@@ -126,10 +127,10 @@ module _ (told : Bool) (runs : PageRuns) (faults : ℕ) (c : Config) (number are
         let dead : weight lives v ≡ 0 = ap (λ (b : Bool). cond {A = ℕ} b 1 0) off.0 in
         let shows' : Shows p k'.slabs.items (record (gives p q asked then) { faults = f' }) = shows_count p k'.slabs.items (gives p q asked then) f'
         (subst (λ (u : Uses). Shows p u (gives p q asked then)) (sym g.slabs) (shows_given p k₁.slabs.items then n i b v kept.served.shape lt is_slab was shows asked free)) in
-        subst (λ (x : ℕ). IsKept told (runs_of now) f' c number arena p (es ++ entry_of who (Allot asked 1) (reply.Given x size) choices draws f f' ∷ []) k' stream' quarantine parking) (sym g.addr_is)
-        (pushed told runs faults c number arena p es k stream quarantine parking kept (runs_of now) f' k' stream' quarantine parking e
+        subst (λ (x : ℕ). IsKept told (meaning.runs now) f' c number arena p (es ++ entry_of who (Allot asked 1) (reply.Given x size) choices draws f f' ∷ []) k' stream' quarantine parking) (sym g.addr_is)
+        (pushed told runs faults c number arena p es k stream quarantine parking kept (meaning.runs now) f' k' stream' quarantine parking e
         (allowed_of t (state t es) who (Allot asked 1) (reply.Given q size) choices draws f f' are (asks, refl) (is ∙ kept.count) later
-        (picks, g.size_is, λ y. finds_is c p then q None kept.served.valid.reuse (ap (λ (x : ℕ). first_nonzero (usable_bytes p then x)) (sym g.addr_is) ∙ found_told tells runs_of p k₁.slabs.items then n i mid now told tell kept.served.shape on lt shows slabs a None g.addr_is g.clean y)))
+        (picks, g.size_is, λ y. finds_is c p then q None kept.served.valid.reuse (ap (λ (x : ℕ). first_nonzero (usable_bytes p then x)) (sym g.addr_is) ∙ found_told meaning p k₁.slabs.items then n i mid now told tell kept.served.shape on lt shows slabs a None g.addr_is g.clean y)))
         (stepped (reply.Given q size) refl) refl
         (record {
           shows = shows';
@@ -137,7 +138,7 @@ module _ (told : Bool) (runs : PageRuns) (faults : ℕ) (c : Config) (number are
           counted = live_now;
           live_all = omega (arith, live_all, live_mid, live_now, more_live k₁.slabs.items k'.slabs.items n i Live v was g.slabs, dead, length_removed q then.live);
         })
-        (given_slabs tells runs_of p k₁.slabs.items then n i mid now told tell kept.served.shape on lt shows slabs a asked g.addr_is g.written)
+        (given_slabs meaning p k₁.slabs.items then n i mid now told tell kept.served.shape on lt shows slabs a asked g.addr_is g.written)
         (next_picked t (state t es) k k' stream stream' quarantine parking e q n kind₀ kept.served.shape refl (slab_of_place p n i kept.served.shape lt) was_kind shows' taken partial empty))
     kept_gives (outcome.Overwritten a at found) g =
         let t : Terms = terms_of told c p in
@@ -149,10 +150,10 @@ module _ (told : Bool) (runs : PageRuns) (faults : ℕ) (c : Config) (number are
         let items : k'.slabs.items ≡ with_use k₁.slabs.items n i (Condemned (was_given v)) = g.slabs ∙ ap (λ (b : Bool). with_use k₁.slabs.items n i (Condemned b)) given in
         let shows' : Shows p k'.slabs.items (record (condemns q then) { faults = f' }) = shows_count p k'.slabs.items (condemns q then) f'
         (subst (λ (u : Uses). Shows p u (condemns q then)) (sym items) (shows_condemned p k₁.slabs.items then n i b v kept.served.shape lt is_slab was shows free)) in
-        subst (λ (x : ℕ). IsKept told (runs_of now) f' c number arena p (es ++ entry_of who (Allot asked 1) (reply.Overwritten x at found) choices draws f f' ∷ []) k' stream' quarantine parking) (sym g.addr_is)
-        (pushed told runs faults c number arena p es k stream quarantine parking kept (runs_of now) f' k' stream' quarantine parking e
+        subst (λ (x : ℕ). IsKept told (meaning.runs now) f' c number arena p (es ++ entry_of who (Allot asked 1) (reply.Overwritten x at found) choices draws f f' ∷ []) k' stream' quarantine parking) (sym g.addr_is)
+        (pushed told runs faults c number arena p es k stream quarantine parking kept (meaning.runs now) f' k' stream' quarantine parking e
         (allowed_of t (state t es) who (Allot asked 1) (reply.Overwritten q at found) choices draws f f' are (asks, refl) (is ∙ kept.count) later
-        (picks, kept.served.valid.reuse, λ y. finds_is c p then q (Some (at, found)) kept.served.valid.reuse (ap (λ (x : ℕ). first_nonzero (usable_bytes p then x)) (sym g.addr_is) ∙ found_told tells runs_of p k₁.slabs.items then n i mid now told tell kept.served.shape on lt shows slabs a (Some (at, found)) g.addr_is g.stained y)))
+        (picks, kept.served.valid.reuse, λ y. finds_is c p then q (Some (at, found)) kept.served.valid.reuse (ap (λ (x : ℕ). first_nonzero (usable_bytes p then x)) (sym g.addr_is) ∙ found_told meaning p k₁.slabs.items then n i mid now told tell kept.served.shape on lt shows slabs a (Some (at, found)) g.addr_is g.stained y)))
         (stepped (reply.Overwritten q at found) refl) refl
         (record {
           shows = shows';

@@ -1,5 +1,6 @@
 -- What reading and writing a range comes to.
 use Rattle.std.specs.Prelude.{◌≡◌, ℕ, zero, suc, ◌+◌, nat_lt, Bool, IsTrue, not, ◌&&◌, if◌then◌else◌, List, length, Option, Some, None}
+use Rattle.hm_model.specs.Replies.{IsWithin}
 use Rattle.hm_model.specs.Runs.{expand}
 use Rattle.hm_model.specs.declared.entry.Reply.{Reply}
 use Rattle.hm_model.specs.declared.entry.Reply.TheVariants as reply
@@ -31,6 +32,11 @@ Fetches told runs p uses a len (Bytes read) =
     (length read.items ≡ len)
     × (IsTrue told → (s : State) → Shows p uses s → HoldsSlabs p s.opens runs → (first_trap p s a len ≡ None) × (read.items ≡ bytes_read p s a len))
 Fetches told runs p uses a len (Trap q) = IsTrue told → (s : State) → Shows p uses s → HoldsSlabs p s.opens runs → first_trap p s a len ≡ Some q
+
+-- as many bytes as were asked for, or an address of the range
+abbrev pub IsFetched : ℕ → ℕ → Fetched → Type 0
+IsFetched a len (Bytes read) = length read.items ≡ len
+IsFetched a len (Trap q) = IsWithin a len q
 
 -- writing changes the bytes of the state, or nothing and names the first address that is not accessible
 abbrev pub Fills : Bool → PageRuns → PageRuns → Shape → Uses → ℕ → List ℕ → Outcome → Type 0

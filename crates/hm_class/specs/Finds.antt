@@ -2,11 +2,11 @@
 use Rattle.std.specs.Prelude.{◌≡◌, ℕ, ◌+◌, ◌<◌, ◌≤◌, Bool, true, false, IsTrue, if◌then◌else◌, Option, Some, None, is_some, length, reverse, option_map, unwrap_or, IfSome, ⊤}
 use Rattle.std.specs.FinMap as map
 use Rattle.hm_choice.specs.Stream.{Words, next_word, after_word, canary_of, drawn}
+use Rattle.hm_outside.specs.declared.pages.Pages as pages
 use Rattle.hm_outside.specs.PageRuns.{PageRuns, zeros}
 use Rattle.hm_sizes.specs.declared.shape.Shape.{Shape}
 use Rattle.hm_sizes.specs.Shapes.{slab_at, has_bytes}
 use Rattle.hm_class_rules.specs.Kinds.{Kind, Partial, Empty, Neither}
-use Rattle.hm_class_rules.specs.Rules.{chose_none}
 use Rattle.hm_class_rules.specs.Stepped.{listed}
 use Rattle.hm_class.specs.declared.next_slab.NextSlab.{NextSlab}
 use Rattle.hm_class.specs.declared.next_slab.NextSlab.TheVariants as next
@@ -17,7 +17,7 @@ use Rattle.hm_class.specs.declared.outcome.Outcome.TheVariants as outcome
 use Rattle.hm_class.specs.declared.slabs.Slabs.{Slabs}
 use Rattle.hm_class.specs.declared.slabs.Slot.{Slot}
 use Rattle.hm_class.specs.declared.slabs.Source.TheVariants as from
-use Rattle.hm_class.specs.Calls.{one_draw}
+use Rattle.hm_model.specs.Calls.{no_choices, one_word}
 use Rattle.hm_class.specs.Gives.{Gives}
 use Rattle.hm_class.specs.Outcomes.{plain, canary_value, chose_opened, start_draws}
 use Rattle.hm_class.specs.Rooms.{HasRoom, SameLists}
@@ -41,18 +41,18 @@ pub record CanOpen (p : Shape) (k : Slabs) (n : ℕ) : Type 0 where
   pub below : n < p.limit
   pub there : is_some (slab_in (taken_uses p k.shut.items k.slabs.items) n) ≡ true
 
-module _ {P : Type 0} (told : P → Bool) (runs : P → PageRuns) (faults : P → ℕ) where
-  -- the slabs, the runs and the stream are as before
+module _ {P : Type 0} (meaning : pages.Ghosts P) where
+  -- the slabs, the meaning.runs and the stream are as before
   pub record KeepsRuns (old new : Slabs) (before now : P) (stream stream' : Words) : Type 0 where
     pub slabs : new.slabs.items ≡ old.slabs.items
     pub live : new.live ≡ old.live
     pub lists : SameLists old new
-    pub runs_same : IsTrue (told before) → runs now ≡ runs before
+    pub runs_same : IsTrue (meaning.told before) → meaning.runs now ≡ meaning.runs before
     pub stream_same : stream' ≡ stream
 
-  -- so is the count of faults
+  -- so is the count of meaning.faults
   abbrev pub Stays : Slabs → Slabs → P → P → Words → Words → Type 0
-  Stays old new before now stream stream' = KeepsRuns old new before now stream stream' × (faults now ≡ faults before)
+  Stays old new before now stream stream' = KeepsRuns old new before now stream stream' × (meaning.faults now ≡ meaning.faults before)
 
   -- slab n was opened with this canary
   pub record Opens (p : Shape) (n : ℕ) (canary : Option Canary) (old new : Slabs) (before now : P) (stream stream' : Words) : Type 0 where
@@ -62,17 +62,17 @@ module _ {P : Type 0} (told : P → Bool) (runs : P → PageRuns) (faults : P �
     pub empty : new.empty ≡ old.empty
     pub shut : new.shut.items ≡ still_shut old.shut.items
     pub room : (m : ℕ) → HasRoom old m → HasRoom new m
-    pub made : IsTrue (told before) → runs now ≡ made_runs p n (runs before)
+    pub made : IsTrue (meaning.told before) → meaning.runs now ≡ made_runs p n (meaning.runs before)
     pub canary_is : canary ≡ drawn_canary p stream
     pub stream_is : stream' ≡ canary_stream p stream
-    pub later : faults before ≤ faults now
+    pub later : meaning.faults before ≤ meaning.faults now
 
   abbrev pub Finds : Shape → Slabs → Slabs → P → P → Words → Words → NextSlab → Type 0
   Finds p old new before now stream stream' (next.Open n) = Sources p old (from.Open n) × Stays old new before now stream stream'
   Finds p old new before now stream stream' (next.New n canary) = Sources p old (from.New n) × Opens p n canary old new before now stream stream'
   Finds p old new before now stream stream' next.Exhausted = Sources p old from.Exhausted × Stays old new before now stream stream'
   Finds p old new before now stream stream' next.PagesFailed =
-      (n : ℕ) × Sources p old (from.New n) × KeepsRuns old new before now stream stream' × (has_bytes p ≡ true) × (faults before < faults now)
+      (n : ℕ) × Sources p old (from.New n) × KeepsRuns old new before now stream stream' × (has_bytes p ≡ true) × (meaning.faults before < meaning.faults now)
 
 -- ---- picking
 -- from slot i on slab n has an available slot
@@ -97,12 +97,12 @@ CanServe p k next.PagesFailed = ⊤
 abbrev pub slot_in : ℕ → ℕ → Slot
 slot_in n i = record { slab = n; index = i }
 
-module _ {P : Type 0} (told : P → Bool) (runs : P → PageRuns) (faults : P → ℕ) where
+module _ {P : Type 0} (meaning : pages.Ghosts P) where
   -- a slot of slab n, which was of this kind, was picked by the next word, and given or condemned
   pub record Serve (p : Shape) (n : ℕ) (kind : Kind) (old new : Slabs) (before now : P) (stream stream' : Words) (o : Outcome) : Type 0 where
     pub index : ℕ
     pub first : first_at old.slabs.items n (drawn p.slots (next_word stream)) ≡ Some index
-    pub gives : Gives told runs p old new before now (slot_in n index) o
+    pub gives : Gives meaning p old new before now (slot_in n index) o
     pub partial : reverse new.partial.items ≡ listed Partial n kind (kind_at new.slabs.items n) (reverse old.partial.items)
     pub empty : reverse new.empty.items ≡ listed Empty n kind (kind_at new.slabs.items n) (reverse old.empty.items)
     pub shut : new.shut ≡ old.shut
@@ -112,8 +112,8 @@ module _ {P : Type 0} (told : P → Bool) (runs : P → PageRuns) (faults : P �
   -- where there is no slab all stays
   abbrev pub Serves : Shape → Slabs → Slabs → P → P → Words → Words → NextSlab → Event → Type 0
   Serves p old new before now stream stream' (next.Open n) e =
-      Serve p n (kind_at old.slabs.items n) old new before now stream stream' e.outcome × (e.choices ≡ chose_none) × (e.draws ≡ one_draw (next_word stream))
+      Serve p n (kind_at old.slabs.items n) old new before now stream stream' e.outcome × (e.choices ≡ no_choices) × (e.draws ≡ one_word (next_word stream))
   Serves p old new before now stream stream' (next.New n canary) e =
       Serve p n Neither old new before now stream stream' e.outcome × (e.choices ≡ chose_opened n canary) × (e.draws ≡ start_draws canary (next_word stream))
-  Serves p old new before now stream stream' next.Exhausted e = (e ≡ plain outcome.Exhausted) × KeepsRuns told runs faults old new before now stream stream'
-  Serves p old new before now stream stream' next.PagesFailed e = (e ≡ plain outcome.PagesFailed) × KeepsRuns told runs faults old new before now stream stream'
+  Serves p old new before now stream stream' next.Exhausted e = (e ≡ plain outcome.Exhausted) × KeepsRuns meaning old new before now stream stream'
+  Serves p old new before now stream stream' next.PagesFailed e = (e ≡ plain outcome.PagesFailed) × KeepsRuns meaning old new before now stream stream'

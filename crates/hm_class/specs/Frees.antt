@@ -2,6 +2,7 @@
 use Rattle.std.specs.Prelude.{◌≡◌, ℕ, ◌+◌, ◌*◌, ◌<◌, ◌≤◌, ◌==◌, ◌&&◌, nat_lt, Bool, true, false, IsTrue, if◌then◌else◌, List, [], ◌∷◌, ◌++◌, length, reverse, slice_index_or, slice_set, Option, Some, None, is_some}
 use Rattle.std.specs.FinMap as map
 use Rattle.hm_choice.specs.Stream.{Words, next_word, after_word, drawn}
+use Rattle.hm_outside.specs.declared.pages.Pages as pages
 use Rattle.hm_outside.specs.PageRuns.{PageRuns, IsHeld, IsRun, Writes, zeros}
 use Rattle.hm_sizes.specs.declared.shape.Shape.{Shape}
 use Rattle.hm_sizes.specs.Shapes.{slab_at, slab_of, slot_of, has_bytes, usable}
@@ -49,24 +50,24 @@ abbrev pub released_slab : Shape → Option ℕ → ℕ
 released_slab p None = 0
 released_slab p (Some b) = slab_of p b
 
-module _ {P : Type 0} (told : P → Bool) (runs : P → PageRuns) where
+module _ {P : Type 0} (meaning : pages.Ghosts P) where
   -- the usable bytes of the slot at a were made zero
   pub record Clears (p : Shape) (before now : P) (a : ℕ) : Type 0 where
-    pub none : has_bytes p ≡ false → IsTrue (told before) → runs now ≡ runs before
-    pub some : has_bytes p ≡ true → IsTrue (told before) → IsHeld (runs before) a (usable p) → Writes (runs before) a (usable p) (zeros (usable p)) (runs now)
+    pub none : has_bytes p ≡ false → IsTrue (meaning.told before) → meaning.runs now ≡ meaning.runs before
+    pub some : has_bytes p ≡ true → IsTrue (meaning.told before) → IsHeld (meaning.runs before) a (usable p) → Writes (meaning.runs before) a (usable p) (zeros (usable p)) (meaning.runs now)
 
   -- the slot at a can be released
   pub record CanRelease (p : Shape) (k : Slabs) (pages : P) (a : ℕ) : Type 0 where
     pub from : p.first ≤ a
     pub below : slab_of p a < p.limit
     pub there : is_some (use_at k.slabs.items (slab_of p a) (slot_of p a)) ≡ true
-    pub run : has_bytes p ≡ true → IsTrue (told pages) → IsRun (runs pages) (slab_at p (slab_of p a)) p.slab
+    pub run : has_bytes p ≡ true → IsTrue (meaning.told pages) → IsRun (meaning.runs pages) (slab_at p (slab_of p a)) p.slab
 
-module _ {P : Type 0} (told : P → Bool) (runs : P → PageRuns) (faults : P → ℕ) where
+module _ {P : Type 0} (meaning : pages.Ghosts P) where
   -- the pages of slab n went, where it has any; or their bytes were made zero
   abbrev pub Drops : Shape → ℕ → P → P → Bool → Type 0
-  Drops p n before now true = (IsTrue (told before) → runs now ≡ (if has_bytes p then map.remove (runs before) (slab_at p n) else runs before)) × (faults before ≤ faults now)
-  Drops p n before now false = (has_bytes p ≡ true) × (IsTrue (told before) → runs now ≡ map.insert (runs before) (slab_at p n) (zeros p.slab)) × (faults before < faults now)
+  Drops p n before now true = (IsTrue (meaning.told before) → meaning.runs now ≡ (if has_bytes p then map.remove (meaning.runs before) (slab_at p n) else meaning.runs before)) × (meaning.faults before ≤ meaning.faults now)
+  Drops p n before now false = (has_bytes p ≡ true) × (IsTrue (meaning.told before) → meaning.runs now ≡ map.insert (meaning.runs before) (slab_at p n) (zeros p.slab)) × (meaning.faults before < meaning.faults now)
 
   -- slab n, which was of this kind, was retired. `uses` are the slabs before that
   pub record RetiresSlab (p : Shape) (n : ℕ) (kind : Kind) (uses : Uses) (old new : Slabs) (before now : P) (stream stream' : Words) (parking parking' : List (Option ℕ)) (word : ℕ) (unparked : Option ℕ) : Type 0 where
@@ -95,8 +96,8 @@ module _ {P : Type 0} (told : P → Bool) (runs : P → PageRuns) (faults : P �
 
   -- the pages, the stream and the parking places are as before
   pub record KeepsPlaces (before now : P) (stream stream' : Words) (parking parking' : List (Option ℕ)) : Type 0 where
-    pub runs_same : IsTrue (told before) → runs now ≡ runs before
-    pub count_same : faults now ≡ faults before
+    pub runs_same : IsTrue (meaning.told before) → meaning.runs now ≡ meaning.runs before
+    pub count_same : meaning.faults now ≡ meaning.faults before
     pub stream_is : stream' ≡ stream
     pub parking_is : parking' ≡ parking
 

@@ -2,6 +2,7 @@
 use Rattle.std.specs.Prelude.{◌≡◌, ℕ, ◌+◌, Bool, true, false, IsTrue, List, Option, Some, None}
 use Rattle.std.specs.Int.{to_le_bytes}
 use mir.Syntax.{w64}
+use Rattle.hm_outside.specs.declared.pages.Pages as pages
 use Rattle.hm_outside.specs.PageRuns.{PageRuns, IsHeld, Reads, Writes}
 use Rattle.hm_sizes.specs.declared.shape.Shape.{Shape}
 use Rattle.hm_sizes.specs.Shapes.{place, usable, has_bytes}
@@ -13,16 +14,16 @@ use Rattle.hm_class.specs.declared.slabs.Slabs.{Slabs}
 use Rattle.hm_class.specs.declared.slabs.Slot.{Slot}
 use Rattle.hm_class.specs.Uses.{was_given, passes_at, canary_at, with_use}
 
-module _ {P : Type 0} (told : P → Bool) (runs : P → PageRuns) where
+module _ {P : Type 0} (meaning : pages.Ghosts P) where
   -- what is found among the usable bytes of the slot at a, where slots have bytes
   pub record Stains (p : Shape) (pages : P) (a : ℕ) (found : Option (ℕ × ℕ)) : Type 0 where
     pub none : has_bytes p ≡ false → found ≡ None
-    pub some : has_bytes p ≡ true → IsTrue (told pages) → IsHeld (runs pages) a (usable p) → (slice : List ℕ) × Reads (runs pages) a (usable p) slice × (found ≡ first_nonzero slice)
+    pub some : has_bytes p ≡ true → IsTrue (meaning.told pages) → IsHeld (meaning.runs pages) a (usable p) → (slice : List ℕ) × Reads (meaning.runs pages) a (usable p) slice × (found ≡ first_nonzero slice)
 
   -- the canary was set behind them
   pub record Seals (p : Shape) (before now : P) (a canary : ℕ) : Type 0 where
-    pub none : has_bytes p ≡ false → IsTrue (told before) → runs now ≡ runs before
-    pub some : has_bytes p ≡ true → IsTrue (told before) → IsHeld (runs before) (a + usable p) 8 → Writes (runs before) (a + usable p) 8 (to_le_bytes w64 canary) (runs now)
+    pub none : has_bytes p ≡ false → IsTrue (meaning.told before) → meaning.runs now ≡ meaning.runs before
+    pub some : has_bytes p ≡ true → IsTrue (meaning.told before) → IsHeld (meaning.runs before) (a + usable p) 8 → Writes (meaning.runs before) (a + usable p) 8 (to_le_bytes w64 canary) (meaning.runs now)
 
   -- all usable bytes are zero; the slot becomes live, and its last 8 bytes the canary
   pub record GivesSlot (p : Shape) (old new : Slabs) (before now : P) (s : Slot) (a size : ℕ) : Type 0 where
@@ -37,7 +38,7 @@ module _ {P : Type 0} (told : P → Bool) (runs : P → PageRuns) where
     pub addr_is : a ≡ place p s.slab s.index
     pub stained : Stains p before a (Some (at, found))
     pub slabs : new.slabs.items ≡ with_use old.slabs.items s.slab s.index (Condemned (passes_at was_given old.slabs.items s.slab s.index))
-    pub same : IsTrue (told before) → runs now ≡ runs before
+    pub same : IsTrue (meaning.told before) → meaning.runs now ≡ meaning.runs before
 
   abbrev pub Gives : Shape → Slabs → Slabs → P → P → Slot → Outcome → Type 0
   Gives p old new before now s (outcome.Given a size) = GivesSlot p old new before now s a size

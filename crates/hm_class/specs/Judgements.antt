@@ -1,8 +1,10 @@
 -- What is said of a block that is given back.
-use Rattle.std.specs.Prelude.{◌≡◌, ◌==◌, ℕ, ◌+◌, Bool, true, IsTrue, List, Option, Some, None, if◌then◌else◌}
+use Rattle.std.specs.Prelude.{◌≡◌, ◌==◌, ℕ, ◌+◌, Bool, true, IsTrue, List, Option, Some, None, if◌then◌else◌, ⊤}
 use Rattle.std.specs.Int.{from_le_bytes}
 use mir.Syntax.{w64}
+use Rattle.hm_outside.specs.declared.pages.Pages as pages
 use Rattle.hm_outside.specs.PageRuns.{PageRuns, IsHeld, Reads}
+use Rattle.hm_model.specs.Replies.{IsFreeReply}
 use Rattle.hm_sizes.specs.declared.shape.Shape.{Shape}
 use Rattle.hm_sizes.specs.Shapes.{usable, has_bytes}
 use Rattle.hm_class_rules.specs.Rules.{wrong_size}
@@ -15,6 +17,7 @@ use Rattle.hm_class.specs.declared.slabs.Refusal.TheVariants as refusal
 use Rattle.hm_class.specs.declared.slabs.Slabs.{Slabs}
 use Rattle.hm_class.specs.declared.slabs.Slot.{Slot}
 use Rattle.hm_class.specs.declared.slabs.Verdict.TheVariants as verdict
+use Rattle.hm_class.specs.Outcomes.{reply_of}
 use Rattle.hm_class.specs.Sources.{Refuses, Judges}
 use Rattle.hm_class.specs.Uses.{canary_at}
 
@@ -27,12 +30,12 @@ refused_outcome refusal.DoubleFree = outcome.DoubleFree
 abbrev pub other_number : List ℕ → ℕ → Option ℕ
 other_number last canary = if from_le_bytes w64 last == canary then None else Some (from_le_bytes w64 last)
 
-module _ {P : Type 0} (told : P → Bool) (runs : P → PageRuns) where
+module _ {P : Type 0} (meaning : pages.Ghosts P) where
   -- what is found where the canary stands
   abbrev pub FindsCanary : Shape → Slabs → P → ℕ → Slot → Option ℕ → Type 0
   FindsCanary p k pages a s found =
-      IsTrue (told pages) → IsHeld (runs pages) (a + usable p) 8
-      → (last : List ℕ) × Reads (runs pages) (a + usable p) 8 last × (found ≡ other_number last (canary_at k.slabs.items s.slab))
+      IsTrue (meaning.told pages) → IsHeld (meaning.runs pages) (a + usable p) 8
+      → (last : List ℕ) × Reads (meaning.runs pages) (a + usable p) 8 last × (found ≡ other_number last (canary_at k.slabs.items s.slab))
 
   pub record RefusesSize (p : Shape) (k : Slabs) (a : ℕ) (stated : Option ℕ) (block other : ℕ) : Type 0 where
     pub slot : Slot
@@ -63,6 +66,11 @@ module _ {P : Type 0} (told : P → Bool) (runs : P → PageRuns) where
   abbrev pub Judgements : Shape → Slabs → P → ℕ → Option ℕ → Judgement → Type 0
   Judgements p k pages a stated (Refused o) = Refusals p k pages a stated o
   Judgements p k pages a stated (Accepted slot) = Accepts p k pages a stated slot
+
+-- a refusal is a reply of giving back
+abbrev pub RefusesWith : Judgement → Type 0
+RefusesWith (Refused o) = IsFreeReply (reply_of o)
+RefusesWith (Accepted slot) = ⊤
 
 abbrev pub Measures : Shape → Slabs → ℕ → Outcome → Type 0
 Measures p k a outcome.NoSlot = Refuses p k.slabs.items a refusal.NoSlot

@@ -2,8 +2,8 @@
 use Rattle.std.specs.Prelude.{ℕ, Option, Some, None, option_map}
 use Rattle.hm_model.specs.declared.entry.Choices.{Choices}
 use Rattle.hm_model.specs.declared.entry.Draws.{Draws}
-use Rattle.hm_class_rules.specs.Rules.{chose, chose_none}
-use Rattle.hm_class.specs.Calls.{no_draws, one_draw}
+use Rattle.hm_class_rules.specs.Rules.{chose}
+use Rattle.hm_model.specs.Calls.{no_choices, no_words, one_word}
 use Rattle.hm_class.specs.declared.outcome.Canary.{Canary}
 use Rattle.hm_class.specs.declared.outcome.Emptied.{Emptied}
 use Rattle.hm_class.specs.declared.outcome.Emptied.TheVariants.{Kept, Retired, Purged}
@@ -30,7 +30,7 @@ reply_of (outcome.Trap addr) = reply.Trap addr
 
 -- an outcome with which nothing was chosen and drawn
 abbrev pub plain : Outcome → Event
-plain o = record { outcome = o; choices = chose_none; draws = no_draws }
+plain o = record { outcome = o; choices = no_choices; draws = no_words }
 
 -- ---- a slot was picked
 -- what is chosen where slab n was opened for it
@@ -42,7 +42,7 @@ chose_opened n canary = chose (canary_value canary) (Some n) None None None None
 
 -- the words of the canary, and the start slot's
 abbrev pub start_draws : Option Canary → ℕ → Draws
-start_draws None word = one_draw word
+start_draws None word = one_word word
 start_draws (Some c) word = record { used = 3; w0 = c.low; w1 = c.high; w2 = word }
 
 -- ---- a block was taken back
@@ -54,12 +54,12 @@ freed_choices released n Purged = chose None None released None (Some n) None
 
 -- the word of the array's place, where there is an array, and that of the parking place
 abbrev pub freed_draws : Option ℕ → Emptied → Draws
-freed_draws None Kept = no_draws
-freed_draws None (Retired word unparked) = one_draw word
-freed_draws None Purged = no_draws
-freed_draws (Some array) Kept = one_draw array
+freed_draws None Kept = no_words
+freed_draws None (Retired word unparked) = one_word word
+freed_draws None Purged = no_words
+freed_draws (Some array) Kept = one_word array
 freed_draws (Some array) (Retired word unparked) = record { used = 2; w0 = array; w1 = word; w2 = 0 }
-freed_draws (Some array) Purged = one_draw array
+freed_draws (Some array) Purged = one_word array
 
 abbrev pub freed : Option ℕ → Option ℕ → ℕ → Emptied → Event
 freed array released n emptied = record { outcome = outcome.Freed; choices = freed_choices released n emptied; draws = freed_draws array emptied }

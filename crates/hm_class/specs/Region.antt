@@ -1,12 +1,16 @@
 -- A class region as callers see it.
-use Rattle.std.specs.Prelude.{◌≡◌, ℕ, ◌≤◌, Bool, true, IsTrue, List, length, Option, Some, None}
+use Rattle.std.specs.Prelude.{◌≡◌, ℕ, ◌<◌, ◌≤◌, Bool, true, IsTrue, List, length, Option, Some, None}
 use Rattle.std.specs.FinMap as map
+use Rattle.hm_outside.specs.declared.pages.Pages as pages
 use Rattle.hm_outside.specs.PageRuns.{PageRuns}
 use Rattle.hm_model.specs.declared.entry.Entry.{Entry}
 use Rattle.hm_sizes.specs.declared.class.ClassId.{ClassId}
 use Rattle.hm_sizes.specs.declared.config.Config.{Config}
 use Rattle.hm_sizes.specs.declared.shape.Shape.{Shape}
-use Rattle.hm_sizes.specs.Shapes.{slab_at, has_bytes}
+use Rattle.hm_sizes.specs.Classes.{class_count}
+use Rattle.hm_sizes.specs.Configs.{IsValid}
+use Rattle.hm_sizes.specs.Origins.{Origin, class_region_number}
+use Rattle.hm_sizes.specs.Shapes.{IsShape, slab_at, has_bytes}
 use Rattle.hm_model.specs.Maps.{at}
 use Rattle.hm_class_rules.specs.Laws.{AllWhole, bytes_of_slab}
 use Rattle.hm_class_rules.specs.State.{State, Slab}
@@ -28,6 +32,10 @@ module _ {P : Type 0} where
   -- the region begins where its first word says
   abbrev pub region_shape : Region P → Shape
   region_shape r = drawn_shape r.number r.config r.arena r.class
+
+  -- the region that it is
+  abbrev pub origin : (P → Bool) → Region P → Origin
+  origin told r = record { config = r.config; number = r.number; region = class_region_number r.arena r.class; told = told r.pages }
 
   -- the bytes are told where the pages tell them
   abbrev pub terms : (P → Bool) → Region P → Terms
@@ -52,18 +60,24 @@ pub record HoldsSlabs (p : Shape) (opens : List (ℕ × Slab)) (runs : PageRuns)
   pub only : (q : ℕ) (bytes : List ℕ) → map.get runs q ≡ Some bytes → IsSlab p opens q bytes
   pub whole : AllWhole (bytes_of_slab p) opens
 
--- the history is legal, its choices are drawn, and the pages and the room for entries are what it says
-pub record IsRegion {P : Type 0} (told : P → Bool) (runs : P → PageRuns) (faults : P → ℕ) (r : Region P) : Type 0 where
-  pub legal : IsLegal (terms told r) r.entries
-  pub drawn : IsDrawn r.number r.arena (terms told r) r.entries
-  pub count : faults r.pages ≡ (region_state told r).faults
-  pub slabs : IsTrue (told r.pages) → HoldsSlabs (region_shape r) (region_state told r).opens (runs r.pages)
+-- the region is one of a valid configuration, its history is legal, its choices are drawn, and the pages and the room for
+-- entries are what it says
+pub record IsRegion {P : Type 0} (meaning : pages.Ghosts P) (r : Region P) : Type 0 where
+  pub valid : IsValid r.config
+  pub arena_below : r.arena < r.config.arenas
+  pub class_below : r.class.0 < class_count
+  pub shape : IsShape (region_shape r)
+  pub legal : IsLegal (terms meaning.told r) r.entries
+  pub drawn : IsDrawn r.number r.arena (terms meaning.told r) r.entries
+  pub count : meaning.faults r.pages ≡ (region_state meaning.told r).faults
+  pub slabs : IsTrue (meaning.told r.pages) → HoldsSlabs (region_shape r) (region_state meaning.told r).opens (meaning.runs r.pages)
   -- an entry for the free of each live block
-  pub room : length (region_state told r).live ≤ r.spare
+  pub room : length (region_state meaning.told r).live ≤ r.spare
 
--- the address starts a live block, the stated size is its own, and where the bytes are told its canary is unchanged
+-- the address starts a live block, the stated size is its own, and its canary is unchanged, which is known where the bytes are
+-- told and in class 0, which has none
 pub record IsTakenBack {P : Type 0} (told : P → Bool) (r : Region P) (a : ℕ) (stated : Option ℕ) : Type 0 where
-  pub tells : IsTrue (told r.pages)
+  pub tells : has_bytes (region_shape r) ≡ true → IsTrue (told r.pages)
   pub block : IsLiveBlock (region_shape r) (region_state told r) a
   pub size : wrong_size (region_shape r) stated ≡ None
   pub canary : wrong_canary (region_shape r) (region_state told r) a ≡ None

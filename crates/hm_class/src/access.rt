@@ -1,9 +1,11 @@
 //! The bytes of open slabs: which addresses are accessible, reading and writing. Neither looks at slots.
 ghost use Rattle.std.specs.Prelude.{◌≡◌, ◌+◌, ◌<◌, ◌≤◌, ◌^◌, Some, None, IsTrue, IfOk, IfSome, MatchOption, length, if◌then◌else◌};
+ghost use Rattle.hm_model.specs.Replies.{IsFillReply};
 ghost use Rattle.hm_sizes.specs.Shapes.{IsShape, slab_at, slab_of};
 ghost use Rattle.hm_class_rules.specs.State.{State};
 ghost use Rattle.hm_class_rules.specs.Bytes.{first_trap, bytes_read, write};
-ghost use Rattle.hm_class.specs.Access.{is_accessible, trap_in, Fetches, Fills, RepliesTo};
+ghost use Rattle.hm_class.specs.Access.{is_accessible, trap_in, Fetches, IsFetched, Fills, RepliesTo};
+ghost use Rattle.hm_class.specs.Outcomes.{reply_of};
 ghost use Rattle.hm_class.specs.Region.{HoldsSlabs};
 
 use crate::outcome::Outcome;
@@ -101,7 +103,8 @@ pub fn fetch<P: Pages>(
     requires shape { IsShape shape.now }
     requires some { 1 ≤ len }
     requires range { addr + len < 2 ^ 48 }
-    ensures { IfOk result (Fetches (P.told pages.now) (P.runs pages.now) shape.now slabs.now.slabs.items addr len) }
+    ensures fetched { IfOk result (Fetches (P.told pages.now) (P.runs pages.now) shape.now slabs.now.slabs.items addr len) }
+    ensures within { IfOk result (IsFetched addr len) }
 {
     if let Some(trap) = first_trap(slabs, shape, addr, len) {
         return Ok(Fetched::Trap(trap));
@@ -168,6 +171,7 @@ pub fn fill<P: Pages>(
     ensures told { P.told pages.new ≡ P.told pages.old }
     ensures count { P.faults pages.new ≡ P.faults pages.old }
     ensures filled { Fills (P.told pages.old) (P.runs pages.old) (P.runs pages.new) shape.now slabs.now.slabs.items addr bytes.now result }
+    ensures within { IsFillReply addr (length bytes.now) (reply_of result) }
 {
     let len = bytes.len() as u64;
     if let Some(trap) = first_trap(slabs, shape, addr, len) {

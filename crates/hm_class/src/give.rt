@@ -1,27 +1,31 @@
 //! A slot is picked and given: its usable bytes are looked at, and its canary is set. One with a byte that
 //! is not zero is condemned.
-ghost use Rattle.std.specs.Prelude.{◌≡◌, ◌<◌, ◌^◌};
+ghost use Rattle.std.specs.Prelude.{◌≡◌, ◌≢◌, ◌<◌, ◌^◌, IfSome};
 ghost use Rattle.hm_choice.specs.Stream.{next_word, after_word, drawn};
-ghost use Rattle.hm_sizes.specs.Shapes.{IsShape};
+ghost use Rattle.hm_model.specs.Replies.{IsSlotReply};
+ghost use Rattle.hm_sizes.specs.Shapes.{IsShape, usable};
 ghost use Rattle.hm_class.specs.Finds.{CanPick, CanServe, Serve, Serves, HasFirst, slot_in};
 ghost use Rattle.hm_class.specs.Gives.{Gives, Stains, Seals};
+ghost use Rattle.hm_class.specs.Outcomes.{reply_of};
 ghost use Rattle.hm_class.specs.Rooms.{HasRoom, SameLists};
 ghost use Rattle.hm_class.specs.Sources.{IsAvailable};
 ghost use Rattle.hm_class.specs.Uses.{live_count, first_at, kind_named};
 
 use crate::next_slab::NextSlab;
-use crate::outcome::{Event, NO_CHOICES, Outcome, one_draw, opened_choices, start_draws};
+use crate::outcome::{Event, Outcome, opened_choices, start_draws};
 use crate::slab::{SlabKind, SlotUse};
 use crate::slabs::{Slabs, Slot, address_of};
 use crate::slot_bytes::{first_nonzero, set_canary};
 use hm_choice::Stream;
+use hm_model::{Choices, Draws};
 use hm_outside::Pages;
 use hm_sizes::Shape;
 
 // The first usable byte of a slot that is not zero, where slots have bytes.
 fn stain<P: Pages>(pages: &P, shape: &Shape, addr: u64) -> Option<(u64, u8)>
     requires { IsShape shape.now }
-    ensures { Stains P.told P.runs shape.now pages.now addr result }
+    ensures value { Stains P.Pages shape.now pages.now addr result }
+    ensures found { IfSome result (λ r. (r.0 < usable shape.now) × (r.1 ≢ 0)) }
 {
     if !shape.has_bytes() {
         return None;
@@ -35,7 +39,7 @@ fn seal<P: Pages>(pages: &mut P, shape: &Shape, addr: u64, canary: u64)
     requires below { addr < 2 ^ 48 }
     ensures told { P.told pages.new ≡ P.told pages.old }
     ensures count { P.faults pages.new ≡ P.faults pages.old }
-    ensures written { Seals P.told P.runs shape.now pages.old pages.new addr canary }
+    ensures written { Seals P.Pages shape.now pages.old pages.new addr canary }
 {
     if shape.has_bytes() {
         set_canary(pages, addr + shape.usable(), canary);
@@ -54,7 +58,8 @@ pub fn give<P: Pages>(slabs: &mut Slabs, pages: &mut P, shape: &Shape, slot: Slo
     ensures count { P.faults pages.new ≡ P.faults pages.old }
     ensures lists { SameLists slabs.old slabs.new }
     ensures counted { slabs.new.live ≡ live_count slabs.new.slabs.items }
-    ensures given { Gives P.told P.runs shape.now slabs.old slabs.new pages.old pages.new slot result }
+    ensures replies { IsSlotReply (usable shape.now) (reply_of result) }
+    ensures given { Gives P.Pages shape.now slabs.old slabs.new pages.old pages.new slot result }
 {
     let addr = address_of(shape, slot);
     match stain(pages, shape, addr) {
@@ -91,8 +96,9 @@ fn serve_from<P: Pages>(
     ensures told { P.told pages.new ≡ P.told pages.old }
     ensures count { P.faults pages.new ≡ P.faults pages.old }
     ensures counted { slabs.new.live ≡ live_count slabs.new.slabs.items }
+    ensures replies { IsSlotReply (usable shape.now) (reply_of result.0) }
     ensures word { result.1 ≡ next_word stream.old }
-    ensures served { Serve P.told P.runs P.faults shape.now slab (kind_named before) slabs.old slabs.new pages.old pages.new stream.old stream.new result.0 }
+    ensures served { Serve P.Pages shape.now slab (kind_named before) slabs.old slabs.new pages.old pages.new stream.old stream.new result.0 }
 {
     let (word, start) = stream.draw(shape.slots);
     let Some(index) = slabs.first_from(slab as usize, start as usize) else {
@@ -124,7 +130,8 @@ pub fn serve<P: Pages>(
     ensures told { P.told pages.new ≡ P.told pages.old }
     ensures count { P.faults pages.new ≡ P.faults pages.old }
     ensures counted { slabs.new.live ≡ live_count slabs.new.slabs.items }
-    ensures served { Serves P.told P.runs P.faults shape.now slabs.old slabs.new pages.old pages.new stream.old stream.new next result }
+    ensures replies { IsSlotReply (usable shape.now) (reply_of result.outcome) }
+    ensures served { Serves P.Pages shape.now slabs.old slabs.new pages.old pages.new stream.old stream.new next result }
 {
     match next {
         NextSlab::Exhausted => Event::plain(Outcome::Exhausted),
@@ -134,8 +141,8 @@ pub fn serve<P: Pages>(
             let (outcome, word) = serve_from(slabs, pages, stream, shape, slab, before);
             Event {
                 outcome,
-                choices: NO_CHOICES,
-                draws: one_draw(word),
+                choices: Choices::none(),
+                draws: Draws::one(word),
             }
         }
         NextSlab::New { slab, canary } => {

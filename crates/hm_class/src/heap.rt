@@ -4,23 +4,24 @@ ghost use Rattle.std.specs.FinMap as map;
 ghost use Rattle.hm_sizes.specs.Classes.{class_count, class_size};
 ghost use Rattle.hm_choice.specs.Stream.{after_word};
 ghost use Rattle.hm_sizes.specs.Configs.{IsValid};
-ghost use Rattle.hm_sizes.specs.Shapes.{IsShape};
+ghost use Rattle.hm_sizes.specs.Shapes.{IsShape, usable};
 ghost use Rattle.hm_class_rules.specs.Draws.{stream_of, drawn_shape};
-ghost use Rattle.hm_class_rules.specs.Rules.{chose_none};
 ghost use Rattle.hm_sizes.specs.Sizes.{raised};
 ghost use Rattle.hm_model.specs.Runs.{expand};
-ghost use Rattle.hm_class.specs.Region.{region_shape, IsRegion, IsTakenBack};
-ghost use Rattle.hm_class.specs.Calls.{entry_of, no_draws, Added, KeepsName, IsBuilt, IsAllotReply, IsGiveBackReply, IsMeasureReply, IsFetchReply, IsFillReply};
+ghost use Rattle.hm_class.specs.Region.{region_shape, origin, IsRegion, IsTakenBack};
+ghost use Rattle.hm_model.specs.Calls.{entry_of};
+ghost use Rattle.hm_model.specs.Replies.{IsClassReply};
+ghost use Rattle.hm_class.specs.Calls.{Added, IsBuilt};
 
 use crate::access::{fetch, fill, replies};
 use crate::give::serve;
 use crate::judge::{Judgement, judge, measure};
 use crate::next_slab::find_slab;
-use crate::outcome::{Event, NO_CHOICES, NO_DRAWS};
+use crate::outcome::Event;
 use crate::slabs::Slabs;
 use crate::take_back::{hold, settle, slab_of};
 use hm_choice::Stream;
-use hm_model::{Call, Entry, Reply, Runs, Who};
+use hm_model::{Call, Counted, Entry, Reply, Runs, Who};
 use hm_outside::{NoMemory, Pages};
 use hm_quarantine::Quarantine;
 use hm_sizes::{ClassId, Config, Shape, shape_of};
@@ -67,6 +68,14 @@ impl<P: Pages> Model for ClassHeap<P> {
         × (h.slabs.live ≤ h.entries.cap - h.entries.len) × HasRoom h.slabs h.slabs.live };
 }
 
+impl<P: Pages> Counted for ClassHeap<P> {
+    ghost counted = { λ h. h.entries };
+
+    fn count(&self) -> u64 {
+        self.entries.len() as u64
+    }
+}
+
 const PAGE: u64 = 4096;
 
 const CLASSES: u64 = 49;
@@ -83,21 +92,6 @@ fn entry(who: Who, call: Call, reply: Reply, event: Event, before: u64, now: u64
         draws: event.draws,
         faults_before: before,
         faults_after: now,
-    }
-}
-
-// An entry of a call that chose and drew nothing, and during which no page failed.
-fn still(who: Who, call: Call, reply: Reply, faults: u64) -> Entry
-    ensures { result ≡ entry_of who call reply chose_none no_draws faults faults }
-{
-    Entry {
-        who,
-        call,
-        reply,
-        choices: NO_CHOICES,
-        draws: NO_DRAWS,
-        faults_before: faults,
-        faults_after: faults,
     }
 }
 
@@ -133,7 +127,7 @@ impl<P: Pages> ClassHeap<P> {
         requires nothing { IsTrue (P.told pages) → P.runs pages ≡ map.empty }
         requires count { P.faults pages ≡ 0 }
         ensures built { IfOk result (λ region. IsBuilt config.now seed arena class pages region) }
-        ensures region { IfOk result (λ region. IsRegion P.told P.runs P.faults region) }
+        ensures region { IfOk result (λ region. IsRegion P.Pages region) }
     {
         let (stream, shape) = begin(config, seed, arena, class);
         let quarantine = Quarantine::build(alloc, shape.array, shape.ring)?;
@@ -176,7 +170,7 @@ impl<P: Pages> ClassHeap<P> {
     /// The history, oldest entry first.
     pub fn entries(&self) -> &[Entry]
         ensures value { result.now ≡ self.now.entries }
-        ensures region { IsRegion P.told P.runs P.faults self.now }
+        ensures region { IsRegion P.Pages self.now }
     {
         &self.entries
     }
@@ -184,7 +178,7 @@ impl<P: Pages> ClassHeap<P> {
     /// The room for entries: at least one for each live block.
     pub fn spare(&self) -> u64
         ensures value { result ≡ self.now.spare }
-        ensures region { IsRegion P.told P.runs P.faults self.now }
+        ensures region { IsRegion P.Pages self.now }
     {
         (self.entries.capacity() - self.entries.len()) as u64
     }
@@ -198,7 +192,7 @@ impl<P: Pages> ClassHeap<P> {
 
     pub fn pages(&self) -> &P
         ensures value { result.now ≡ self.now.pages }
-        ensures region { IsRegion P.told P.runs P.faults self.now }
+        ensures region { IsRegion P.Pages self.now }
     {
         &self.pages
     }
@@ -207,7 +201,7 @@ impl<P: Pages> ClassHeap<P> {
     pub fn into_entries(self) -> (Vec<Entry>, P)
         ensures entries { result.0.items ≡ self.entries }
         ensures pages { result.1 ≡ self.pages }
-        ensures region { IsRegion P.told P.runs P.faults self }
+        ensures region { IsRegion P.Pages self }
     {
         let ClassHeap {
             alloc: _,
@@ -228,11 +222,11 @@ impl<P: Pages> ClassHeap<P> {
     /// Gives a block of at least `asked` bytes.
     pub fn allot(&mut self, who: Who, asked: u64) -> Result<Reply, NoMemory>
         requires { raised asked ≤ class_size self.old.class.0 }
-        ensures added { IfOk result (λ reply. Added P.faults self.old self.new who (Call.Allot asked 1) reply) }
-        ensures replies { IfOk result IsAllotReply }
+        ensures added { IfOk result (λ reply. Added P.Pages self.old self.new who (Call.Allot asked 1) reply) }
+        ensures replies { IfOk result (IsClassReply (usable (region_shape self.old)) (Call.Allot asked 1)) }
         ensures memory { OnErr result (self.new.entries ≡ self.old.entries) }
-        ensures name { KeepsName self.old self.new }
-        ensures region { IsRegion P.told P.runs P.faults self.new }
+        ensures origin { origin P.told self.new ≡ origin P.told self.old }
+        ensures region { IsRegion P.Pages self.new }
     {
         self.entries.reserve(self.slabs.live + 2)?;
         self.slabs.reserve()?;
@@ -261,12 +255,12 @@ impl<P: Pages> ClassHeap<P> {
 
     /// Takes a block back. An accepted one takes no memory.
     pub fn give_back(&mut self, who: Who, addr: u64, stated: Option<u64>) -> Result<Reply, NoMemory>
-        ensures added { IfOk result (λ reply. Added P.faults self.old self.new who (Call.GiveBack addr stated) reply) }
-        ensures replies { IfOk result IsGiveBackReply }
+        ensures added { IfOk result (λ reply. Added P.Pages self.old self.new who (Call.GiveBack addr stated) reply) }
+        ensures replies { IfOk result (IsClassReply (usable (region_shape self.old)) (Call.GiveBack addr stated)) }
         ensures memory { OnErr result (self.new.entries ≡ self.old.entries) }
         ensures accepted { IsTakenBack P.told self.old addr stated → IsOk result }
-        ensures name { KeepsName self.old self.new }
-        ensures region { IsRegion P.told P.runs P.faults self.new }
+        ensures origin { origin P.told self.new ≡ origin P.told self.old }
+        ensures region { IsRegion P.Pages self.new }
     {
         let before = self.pages.faults();
         match judge(&self.slabs, &self.pages, &self.shape, addr, stated) {
@@ -274,7 +268,7 @@ impl<P: Pages> ClassHeap<P> {
                 self.entries.reserve(self.slabs.live + 1)?;
                 let call = Call::GiveBack { addr, stated };
                 let reply = outcome.reply();
-                self.entries.push_reserved(still(who, call, reply, before));
+                self.entries.push_reserved(Entry::plain(who, call, reply, before, before));
                 Ok(outcome.reply())
             }
             Judgement::Accepted(slot) => {
@@ -308,18 +302,18 @@ impl<P: Pages> ClassHeap<P> {
 
     /// The usable size of a live block.
     pub fn measure(&mut self, who: Who, addr: u64) -> Result<Reply, NoMemory>
-        ensures added { IfOk result (λ reply. Added P.faults self.old self.new who (Call.Measure addr) reply) }
-        ensures replies { IfOk result IsMeasureReply }
+        ensures added { IfOk result (λ reply. Added P.Pages self.old self.new who (Call.Measure addr) reply) }
+        ensures replies { IfOk result (IsClassReply (usable (region_shape self.old)) (Call.Measure addr)) }
         ensures memory { OnErr result (self.new.entries ≡ self.old.entries) }
-        ensures name { KeepsName self.old self.new }
-        ensures region { IsRegion P.told P.runs P.faults self.new }
+        ensures origin { origin P.told self.new ≡ origin P.told self.old }
+        ensures region { IsRegion P.Pages self.new }
     {
         self.entries.reserve(self.slabs.live + 1)?;
         let faults = self.pages.faults();
         let outcome = measure(&self.slabs, &self.shape, addr);
         let call = Call::Measure { addr };
         let reply = outcome.reply();
-        self.entries.push_reserved(still(who, call, reply, faults));
+        self.entries.push_reserved(Entry::plain(who, call, reply, faults, faults));
         Ok(outcome.reply())
     }
 
@@ -328,18 +322,18 @@ impl<P: Pages> ClassHeap<P> {
         requires some { 1 ≤ len }
         requires most { len ≤ 2 ^ 30 }
         requires below { addr < 2 ^ 47 }
-        ensures added { IfOk result (λ reply. Added P.faults self.old self.new who (Call.Fetch addr len) reply) }
-        ensures replies { IfOk result IsFetchReply }
+        ensures added { IfOk result (λ reply. Added P.Pages self.old self.new who (Call.Fetch addr len) reply) }
+        ensures replies { IfOk result (IsClassReply (usable (region_shape self.old)) (Call.Fetch addr len)) }
         ensures memory { OnErr result (self.new.entries ≡ self.old.entries) }
-        ensures name { KeepsName self.old self.new }
-        ensures region { IsRegion P.told P.runs P.faults self.new }
+        ensures origin { origin P.told self.new ≡ origin P.told self.old }
+        ensures region { IsRegion P.Pages self.new }
     {
         self.entries.reserve(self.slabs.live + 1)?;
         let faults = self.pages.faults();
         let fetched = fetch(&self.slabs, &self.pages, self.alloc, &self.shape, addr, len)?;
         let (reply, answer) = replies(self.alloc, fetched)?;
         let call = Call::Fetch { addr, len };
-        self.entries.push_reserved(still(who, call, reply, faults));
+        self.entries.push_reserved(Entry::plain(who, call, reply, faults, faults));
         Ok(answer)
     }
 
@@ -349,11 +343,11 @@ impl<P: Pages> ClassHeap<P> {
         requires some { 1 ≤ length (expand runs.now) }
         requires most { length (expand runs.now) ≤ 2 ^ 30 }
         requires below { addr < 2 ^ 47 }
-        ensures added { IfOk result (λ reply. Added P.faults self.old self.new who (Call.Fill addr runs.now) reply) }
-        ensures replies { IfOk result IsFillReply }
+        ensures added { IfOk result (λ reply. Added P.Pages self.old self.new who (Call.Fill addr runs.now) reply) }
+        ensures replies { IfOk result (IsClassReply (usable (region_shape self.old)) (Call.Fill addr runs.now)) }
         ensures memory { OnErr result (self.new.entries ≡ self.old.entries) }
-        ensures name { KeepsName self.old self.new }
-        ensures region { IsRegion P.told P.runs P.faults self.new }
+        ensures origin { origin P.told self.new ≡ origin P.told self.old }
+        ensures region { IsRegion P.Pages self.new }
     {
         self.entries.reserve(self.slabs.live + 1)?;
         let runs = runs.copy()?;
@@ -362,7 +356,7 @@ impl<P: Pages> ClassHeap<P> {
         let outcome = fill(&self.slabs, &mut self.pages, &self.shape, addr, &bytes);
         let call = Call::Fill { addr, runs };
         let reply = outcome.reply();
-        self.entries.push_reserved(still(who, call, reply, faults));
+        self.entries.push_reserved(Entry::plain(who, call, reply, faults, faults));
         Ok(outcome.reply())
     }
 }

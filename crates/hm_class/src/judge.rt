@@ -1,8 +1,10 @@
 //! What is said of a block that is given back, before anything is changed.
 ghost use Rattle.std.specs.Prelude.{◌≡◌};
-ghost use Rattle.hm_sizes.specs.Shapes.{IsShape};
+ghost use Rattle.hm_model.specs.Replies.{IsMeasureReply};
+ghost use Rattle.hm_sizes.specs.Shapes.{IsShape, usable};
 ghost use Rattle.hm_class_rules.specs.Rules.{wrong_size};
-ghost use Rattle.hm_class.specs.Judgements.{refused_outcome, Judgements, Measures};
+ghost use Rattle.hm_class.specs.Judgements.{refused_outcome, Judgements, RefusesWith, Measures};
+ghost use Rattle.hm_class.specs.Outcomes.{reply_of};
 
 use crate::outcome::Outcome;
 use crate::slabs::{Refusal, Slabs, Slot, Verdict};
@@ -51,7 +53,8 @@ pub fn judge<P: Pages>(
     stated: Option<u64>,
 ) -> Judgement
     requires { IsShape shape.now }
-    ensures { Judgements P.told P.runs shape.now slabs.now pages.now addr stated result }
+    ensures judged { Judgements P.Pages shape.now slabs.now pages.now addr stated result }
+    ensures replies { RefusesWith result }
 {
     let slot = match slabs.judge(shape, addr) {
         Verdict::Refused(refusal) => return Judgement::Refused(refusal.outcome()),
@@ -72,7 +75,8 @@ pub fn judge<P: Pages>(
 /// The size of the block at an address.
 pub fn measure(slabs: &Slabs, shape: &Shape, addr: u64) -> Outcome
     requires { IsShape shape.now }
-    ensures { Measures shape.now slabs.now addr result }
+    ensures measured { Measures shape.now slabs.now addr result }
+    ensures replies { IsMeasureReply (usable shape.now) (reply_of result) }
 {
     match slabs.judge(shape, addr) {
         Verdict::Refused(refusal) => refusal.outcome(),

@@ -1,6 +1,5 @@
 //! What a call of a region comes to, but for the bytes that a fetch gives.
 ghost use Rattle.std.specs.Prelude.{◌≡◌};
-ghost use Rattle.hm_class.specs.Calls.{no_draws, one_draw};
 ghost use Rattle.hm_class.specs.Outcomes.{plain, reply_of, chose_opened, start_draws, freed, freed_choices, freed_draws};
 
 use hm_model::{Choices, Draws, Reply};
@@ -50,43 +49,13 @@ pub enum Emptied {
     Purged,
 }
 
-/// Nothing is chosen.
-pub const NO_CHOICES: Choices = Choices {
-    canary: None,
-    opened: None,
-    released: None,
-    retired: None,
-    purged: None,
-    unparked: None,
-    guard: None,
-};
-
-/// Nothing is drawn.
-pub const NO_DRAWS: Draws = Draws {
-    used: 0,
-    w0: 0,
-    w1: 0,
-    w2: 0,
-};
-
-/// One word is drawn.
-pub fn one_draw(word: u32) -> Draws
-    ensures { result ≡ one_draw word }
-{
-    Draws {
-        used: 1,
-        w0: word,
-        ..NO_DRAWS
-    }
-}
-
 /// The words that are drawn as a slot is picked: those of the canary of a slab that is opened for it, and
 /// the start slot's.
 pub fn start_draws(canary: Option<Canary>, word: u32) -> Draws
     ensures { result ≡ start_draws canary word }
 {
     match canary {
-        None => one_draw(word),
+        None => Draws::one(word),
         Some(canary) => Draws {
             used: 3,
             w0: canary.low,
@@ -107,7 +76,7 @@ pub fn opened_choices(slab: u64, canary: Option<Canary>) -> Choices
     Choices {
         canary,
         opened: Some(slab),
-        ..NO_CHOICES
+        ..Choices::none()
     }
 }
 
@@ -125,7 +94,7 @@ fn freed_choices(released: Option<u64>, slab: u64, emptied: Emptied) -> Choices
         retired,
         purged,
         unparked,
-        ..NO_CHOICES
+        ..Choices::none()
     }
 }
 
@@ -135,15 +104,15 @@ fn freed_draws(array: Option<u32>, emptied: Emptied) -> Draws
     ensures { result ≡ freed_draws array emptied }
 {
     match (array, emptied) {
-        (None, Emptied::Retired { word, .. }) => one_draw(word),
-        (None, Emptied::Kept | Emptied::Purged) => NO_DRAWS,
+        (None, Emptied::Retired { word, .. }) => Draws::one(word),
+        (None, Emptied::Kept | Emptied::Purged) => Draws::none(),
         (Some(array), Emptied::Retired { word, .. }) => Draws {
             used: 2,
             w0: array,
             w1: word,
             w2: 0,
         },
-        (Some(array), Emptied::Kept | Emptied::Purged) => one_draw(array),
+        (Some(array), Emptied::Kept | Emptied::Purged) => Draws::one(array),
     }
 }
 
@@ -154,8 +123,8 @@ impl Event {
     {
         Event {
             outcome,
-            choices: NO_CHOICES,
-            draws: NO_DRAWS,
+            choices: Choices::none(),
+            draws: Draws::none(),
         }
     }
 

@@ -1,6 +1,6 @@
 //! Bytes over pages: the first that is not zero, canaries, clearing and writing. Pages that tell nothing
 //! may lend nothing; then a range passes every check, and a change of it is left out.
-ghost use Rattle.std.specs.Prelude.{◌≡◌, ◌==◌, IsTrue, Some, None, List, ℕ, length, if◌then◌else◌};
+ghost use Rattle.std.specs.Prelude.{◌≡◌, ◌≢◌, ◌==◌, ◌<◌, IsTrue, IfSome, Some, None, List, ℕ, length, if◌then◌else◌};
 ghost use Rattle.std.specs.Int.{to_le_bytes, from_le_bytes};
 ghost use mir.Syntax.{w64};
 ghost use Rattle.hm_outside.specs.PageRuns.{IsHeld, Reads, Writes, zeros};
@@ -10,8 +10,9 @@ use hm_outside::Pages;
 
 /// The first byte of a range that is not zero: how far into the range, and what it is.
 pub fn first_nonzero<P: Pages>(pages: &P, addr: u64, len: usize) -> Option<(u64, u8)>
-    ensures { IsTrue (P.told pages.now) → IsHeld (P.runs pages.now) addr len
+    ensures value { IsTrue (P.told pages.now) → IsHeld (P.runs pages.now) addr len
         → (slice : List ℕ) × Reads (P.runs pages.now) addr len slice × (result ≡ first_nonzero slice) }
+    ensures found { IfSome result (λ r. (r.0 < len) × (r.1 ≢ 0)) }
 {
     let bytes = pages.bytes(addr, len)?;
     let at = hm_canary::first_nonzero(bytes)?;
@@ -20,16 +21,18 @@ pub fn first_nonzero<P: Pages>(pages: &P, addr: u64, len: usize) -> Option<(u64,
 
 /// The 8 bytes at an address, as a canary, where they are not this one.
 pub fn other_canary<P: Pages>(pages: &P, addr: u64, canary: u64) -> Option<u64>
-    ensures { IsTrue (P.told pages.now) → IsHeld (P.runs pages.now) addr 8
+    ensures value { IsTrue (P.told pages.now) → IsHeld (P.runs pages.now) addr 8
         → (slice : List ℕ) × Reads (P.runs pages.now) addr 8 slice
         × (result ≡ (if from_le_bytes w64 slice == canary then None else Some (from_le_bytes w64 slice))) }
+    ensures other { IfSome result (λ found. canary ≢ found) }
 {
     differing(*pages.bytes(addr, 8)?.as_array::<8>()?, canary)
 }
 
 // 8 bytes as a canary, where they are not this one.
 fn differing(last: [u8; 8], canary: u64) -> Option<u64>
-    ensures { result ≡ (if from_le_bytes w64 last == canary then None else Some (from_le_bytes w64 last)) }
+    ensures value { result ≡ (if from_le_bytes w64 last == canary then None else Some (from_le_bytes w64 last)) }
+    ensures other { IfSome result (λ found. canary ≢ found) }
 {
     if hm_canary::matches(&last, canary) {
         None

@@ -28,7 +28,7 @@ fn clear<P: Pages>(pages: &mut P, shape: &Shape, addr: u64)
     requires { IsShape shape.now }
     ensures told { P.told pages.new ≡ P.told pages.old }
     ensures count { P.faults pages.new ≡ P.faults pages.old }
-    ensures cleared { Clears P.told P.runs shape.now pages.old pages.new addr }
+    ensures cleared { Clears P.Pages shape.now pages.old pages.new addr }
 {
     if shape.has_bytes() {
         slot_bytes::clear(pages, addr, shape.usable() as usize);
@@ -72,7 +72,7 @@ pub fn hold<P: Pages>(
     requires few { slabs.old.live < 2 ^ 63 }
     ensures told { P.told pages.new ≡ P.told pages.old }
     ensures count { P.faults pages.new ≡ P.faults pages.old }
-    ensures cleared { Clears P.told P.runs shape.now pages.old pages.new addr }
+    ensures cleared { Clears P.Pages shape.now pages.old pages.new addr }
     ensures slabs { slabs.new.slabs.items ≡ with_use slabs.old.slabs.items slot.slab slot.index Held }
     ensures lists { SameLists slabs.old slabs.new }
     ensures counted { slabs.new.live ≡ live_count slabs.new.slabs.items }
@@ -92,7 +92,7 @@ fn drop_slab<P: Pages>(pages: &mut P, shape: &Shape, slab: u64) -> bool
     requires slab { slab < shape.now.limit }
     requires run { has_bytes shape.now ≡ true → IsTrue (P.told pages.old) → IsRun (P.runs pages.old) (slab_at shape.now slab) shape.now.slab }
     ensures told { P.told pages.new ≡ P.told pages.old }
-    ensures dropped { Drops P.told P.runs P.faults shape.now slab pages.old pages.new result }
+    ensures dropped { Drops P.Pages shape.now slab pages.old pages.new result }
 {
     if !shape.has_bytes() {
         return true;
@@ -129,7 +129,7 @@ fn retire<P: Pages>(
     ensures told { P.told pages.new ≡ P.told pages.old }
     ensures counted { slabs.new.live ≡ live_count slabs.new.slabs.items }
     ensures room { (m : ℕ) → HasRoom slabs.old (m + 1) → HasRoom slabs.new m }
-    ensures retired { Retires P.told P.runs P.faults shape.now slab (kind_named before) slabs.old.slabs.items slabs.old slabs.new pages.old pages.new stream.old stream.new parking.old.items parking.new.items result }
+    ensures retired { Retires P.Pages shape.now slab (kind_named before) slabs.old.slabs.items slabs.old slabs.new pages.old pages.new stream.old stream.new parking.old.items parking.new.items result }
 {
     if !drop_slab(pages, shape, slab) {
         slabs.relist(slab, before, SlabKind::Empty);
@@ -164,7 +164,7 @@ fn release<P: Pages>(
     addr: u64,
 ) -> Emptied
     requires shape { IsShape shape.now }
-    requires can { CanRelease P.told P.runs shape.now slabs.old pages.old addr }
+    requires can { CanRelease P.Pages shape.now slabs.old pages.old addr }
     requires counted { slabs.old.live ≡ live_count slabs.old.slabs.items }
     requires few { slabs.old.live < 2 ^ 63 }
     requires room { HasRoom slabs.old 1 }
@@ -173,7 +173,7 @@ fn release<P: Pages>(
     ensures told { P.told pages.new ≡ P.told pages.old }
     ensures counted { slabs.new.live ≡ live_count slabs.new.slabs.items }
     ensures room { (m : ℕ) → HasRoom slabs.old (m + 1) → HasRoom slabs.new m }
-    ensures released { Releases P.told P.runs P.faults shape.now addr slabs.old slabs.new pages.old pages.new stream.old stream.new parking.old.items parking.new.items result }
+    ensures released { Releases P.Pages shape.now addr slabs.old slabs.new pages.old pages.new stream.old stream.new parking.old.items parking.new.items result }
 {
     let slot = slot_at(shape, addr);
     let slab = slot.slab as u64;
@@ -197,7 +197,7 @@ pub fn settle<P: Pages>(
     released: Option<u64>,
 ) -> Emptied
     requires shape { IsShape shape.now }
-    requires can { IfSome released (λ addr. CanRelease P.told P.runs shape.now slabs.old pages.old addr) }
+    requires can { IfSome released (λ addr. CanRelease P.Pages shape.now slabs.old pages.old addr) }
     requires counted { slabs.old.live ≡ live_count slabs.old.slabs.items }
     requires few { slabs.old.live < 2 ^ 63 }
     requires room { HasRoom slabs.old 1 }
@@ -206,7 +206,7 @@ pub fn settle<P: Pages>(
     ensures told { P.told pages.new ≡ P.told pages.old }
     ensures counted { slabs.new.live ≡ live_count slabs.new.slabs.items }
     ensures room { (m : ℕ) → HasRoom slabs.old (m + 1) → HasRoom slabs.new m }
-    ensures settled { Settles P.told P.runs P.faults shape.now slabs.old slabs.new pages.old pages.new stream.old stream.new parking.old.items parking.new.items released result }
+    ensures settled { Settles P.Pages shape.now slabs.old slabs.new pages.old pages.new stream.old stream.new parking.old.items parking.new.items released result }
 {
     match released {
         Some(addr) => release(slabs, stream, parking, pages, shape, addr),

@@ -26,7 +26,7 @@ take_more a (suc m) (suc n) [] le e = e
 take_more a (suc m) (suc n) (x ∷ xs) le e =
     elim (x == a) as (λ b. (b || among a (take m xs)) ≡ true → (b || among a (take n xs)) ≡ true) [ true ↦ λ h. h | false ↦ λ h. take_more a m n xs (omega arith) h ] e
 
-among_here : (a : ℕ) (xs : List ℕ) → among a (a ∷ xs) ≡ true
+pub among_here : (a : ℕ) (xs : List ℕ) → among a (a ∷ xs) ≡ true
 among_here a xs = ap (λ (b : Bool). b || among a xs) (same_eq a a refl)
 
 -- a waits: it is in quarantine with at most k frees since its own, or there were as many as the delay

@@ -1,6 +1,7 @@
 pub mod Sound
 pub mod Legal
 pub mod Delay
+pub mod Condemned
 pub mod JudgedReplies
 pub mod HeldFew
 pub mod Whole

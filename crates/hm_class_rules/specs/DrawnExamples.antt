@@ -5,7 +5,8 @@ use Rattle.hm_model.specs.declared.entry.Call.TheVariants.{Allot, GiveBack}
 use Rattle.hm_model.specs.declared.entry.Reply.TheVariants.{Given, Freed, DoubleFree}
 use Rattle.hm_model.specs.declared.entry.Choices.{Choices}
 use Rattle.hm_sizes.specs.Configs.{standard}
-use Rattle.hm_class_rules.specs.Rules.{Terms, chose, chose_none}
+use Rattle.hm_model.specs.Calls.{no_choices}
+use Rattle.hm_class_rules.specs.Rules.{Terms, chose}
 use Rattle.hm_class_rules.specs.Examples.{entry, opens, opens_bare, frees}
 
 -- an entry with the one word that its call drew
@@ -32,8 +33,8 @@ first_region = record {
 abbrev pub given_and_freed : ℕ → ℕ → List Entry
 given_and_freed addr canary =
     record (entry (Allot 100 1) (Given addr 104) (opens 0 canary)) { draws = record { used = 3; w0 = 3231088256; w1 = 3392945114; w2 = 2935142444 } }
-    ∷ drawing 2409532924 (entry (GiveBack addr None) Freed chose_none)
-    ∷ entry (GiveBack addr None) DoubleFree chose_none ∷ []
+    ∷ drawing 2409532924 (entry (GiveBack addr None) Freed no_choices)
+    ∷ entry (GiveBack addr None) DoubleFree no_choices ∷ []
 
 abbrev pub first_entries : List Entry
 first_entries = given_and_freed 1592101124736 14572588304984079872
@@ -58,28 +59,28 @@ paired = record {
 abbrev pub two_partial : List Entry
 two_partial =
     drawing 3984891895 (entry (Allot 0 1) (Given 1099511633920 0) (opens_bare 0))
-    ∷ drawing 1817180948 (entry (Allot 0 1) (Given 1099511631872 0) chose_none)
+    ∷ drawing 1817180948 (entry (Allot 0 1) (Given 1099511631872 0) no_choices)
     ∷ drawing 3288131916 (entry (Allot 0 1) (Given 1099511642112 0) (opens_bare 2))
-    ∷ drawing 1478575786 (entry (Allot 0 1) (Given 1099511640064 0) chose_none)
+    ∷ drawing 1478575786 (entry (Allot 0 1) (Given 1099511640064 0) no_choices)
     ∷ entry (GiveBack 1099511631872 None) Freed (frees 1099511631872)
     ∷ entry (GiveBack 1099511640064 None) Freed (frees 1099511640064) ∷ []
 
 -- the next slot is of slab 2, and then one of slab 0
 abbrev pub latest_source : List Entry
 latest_source =
-    two_partial ++ (drawing 3439717172 (entry (Allot 0 1) (Given 1099511640064 0) chose_none)
-    ∷ drawing 1461073139 (entry (Allot 0 1) (Given 1099511631872 0) chose_none) ∷ [])
+    two_partial ++ (drawing 3439717172 (entry (Allot 0 1) (Given 1099511640064 0) no_choices)
+    ∷ drawing 1461073139 (entry (Allot 0 1) (Given 1099511631872 0) no_choices) ∷ [])
 
 -- the next slot is of slab 0
 abbrev pub earlier_source : List Entry
-earlier_source = two_partial ++ (drawing 3439717172 (entry (Allot 0 1) (Given 1099511631872 0) chose_none) ∷ [])
+earlier_source = two_partial ++ (drawing 3439717172 (entry (Allot 0 1) (Given 1099511631872 0) no_choices) ∷ [])
 
 -- the same where no start slot is drawn: the first available slot is given, and no word is taken
 abbrev pub undrawn : Terms
 undrawn = record paired { config = record standard { random_slots = false } }
 
 abbrev pub first_slots : List Entry
-first_slots = entry (Allot 0 1) (Given 1099511631872 0) (opens_bare 0) ∷ entry (Allot 0 1) (Given 1099511633920 0) chose_none ∷ []
+first_slots = entry (Allot 0 1) (Given 1099511631872 0) (opens_bare 0) ∷ entry (Allot 0 1) (Given 1099511633920 0) no_choices ∷ []
 
 -- an array of two places and a ring of one
 abbrev pub waiting_room : Terms
@@ -93,12 +94,12 @@ waiting_room = record {
 abbrev pub three_freed : List Entry
 three_freed =
     drawing 3984891895 (entry (Allot 0 1) (Given 1099511634944 0) (opens_bare 0))
-    ∷ drawing 1817180948 (entry (Allot 0 1) (Given 1099511632896 0) chose_none)
-    ∷ drawing 3288131916 (entry (Allot 0 1) (Given 1099511631872 0) chose_none)
-    ∷ drawing 1478575786 (entry (Allot 0 1) (Given 1099511633920 0) chose_none)
-    ∷ drawing 3439717172 (entry (GiveBack 1099511634944 None) Freed chose_none)
-    ∷ drawing 1461073139 (entry (GiveBack 1099511632896 None) Freed chose_none)
-    ∷ drawing 2219061067 (entry (GiveBack 1099511631872 None) Freed chose_none) ∷ []
+    ∷ drawing 1817180948 (entry (Allot 0 1) (Given 1099511632896 0) no_choices)
+    ∷ drawing 3288131916 (entry (Allot 0 1) (Given 1099511631872 0) no_choices)
+    ∷ drawing 1478575786 (entry (Allot 0 1) (Given 1099511633920 0) no_choices)
+    ∷ drawing 3439717172 (entry (GiveBack 1099511634944 None) Freed no_choices)
+    ∷ drawing 1461073139 (entry (GiveBack 1099511632896 None) Freed no_choices)
+    ∷ drawing 2219061067 (entry (GiveBack 1099511631872 None) Freed no_choices) ∷ []
 
 -- the fourth free pushes the second out of the array, and so the first out of the ring
 abbrev pub oldest_released : List Entry
@@ -125,7 +126,7 @@ two_parked =
     ∷ entry (GiveBack 1099511631872 None) Freed (frees 1099511631872)
     ∷ drawing 1478575786 (entry (GiveBack 1099511894016 None) Freed (retires 1099511894016 2 None))
     ∷ drawing 3439717172 (entry (GiveBack 1099512156160 None) Freed (retires 1099512156160 4 None))
-    ∷ drawing 1461073139 (entry (Allot 0 1) (Given 1099511631872 0) chose_none)
+    ∷ drawing 1461073139 (entry (Allot 0 1) (Given 1099511631872 0) no_choices)
     ∷ drawing 2219061067 (entry (Allot 0 1) (Given 1099512418304 0) (opens_bare 6))
     ∷ entry (GiveBack 1099512418304 None) Freed (frees 1099512418304) ∷ []
 
@@ -133,7 +134,7 @@ two_parked =
 abbrev pub same_place : List Entry
 same_place =
     two_parked ++ (drawing 1062052300 (entry (GiveBack 1099511631872 None) Freed (retires 1099511631872 0 (Some 2)))
-    ∷ drawing 2002963574 (entry (Allot 0 1) (Given 1099512418304 0) chose_none)
+    ∷ drawing 2002963574 (entry (Allot 0 1) (Given 1099512418304 0) no_choices)
     ∷ drawing 2051640178 (entry (Allot 0 1) (Given 1099511894016 0) (opens_bare 2)) ∷ [])
 
 -- slab 4 is unparked
@@ -150,10 +151,10 @@ one_parked =
     drawing 1893466666 (entry (Allot 0 1) (Given 1099511631872 0) (opens_bare 0))
     ∷ drawing 529267310 (entry (Allot 0 1) (Given 1099511894016 0) (opens_bare 2))
     ∷ drawing 835709197 (entry (Allot 0 1) (Given 1099512156160 0) (opens_bare 4))
-    ∷ drawing 3859748015 (entry (GiveBack 1099511631872 None) Freed chose_none)
+    ∷ drawing 3859748015 (entry (GiveBack 1099511631872 None) Freed no_choices)
     ∷ drawing 702802673 (entry (GiveBack 1099511894016 None) Freed (frees 1099511631872))
     ∷ drawing_two 723767130 743693610 (entry (GiveBack 1099512156160 None) Freed (retires 1099511894016 2 None))
-    ∷ drawing 778881616 (entry (Allot 0 1) (Given 1099511631872 0) chose_none)
+    ∷ drawing 778881616 (entry (Allot 0 1) (Given 1099511631872 0) no_choices)
     ∷ drawing 3929870888 (entry (Allot 0 1) (Given 1099512418304 0) (opens_bare 6))
     ∷ drawing 2809795606 (entry (GiveBack 1099511631872 None) Freed (frees 1099512156160)) ∷ []
 

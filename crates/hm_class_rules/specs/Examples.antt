@@ -7,7 +7,8 @@ use Rattle.hm_model.specs.declared.entry.Reply.{Reply}
 use Rattle.hm_model.specs.declared.entry.Reply.TheVariants.{Given, Overwritten, Exhausted, PagesFailed, Freed, DoubleFree, WrongSize, Canary, Usable, Bytes, Filled, Trap}
 use Rattle.hm_model.specs.declared.entry.Choices.{Choices}
 use Rattle.hm_sizes.specs.Configs.{standard}
-use Rattle.hm_class_rules.specs.Rules.{Terms, chose, chose_none}
+use Rattle.hm_model.specs.Calls.{no_choices}
+use Rattle.hm_class_rules.specs.Rules.{Terms, chose}
 
 -- an entry of caller 1, without drawn words and page faults
 abbrev pub entry : Call → Reply → Choices → Entry
@@ -48,14 +49,14 @@ abbrev pub double_free : List Entry
 double_free =
     entry (Allot 100 1) (Given 4096 104) (opens 0 256)
     ∷ entry (GiveBack 4096 None) Freed (frees 4096)
-    ∷ entry (GiveBack 4096 None) DoubleFree chose_none
-    ∷ entry (Measure 4096) DoubleFree chose_none ∷ []
+    ∷ entry (GiveBack 4096 None) DoubleFree no_choices
+    ∷ entry (Measure 4096) DoubleFree no_choices ∷ []
 
 abbrev pub stated_size : List Entry
 stated_size =
     entry (Allot 100 1) (Given 4096 104) (opens 0 256)
-    ∷ entry (GiveBack 4096 (Some 105)) (WrongSize 112 128) chose_none
-    ∷ entry (Measure 4096) (Usable 104) chose_none
+    ∷ entry (GiveBack 4096 (Some 105)) (WrongSize 112 128) no_choices
+    ∷ entry (Measure 4096) (Usable 104) no_choices
     ∷ entry (GiveBack 4096 (Some 97)) Freed (frees 4096) ∷ []
 
 -- ---- two slots of 16 bytes to a slab of 32
@@ -70,20 +71,20 @@ small = record {
 abbrev pub bad_canary : List Entry
 bad_canary =
     entry (Allot 8 1) (Given 4096 8) (opens 0 256)
-    ∷ entry (Fill 4104 ((65, 8) ∷ [])) Filled chose_none
-    ∷ entry (GiveBack 4096 None) (Canary 256 4702111234474983745) chose_none
-    ∷ entry (GiveBack 4096 None) (Canary 256 4702111234474983745) chose_none ∷ []
+    ∷ entry (Fill 4104 ((65, 8) ∷ [])) Filled no_choices
+    ∷ entry (GiveBack 4096 None) (Canary 256 4702111234474983745) no_choices
+    ∷ entry (GiveBack 4096 None) (Canary 256 4702111234474983745) no_choices ∷ []
 
 -- given, freed, written, and found overwritten; the slot is not given again
 abbrev pub write_after_free : List Entry
 write_after_free =
     entry (Allot 8 1) (Given 4096 8) (opens 0 256)
     ∷ entry (GiveBack 4096 None) Freed (frees 4096)
-    ∷ entry (Fill 4098 ((65, 2) ∷ [])) Filled chose_none
-    ∷ entry (Fetch 4097 4) (Bytes ((0, 1) ∷ (65, 2) ∷ (0, 1) ∷ [])) chose_none
-    ∷ entry (Fetch 4126 4) (Trap 4128) chose_none
-    ∷ entry (Allot 8 1) (Overwritten 4096 2 65) chose_none
-    ∷ entry (Allot 8 1) (Given 4112 8) chose_none ∷ []
+    ∷ entry (Fill 4098 ((65, 2) ∷ [])) Filled no_choices
+    ∷ entry (Fetch 4097 4) (Bytes ((0, 1) ∷ (65, 2) ∷ (0, 1) ∷ [])) no_choices
+    ∷ entry (Fetch 4126 4) (Trap 4128) no_choices
+    ∷ entry (Allot 8 1) (Overwritten 4096 2 65) no_choices
+    ∷ entry (Allot 8 1) (Given 4112 8) no_choices ∷ []
 
 -- ---- slabs of one slot and 131,072 bytes of address space, without bytes of their own
 abbrev pub bare : Terms
@@ -100,7 +101,7 @@ retired_slab =
     ∷ entry (Allot 0 1) (Given 1103806861312 0) (opens_bare 2)
     ∷ entry (GiveBack 1103806599168 None) Freed (frees 1103806599168)
     ∷ entry (GiveBack 1103806861312 None) Freed (chose None None (Some 1103806861312) (Some 2) None None)
-    ∷ entry (Allot 0 1) (Given 1103806599168 0) chose_none
+    ∷ entry (Allot 0 1) (Given 1103806599168 0) no_choices
     ∷ entry (Allot 0 1) (Given 1103807123456 0) (opens_bare 4) ∷ []
 
 -- ---- a ring of one
@@ -115,8 +116,8 @@ ringed = record {
 abbrev pub waiting : List Entry
 waiting =
     entry (Allot 0 1) (Given 4096 0) (opens_bare 0)
-    ∷ entry (GiveBack 4096 (Some 0)) Freed chose_none
-    ∷ entry (Allot 0 1) (Given 4112 0) chose_none
+    ∷ entry (GiveBack 4096 (Some 0)) Freed no_choices
+    ∷ entry (Allot 0 1) (Given 4112 0) no_choices
     ∷ entry (GiveBack 4112 None) Freed (frees 4096) ∷ []
 
 abbrev pub released_too_early : List Entry
@@ -139,11 +140,11 @@ unchecked = record {
 -- a page fails; later a slot that was written after its free is given as it is, and there is no third
 abbrev pub reused : List Entry
 reused =
-    record (entry (Allot 8 1) PagesFailed chose_none) { faults_after = 1 }
+    record (entry (Allot 8 1) PagesFailed no_choices) { faults_after = 1 }
     ∷ later (entry (Allot 8 1) (Given 4096 8) (opens 0 256))
     ∷ later (entry (GiveBack 4096 None) Freed (frees 4096))
-    ∷ later (entry (Fill 4100 ((65, 4) ∷ [])) Filled chose_none)
-    ∷ later (entry (Allot 8 1) (Given 4096 8) chose_none)
-    ∷ later (entry (Fetch 4096 9) (Bytes ((0, 4) ∷ (65, 4) ∷ (0, 1) ∷ [])) chose_none)
-    ∷ later (entry (Allot 8 1) (Given 4112 8) chose_none)
-    ∷ later (entry (Allot 8 1) Exhausted chose_none) ∷ []
+    ∷ later (entry (Fill 4100 ((65, 4) ∷ [])) Filled no_choices)
+    ∷ later (entry (Allot 8 1) (Given 4096 8) no_choices)
+    ∷ later (entry (Fetch 4096 9) (Bytes ((0, 4) ∷ (65, 4) ∷ (0, 1) ∷ [])) no_choices)
+    ∷ later (entry (Allot 8 1) (Given 4112 8) no_choices)
+    ∷ later (entry (Allot 8 1) Exhausted no_choices) ∷ []

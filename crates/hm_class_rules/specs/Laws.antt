@@ -3,7 +3,7 @@ use Rattle.std.specs.Prelude.{◌≡◌, ◌≢◌, ℕ, ◌+◌, ◌<◌, ◌�
 use Rattle.hm_model.specs.declared.entry.Entry.{Entry}
 use Rattle.hm_model.specs.declared.entry.Call.TheVariants.{Allot, GiveBack}
 use Rattle.hm_model.specs.declared.entry.Reply.{Reply}
-use Rattle.hm_model.specs.declared.entry.Reply.TheVariants.{Given, Freed}
+use Rattle.hm_model.specs.declared.entry.Reply.TheVariants.{Given, Overwritten, Freed}
 use Rattle.hm_sizes.specs.declared.shape.Shape.{Shape}
 use Rattle.hm_model.specs.Maps.{among, times, at, keys}
 use Rattle.hm_class_rules.specs.State.{State, Slab, is_open, is_live, is_empty, empty_slabs}
@@ -83,6 +83,19 @@ frees_in (e ∷ es) = (if is_freed e.reply then 1 else 0) + frees_in es
 abbrev pub Delays : Type 0
 Delays = (t : Terms) (before middle after : List Entry) (f g : Entry) (a : ℕ) → IsLegal t (before ++ (f ∷ (middle ++ (g ∷ after)))) → IsFreedAt f a → IsGivenAt g a
     → delay t.shape ≤ frees_in middle
+
+-- ---- what is never given
+pub record IsOverwrittenAt (e : Entry) (a : ℕ) : Type 0 where
+  pub asked : ℕ
+  pub align : ℕ
+  pub place : ℕ
+  pub found : ℕ
+  pub call : e.call ≡ Allot asked align
+  pub reply : e.reply ≡ Overwritten a place found
+
+-- a slot that was found overwritten is never given afterwards
+abbrev pub NeverGiven : Type 0
+NeverGiven = (t : Terms) (before middle after : List Entry) (o g : Entry) (a : ℕ) → IsLegal t (before ++ (o ∷ (middle ++ (g ∷ after)))) → IsOverwrittenAt o a → IsGivenAt g a → ⊥
 
 -- the quarantine holds no more addresses than its array and its ring have places
 abbrev pub HoldsFew : Type 0

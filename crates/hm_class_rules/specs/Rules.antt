@@ -6,6 +6,7 @@ use Rattle.hm_model.specs.declared.entry.Call.TheVariants.{Allot, GiveBack, Meas
 use Rattle.hm_model.specs.declared.entry.Reply.{Reply}
 use Rattle.hm_model.specs.declared.entry.Reply.TheVariants.{Given, Overwritten, Exhausted, PagesFailed, Freed, NoSlot, Unused, DoubleFree, WrongSize, Canary, Usable, Bytes, Filled, Trap}
 use Rattle.hm_model.specs.declared.entry.Choices.{Choices}
+use Rattle.hm_model.specs.Calls.{AsksRange, no_choices}
 use Rattle.hm_model.specs.Entries.{AreDraws}
 use Rattle.hm_model.specs.Machine.{run, Legal}
 use Rattle.hm_model.specs.Maps.{among, without}
@@ -27,9 +28,6 @@ pub record Terms : Type 0 where
 -- ---- choices
 abbrev pub chose : Option ℕ → Option ℕ → Option ℕ → Option ℕ → Option ℕ → Option ℕ → Choices
 chose canary opened released retired purged unparked = record { canary = canary; opened = opened; released = released; retired = retired; purged = purged; unparked = unparked; guard = None }
-
-abbrev pub chose_none : Choices
-chose_none = chose None None None None None None
 
 -- ---- allotting
 -- no open slab serves
@@ -65,11 +63,11 @@ AllowsOverwritten t s c a at found =
     Picks t.shape s now c a × (t.config.check_reuse ≡ true) × (IsTrue t.told → reuse_finds t.config t.shape now a ≡ Some (at, found))
 
 abbrev pub AllowsExhausted : Terms → State → Choices → Type 0
-AllowsExhausted t s c = NoneServes t.shape s × (unopened t.shape s.shut s.next ≡ None) × (c ≡ chose_none)
+AllowsExhausted t s c = NoneServes t.shape s × (unopened t.shape s.shut s.next ≡ None) × (c ≡ no_choices)
 
 abbrev pub AllowsPagesFailed : Terms → State → ℕ → ℕ → Choices → Type 0
 AllowsPagesFailed t s before now c =
-    NoneServes t.shape s × (is_some (unopened t.shape s.shut s.next) ≡ true) × (has_bytes t.shape ≡ true) × (before < now) × (c ≡ chose_none)
+    NoneServes t.shape s × (is_some (unopened t.shape s.shut s.next) ≡ true) × (has_bytes t.shape ≡ true) × (before < now) × (c ≡ no_choices)
 
 -- ---- blocks
 pub record IsLiveBlock (p : Shape) (s : State) (a : ℕ) : Type 0 where
@@ -126,14 +124,9 @@ pub record AllowsFreed (t : Terms) (s : State) (before now : ℕ) (c : Choices) 
   pub choices : c ≡ chose None None c.released c.retired c.purged c.unparked
 
 -- ---- what each call asks of its arguments
-abbrev pub IsRange : ℕ → ℕ → Type 0
-IsRange a len = (1 ≤ len) × (len ≤ 2 ^ 30) × (a < 2 ^ 47)
-
 abbrev pub Asks : Shape → Call → Type 0
 Asks p (Allot asked align) = (raised asked ≤ class_size_of p) × (align ≡ 1)
-Asks p (Fetch a len) = IsRange a len
-Asks p (Fill a runs) = IsRange a (length (expand runs))
-Asks p call = ⊤
+Asks p call = AsksRange call
 
 -- ---- each call with each of its replies
 abbrev pub Allows : Terms → State → ℕ → ℕ → Choices → Call → Reply → Type 0
@@ -141,21 +134,21 @@ Allows t s before now c (Allot asked align) (Given a size) = AllowsGiven t s c a
 Allows t s before now c (Allot asked align) (Overwritten a at found) = AllowsOverwritten t s c a at found
 Allows t s before now c (Allot asked align) Exhausted = AllowsExhausted t s c
 Allows t s before now c (Allot asked align) PagesFailed = AllowsPagesFailed t s before now c
-Allows t s before now c (GiveBack a stated) NoSlot = IsNoSlot t.shape s a × (c ≡ chose_none)
-Allows t s before now c (GiveBack a stated) Unused = IsUnused t.shape s a × (c ≡ chose_none)
-Allows t s before now c (GiveBack a stated) DoubleFree = IsDoubleFree t.shape s a × (c ≡ chose_none)
-Allows t s before now c (GiveBack a stated) (WrongSize block other) = IsLiveBlock t.shape s a × (wrong_size t.shape stated ≡ Some (block, other)) × (c ≡ chose_none)
+Allows t s before now c (GiveBack a stated) NoSlot = IsNoSlot t.shape s a × (c ≡ no_choices)
+Allows t s before now c (GiveBack a stated) Unused = IsUnused t.shape s a × (c ≡ no_choices)
+Allows t s before now c (GiveBack a stated) DoubleFree = IsDoubleFree t.shape s a × (c ≡ no_choices)
+Allows t s before now c (GiveBack a stated) (WrongSize block other) = IsLiveBlock t.shape s a × (wrong_size t.shape stated ≡ Some (block, other)) × (c ≡ no_choices)
 Allows t s before now c (GiveBack a stated) (Canary kept found) =
-    IsLiveBlock t.shape s a × (wrong_size t.shape stated ≡ None) × (has_bytes t.shape ≡ true) × (IsTrue t.told → wrong_canary t.shape s a ≡ Some (kept, found)) × (c ≡ chose_none)
+    IsLiveBlock t.shape s a × (wrong_size t.shape stated ≡ None) × (has_bytes t.shape ≡ true) × (IsTrue t.told → wrong_canary t.shape s a ≡ Some (kept, found)) × (c ≡ no_choices)
 Allows t s before now c (GiveBack a stated) Freed = AllowsFreed t s before now c a stated
-Allows t s before now c (Measure a) NoSlot = IsNoSlot t.shape s a × (c ≡ chose_none)
-Allows t s before now c (Measure a) Unused = IsUnused t.shape s a × (c ≡ chose_none)
-Allows t s before now c (Measure a) DoubleFree = IsDoubleFree t.shape s a × (c ≡ chose_none)
-Allows t s before now c (Measure a) (Usable size) = IsLiveBlock t.shape s a × (size ≡ usable t.shape) × (c ≡ chose_none)
-Allows t s before now c (Fetch a len) (Bytes runs) = (length (expand runs) ≡ len) × (IsTrue t.told → (first_trap t.shape s a len ≡ None) × (expand runs ≡ bytes_read t.shape s a len)) × (c ≡ chose_none)
-Allows t s before now c (Fetch a len) (Trap q) = (IsTrue t.told → first_trap t.shape s a len ≡ Some q) × (c ≡ chose_none)
-Allows t s before now c (Fill a runs) Filled = (IsTrue t.told → first_trap t.shape s a (length (expand runs)) ≡ None) × (c ≡ chose_none)
-Allows t s before now c (Fill a runs) (Trap q) = (IsTrue t.told → first_trap t.shape s a (length (expand runs)) ≡ Some q) × (c ≡ chose_none)
+Allows t s before now c (Measure a) NoSlot = IsNoSlot t.shape s a × (c ≡ no_choices)
+Allows t s before now c (Measure a) Unused = IsUnused t.shape s a × (c ≡ no_choices)
+Allows t s before now c (Measure a) DoubleFree = IsDoubleFree t.shape s a × (c ≡ no_choices)
+Allows t s before now c (Measure a) (Usable size) = IsLiveBlock t.shape s a × (size ≡ usable t.shape) × (c ≡ no_choices)
+Allows t s before now c (Fetch a len) (Bytes runs) = (length (expand runs) ≡ len) × (IsTrue t.told → (first_trap t.shape s a len ≡ None) × (expand runs ≡ bytes_read t.shape s a len)) × (c ≡ no_choices)
+Allows t s before now c (Fetch a len) (Trap q) = (IsTrue t.told → first_trap t.shape s a len ≡ Some q) × (c ≡ no_choices)
+Allows t s before now c (Fill a runs) Filled = (IsTrue t.told → first_trap t.shape s a (length (expand runs)) ≡ None) × (c ≡ no_choices)
+Allows t s before now c (Fill a runs) (Trap q) = (IsTrue t.told → first_trap t.shape s a (length (expand runs)) ≡ Some q) × (c ≡ no_choices)
 Allows t s before now c call reply = ⊥
 
 pub record Allowed (t : Terms) (s : State) (e : Entry) : Type 0 where

@@ -2,7 +2,7 @@
 //! that are. Each law is the contract of a function with an empty body.
 #![tactic(auto)]
 
-ghost use Rattle.hm_class_rules.specs.Laws.{Prefixes, OneMore, OneLess, Sound, Apart, Delays, HoldsFew, OneMoreEmpty, WholeSlabs, Zeroed};
+ghost use Rattle.hm_class_rules.specs.Laws.{Prefixes, OneMore, OneLess, Sound, Apart, Delays, NeverGiven, HoldsFew, OneMoreEmpty, WholeSlabs, Zeroed};
 ghost use Rattle.hm_class_rules.specs.Judged.{Judged};
 ghost use Rattle.hm_class_rules.specs.DrawnLaws.{DrawnIsStepped, OneMoreStepped, OneLessStepped, NextCells, DrawnShapeFits, FindsFirst, FindsSome, ListsAreKept, DrawnIsAllowed};
 
@@ -39,6 +39,11 @@ pub fn apart_blocks()
 /// Between a free of a slot and its next giving stand at least as many further frees as the delay says.
 pub fn delayed_slots()
     ensures { Delays }
+{}
+
+/// A slot that was found overwritten is never given afterwards.
+pub fn condemned_slots()
+    ensures { NeverGiven }
 {}
 
 /// No more addresses are in quarantine than its array and its ring have places.

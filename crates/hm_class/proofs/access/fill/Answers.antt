@@ -1,6 +1,6 @@
 use Rattle.std.proofs.Common.{◌≡◌, ◌∙◌, None, length, sym, refl, true≢false}
 use Rattle.hm_class_rules.specs.Bytes.{first_trap}
-use Rattle.hm_class.proofs.Accessed.{trap_told, begins_inside}
+use Rattle.hm_class.proofs.Accessed.{trap_told, trap_within, begins_inside}
 use Rattle.hm_class.proofs.access.fill.Goals as goal
 
 pub returns-in-Some-clause-filled : goal.returns-in-Some-clause-filled
@@ -23,3 +23,6 @@ pub returns-clause-filled : goal.returns-clause-filled
 returns-clause-filled g c = λ told s shows h.
     (let none : first_trap c.args.shape.now s c.args.addr (length c.args.bytes.now) ≡ None = trap_told c.args.shape.now c.args.slabs.now.slabs.items s _ c.args.addr (length c.args.bytes.now) c.requires.shape shows h ∙ sym c.in_default.ensures in
     (none, c.write.ensures.written told s h none))
+
+pub returns-in-Some-clause-within : goal.returns-in-Some-clause-within
+returns-in-Some-clause-within g c = trap_within c.args.shape.now c.args.slabs.now.slabs.items c.args.addr (length c.args.bytes.now) _ (sym c.in-Some.ensures)

@@ -19,7 +19,7 @@ give-outcome-requires-clause-available g c κs within =
 pub returns-clause-served : goal.returns-clause-served
 returns-clause-served g c =
     let start : c.draw-word.result.1 ≡ drawn c.args.shape.now.slots (next_word c.args.stream.now) = ap (λ (r : ℕ × ℕ). r.1) c.draw-word.ensures.drawn in
-    serve_of g.P.Pages.told g.P.Pages.runs g.P.Pages.faults c.args.shape.now c.args.slab (kind_named c.args.before) (kind_named c.kind-after.result) c.args.slabs.now c.give-outcome.new.slabs c.relist.new.self
+    serve_of g.P.Pages c.args.shape.now c.args.slab (kind_named c.args.before) (kind_named c.kind-after.result) c.args.slabs.now c.give-outcome.new.slabs c.relist.new.self
     c.args.pages.now c.give-outcome.new.pages c.args.stream.now c.draw-word.new.self c.in-Some.index c.relist.ensures c.give-outcome.result
     (ap (λ (i : ℕ). first_at c.args.slabs.now.slabs.items c.args.slab i) (sym start) ∙ sym c.in-Some.ensures)
     c.give-outcome.ensures.given c.give-outcome.ensures.lists c.kind-after.ensures c.draw-word.ensures.taken

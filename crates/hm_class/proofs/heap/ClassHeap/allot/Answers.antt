@@ -2,7 +2,7 @@ use Rattle.std.proofs.Common.{◌≡◌, ◌∙◌, ℕ, ◌+◌, ◌≤◌, Boo
 use Rattle.hm_model.specs.declared.entry.Call.TheVariants as call
 use Rattle.hm_model.specs.declared.entry.Entry.{Entry}
 use Rattle.hm_model.specs.declared.entry.Reply.{Reply}
-use Rattle.hm_class.specs.Calls.{entry_of}
+use Rattle.hm_model.specs.Calls.{entry_of}
 use Rattle.hm_class.specs.Kept.{IsKept}
 use Rattle.hm_class.specs.Outcomes.{reply_of}
 use Rattle.hm_class.specs.Region.{Region}
@@ -12,7 +12,7 @@ use Rattle.hm_sizes.specs.Sizes.{raised}
 use Rattle.hm_class.specs.Rooms.{HasRoom}
 use Rattle.hm_choice.specs.Stream.{Words}
 use Rattle.hm_class.proofs.Allots.{kept_allotted, found_counted, same_slabs}
-use Rattle.hm_class.proofs.Entries.{kept_moved, asks_of, added_of, appended, region_of}
+use Rattle.hm_class.proofs.Entries.{kept_moved, asks_of, added_of, appended, region_of, reply_of_region}
 use Rattle.hm_class.proofs.Roomy.{room_less, found_room, found_live, served_room, served_live}
 use Rattle.hm_class.proofs.Served.{can_open, new_apart, can_serve}
 use Rattle.hm_class.proofs.heap.ClassHeap.allot.Goals as goal
@@ -36,7 +36,7 @@ serve-event-requires-clause-ready g c κs within =
     let h = c.self.inside in
     let k₀ = c.reserve-2.new.self in
     let kept₀ = kept_moved (g.P.Pages.told h.pages) (g.P.Pages.runs h.pages) (g.P.Pages.faults h.pages) h.config h.number h.arena h.shape h.entries.items h.slabs h.stream h.quarantine h.parking.items c.self.invariant.0 (g.P.Pages.told h.pages) (g.P.Pages.runs h.pages) (g.P.Pages.faults h.pages) k₀ refl (λ y. refl) refl c.reserve-2.ensures.same in
-    can_serve (g.P.Pages.told h.pages) (g.P.Pages.runs h.pages) (g.P.Pages.faults h.pages) h.config h.number h.arena h.shape h.entries.items k₀ h.stream h.quarantine h.parking.items kept₀ g.P.Pages.told g.P.Pages.runs g.P.Pages.faults h.pages c.find_slab.new.pages c.find_slab.new.slabs c.find_slab.new.stream c.in_ok-next.next c.in_ok-next.ensures.found
+    can_serve (g.P.Pages.told h.pages) (g.P.Pages.runs h.pages) (g.P.Pages.faults h.pages) h.config h.number h.arena h.shape h.entries.items k₀ h.stream h.quarantine h.parking.items kept₀ g.P.Pages h.pages c.find_slab.new.pages c.find_slab.new.slabs c.find_slab.new.stream c.in_ok-next.next c.in_ok-next.ensures.found
 
 pub invariant_of-self-2 : goal.invariant_of-self-2
 invariant_of-self-2 g c =
@@ -62,15 +62,15 @@ invariant_of-self-2 g c =
     ∙ ap (λ (m : ℕ). entry_of c.args.who (call.Allot c.args.asked 1) (reply_of event.outcome) event.choices event.draws m c.faults-now.result) c.faults-before.ensures
     ∙ ap (λ (m : ℕ). entry_of c.args.who (call.Allot c.args.asked 1) (reply_of event.outcome) event.choices event.draws (faults h.pages) m) c.faults-now.ensures) in
     let asks : raised c.args.asked ≤ class_size_of h.shape = asks_of h.config h.number h.arena h.shape (raised c.args.asked) c.self.invariant.0.served (subst (λ (r : Region _). raised c.args.asked ≤ class_size r.class.0) (sym c.self.view_is) c.requires) in
-    let can = can_serve (g.P.Pages.told h.pages) (g.P.Pages.runs h.pages) (g.P.Pages.faults h.pages) h.config h.number h.arena h.shape h.entries.items k₀ h.stream h.quarantine h.parking.items kept₀ told runs faults h.pages mid k₁ stream₁ n found in
-    let live₁ = found_live told runs faults h.shape k₀ k₁ k' h.pages mid now h.stream stream₁ stream' n found in
-    let more = served_live told runs faults h.shape k₀ k₁ k' h.pages mid now h.stream stream₁ stream' n event kept₀.served.shape can c.serve-event.ensures.served (found_counted g.P.Pages.told g.P.Pages.runs g.P.Pages.faults h.shape k₀ c.find_slab.new.slabs h.pages c.find_slab.new.pages h.stream c.find_slab.new.stream (can_open (g.P.Pages.told h.pages) (g.P.Pages.runs h.pages) (g.P.Pages.faults h.pages) h.config h.number h.arena h.shape h.entries.items k₀ h.stream h.quarantine h.parking.items kept₀) kept₀.follows.counted c.in_ok-next.next c.in_ok-next.ensures.found) c.serve-event.ensures.counted in
-    let room₁ = found_room told runs faults h.shape k₀ k₁ k' h.pages mid now h.stream stream₁ stream' n (h.slabs.live + 2) found c.in_ok-reserve-2.ensures.room in
-    let room' = served_room told runs faults h.shape k₀ k₁ k' h.pages mid now h.stream stream₁ stream' n event (h.slabs.live + 1) c.serve-event.ensures.served (room_less k₁ (h.slabs.live + 2) ((h.slabs.live + 1) + 1) (omega arith) room₁) in
+    let can = can_serve (g.P.Pages.told h.pages) (g.P.Pages.runs h.pages) (g.P.Pages.faults h.pages) h.config h.number h.arena h.shape h.entries.items k₀ h.stream h.quarantine h.parking.items kept₀ g.P.Pages h.pages mid k₁ stream₁ n found in
+    let live₁ = found_live g.P.Pages h.shape k₀ k₁ k' h.pages mid now h.stream stream₁ stream' n found in
+    let more = served_live g.P.Pages h.shape k₀ k₁ k' h.pages mid now h.stream stream₁ stream' n event kept₀.served.shape can c.serve-event.ensures.served (found_counted g.P.Pages h.shape k₀ c.find_slab.new.slabs h.pages c.find_slab.new.pages h.stream c.find_slab.new.stream (can_open (g.P.Pages.told h.pages) (g.P.Pages.runs h.pages) (g.P.Pages.faults h.pages) h.config h.number h.arena h.shape h.entries.items k₀ h.stream h.quarantine h.parking.items kept₀) kept₀.follows.counted c.in_ok-next.next c.in_ok-next.ensures.found) c.serve-event.ensures.counted in
+    let room₁ = found_room g.P.Pages h.shape k₀ k₁ k' h.pages mid now h.stream stream₁ stream' n (h.slabs.live + 2) found c.in_ok-reserve-2.ensures.room in
+    let room' = served_room g.P.Pages h.shape k₀ k₁ k' h.pages mid now h.stream stream₁ stream' n event (h.slabs.live + 1) c.serve-event.ensures.served (room_less k₁ (h.slabs.live + 2) ((h.slabs.live + 1) + 1) (omega arith) room₁) in
     let at_most : k'.live ≤ h.slabs.live + 1 = omega (arith, more, live₁, c.reserve-2.ensures.same.live) in (
       subst (λ (b : Bool). IsKept b (runs now) (faults now) h.config h.number h.arena h.shape c.push_reserved.new.self.items k' stream' h.quarantine h.parking.items) (sym (c.serve-event.ensures.told ∙ c.find_slab.ensures.told))
           (subst (λ (l : List Entry). IsKept (told h.pages) (runs now) (faults now) h.config h.number h.arena h.shape l k' stream' h.quarantine h.parking.items) (sym all)
-          (kept_allotted (g.P.Pages.told h.pages) (g.P.Pages.runs h.pages) (g.P.Pages.faults h.pages) h.config h.number h.arena h.shape h.entries.items k₀ h.stream h.quarantine h.parking.items kept₀ told runs faults h.pages mid now k₁ k' stream₁ stream' c.args.who c.args.asked refl c.find_slab.ensures.told refl refl c.serve-event.ensures.count asks c.serve-event.ensures.counted
+          (kept_allotted (g.P.Pages.told h.pages) (g.P.Pages.runs h.pages) (g.P.Pages.faults h.pages) h.config h.number h.arena h.shape h.entries.items k₀ h.stream h.quarantine h.parking.items kept₀ g.P.Pages h.pages mid now k₁ k' stream₁ stream' c.args.who c.args.asked refl c.find_slab.ensures.told refl refl c.serve-event.ensures.count asks c.serve-event.ensures.counted
           n event found c.serve-event.ensures.served)),
       omega (arith, at_most, c.in_ok-reserve.ensures.ok, c.reserve.ensures.len, c.push_reserved.ensures.len, c.push_reserved.ensures.capacity),
       room_less k' (h.slabs.live + 1) k'.live at_most room',
@@ -84,15 +84,15 @@ returns-clause-added g c =
     let all : c.push_reserved.new.self.items ≡ h.entries.items ++ entry_of c.args.who (call.Allot c.args.asked 1) c.reply.result event.choices event.draws c.faults-before.result c.faults-now.result ∷ [] =
     appended _ _ _ _ _ c.push_reserved.ensures.items c.reserve.ensures.items
     (c.entry.ensures ∙ ap (λ (y : Reply). entry_of c.args.who (call.Allot c.args.asked 1) y event.choices event.draws c.faults-before.result c.faults-now.result) answer) in
-    added_of g.P.Pages.faults c.args.self.now _ _ c.args.who (call.Allot c.args.asked 1) c.reply.result event.choices event.draws c.faults-before.result c.faults-now.result c.self.view_is all c.faults-before.ensures c.faults-now.ensures
+    added_of g.P.Pages c.args.self.now _ _ _ c.args.who (call.Allot c.args.asked 1) c.reply.result event.choices event.draws c.faults-before.result c.faults-now.result c.self.view_is all c.faults-before.ensures c.faults-now.ensures
 
 pub returns-clause-region : goal.returns-clause-region
 returns-clause-region g c =
     let kept = invariant_of-self-2 g c in
-    region_of g.P.Pages.told g.P.Pages.runs g.P.Pages.faults _ c.self.inside.shape _ _ _ _ refl kept.0 kept.1
+    region_of g.P.Pages _ c.self.inside.shape _ _ _ _ refl kept.0 kept.1
 
 pub returns-in_err-reserve-clause-region : goal.returns-in_err-reserve-clause-region
-returns-in_err-reserve-clause-region g c = region_of g.P.Pages.told g.P.Pages.runs g.P.Pages.faults _ c.self.inside.shape _ _ _ _ refl
+returns-in_err-reserve-clause-region g c = region_of g.P.Pages _ c.self.inside.shape _ _ _ _ refl
     (let h = c.self.inside in subst (λ (l : List Entry). IsKept (g.P.Pages.told h.pages) (g.P.Pages.runs h.pages) (g.P.Pages.faults h.pages) h.config h.number h.arena h.shape l h.slabs h.stream h.quarantine h.parking.items) (sym c.reserve.ensures.items) c.self.invariant.0)
     (omega (arith, c.self.invariant.1, c.reserve.ensures.len, c.reserve.ensures.capacity))
 
@@ -100,14 +100,14 @@ pub serve-event-requires-clause-room : goal.serve-event-requires-clause-room
 serve-event-requires-clause-room g c κs within =
     let h = c.self.inside in
     let k₁ = c.find_slab.new.slabs in
-    room_less k₁ (h.slabs.live + 2) 1 (omega arith) (found_room g.P.Pages.told g.P.Pages.runs g.P.Pages.faults h.shape c.reserve-2.new.self k₁ k₁ h.pages c.find_slab.new.pages c.find_slab.new.pages h.stream c.find_slab.new.stream c.find_slab.new.stream c.in_ok-next.next (h.slabs.live + 2) c.in_ok-next.ensures.found c.in_ok-reserve-2.ensures.room)
+    room_less k₁ (h.slabs.live + 2) 1 (omega arith) (found_room g.P.Pages h.shape c.reserve-2.new.self k₁ k₁ h.pages c.find_slab.new.pages c.find_slab.new.pages h.stream c.find_slab.new.stream c.find_slab.new.stream c.in_ok-next.next (h.slabs.live + 2) c.in_ok-next.ensures.found c.in_ok-reserve-2.ensures.room)
 
 pub serve-event-requires-clause-counted : goal.serve-event-requires-clause-counted
 serve-event-requires-clause-counted g c κs within =
     let h = c.self.inside in
     let k₀ = c.reserve-2.new.self in
     let kept₀ = kept_moved (g.P.Pages.told h.pages) (g.P.Pages.runs h.pages) (g.P.Pages.faults h.pages) h.config h.number h.arena h.shape h.entries.items h.slabs h.stream h.quarantine h.parking.items c.self.invariant.0 (g.P.Pages.told h.pages) (g.P.Pages.runs h.pages) (g.P.Pages.faults h.pages) k₀ refl (λ y. refl) refl c.reserve-2.ensures.same in
-    found_counted g.P.Pages.told g.P.Pages.runs g.P.Pages.faults h.shape k₀ c.find_slab.new.slabs h.pages c.find_slab.new.pages h.stream c.find_slab.new.stream (can_open (g.P.Pages.told h.pages) (g.P.Pages.runs h.pages) (g.P.Pages.faults h.pages) h.config h.number h.arena h.shape h.entries.items k₀ h.stream h.quarantine h.parking.items kept₀) kept₀.follows.counted c.in_ok-next.next c.in_ok-next.ensures.found
+    found_counted g.P.Pages h.shape k₀ c.find_slab.new.slabs h.pages c.find_slab.new.pages h.stream c.find_slab.new.stream (can_open (g.P.Pages.told h.pages) (g.P.Pages.runs h.pages) (g.P.Pages.faults h.pages) h.config h.number h.arena h.shape h.entries.items k₀ h.stream h.quarantine h.parking.items kept₀) kept₀.follows.counted c.in_ok-next.next c.in_ok-next.ensures.found
 
 pub invariant_of-self-in_err-reserve-2 : goal.invariant_of-self-in_err-reserve-2
 invariant_of-self-in_err-reserve-2 g c =
@@ -122,7 +122,7 @@ invariant_of-self-in_err-reserve-2 g c =
 pub returns-in_err-reserve-2-clause-region : goal.returns-in_err-reserve-2-clause-region
 returns-in_err-reserve-2-clause-region g c =
     let kept = invariant_of-self-in_err-reserve-2 g c in
-    region_of g.P.Pages.told g.P.Pages.runs g.P.Pages.faults _ c.self.inside.shape _ _ _ _ refl kept.0 kept.1
+    region_of g.P.Pages _ c.self.inside.shape _ _ _ _ refl kept.0 kept.1
 
 pub returns-in_err-next-clause-region : goal.returns-in_err-next-clause-region
 returns-in_err-next-clause-region g c =
@@ -133,8 +133,13 @@ returns-in_err-next-clause-region g c =
     let k₁ = c.find_slab.new.slabs in
     let mid = c.find_slab.new.pages in
     let kept₁ = kept_moved (g.P.Pages.told h.pages) (g.P.Pages.runs h.pages) (g.P.Pages.faults h.pages) h.config h.number h.arena h.shape h.entries.items k₀ h.stream h.quarantine h.parking.items kept₀ (g.P.Pages.told mid) (g.P.Pages.runs mid) (g.P.Pages.faults mid) k₁ c.find_slab.ensures.told (λ y. q.0.runs_same y) q.1
-    (same_slabs g.P.Pages.told g.P.Pages.runs g.P.Pages.faults k₀ k₁ h.pages mid h.stream c.find_slab.new.stream q.0) in
-    region_of g.P.Pages.told g.P.Pages.runs g.P.Pages.faults _ h.shape k₁ c.find_slab.new.stream h.quarantine h.parking.items refl
+    (same_slabs g.P.Pages k₀ k₁ h.pages mid h.stream c.find_slab.new.stream q.0) in
+    region_of g.P.Pages _ h.shape k₁ c.find_slab.new.stream h.quarantine h.parking.items refl
     (subst (λ (l : List Entry). IsKept (g.P.Pages.told mid) (g.P.Pages.runs mid) (g.P.Pages.faults mid) h.config h.number h.arena h.shape l k₁ c.find_slab.new.stream h.quarantine h.parking.items) (sym c.reserve.ensures.items)
     (subst (λ (x : Words). IsKept (g.P.Pages.told mid) (g.P.Pages.runs mid) (g.P.Pages.faults mid) h.config h.number h.arena h.shape h.entries.items k₁ x h.quarantine h.parking.items) (sym q.0.stream_same) kept₁))
     (omega (arith, c.self.invariant.1, c.reserve.ensures.len, c.reserve.ensures.capacity, c.reserve-2.ensures.same.live, q.0.live))
+
+pub returns-clause-replies : goal.returns-clause-replies
+returns-clause-replies g c =
+    let h = c.self.inside in
+    reply_of_region g.P.Pages _ c.args.self.now h.shape h.slabs h.stream h.quarantine h.parking.items (call.Allot c.args.asked 1) (reply_of c.serve-event.result.outcome) c.reply.result c.self.view_is refl c.self.invariant.0 c.reply.ensures c.serve-event.ensures.replies

@@ -17,4 +17,4 @@ invariant_of-result g c =
 pub returns-clause-region : goal.returns-clause-region
 returns-clause-region g c =
     let kept = invariant_of-result g c in
-    region_of g.P.Pages.told g.P.Pages.runs g.P.Pages.faults _ c.begin-stream.result.1 _ _ _ _ refl kept.0 kept.1
+    region_of g.P.Pages _ c.begin-stream.result.1 _ _ _ _ refl kept.0 kept.1

@@ -2,8 +2,7 @@ use Rattle.std.proofs.Common.{◌≡◌, ◌∙◌, ℕ, Bool, List, [], ◌∷�
 use Rattle.hm_model.specs.declared.entry.Call.TheVariants as call
 use Rattle.hm_model.specs.declared.entry.Entry.{Entry}
 use Rattle.hm_model.specs.declared.entry.Reply.{Reply}
-use Rattle.hm_class_rules.specs.Rules.{chose_none}
-use Rattle.hm_class.specs.Calls.{entry_of, no_draws}
+use Rattle.hm_model.specs.Calls.{no_choices, entry_of, no_words}
 use Rattle.hm_class.specs.Kept.{IsKept}
 use Rattle.hm_class.specs.Outcomes.{reply_of}
 use Rattle.hm_model.specs.Runs.{expand}
@@ -17,11 +16,11 @@ invariant_of-self-2 g c =
     let o = c.fill-outcome.result in
     let pages = c.fill-outcome.new.pages in
     let rs : List (ℕ × ℕ) = c.args.runs.now in
-    let e = entry_of c.args.who (call.Fill c.args.addr rs) (reply_of o) chose_none no_draws f f in
+    let e = entry_of c.args.who (call.Fill c.args.addr rs) (reply_of o) no_choices no_words f f in
     let all : c.push_reserved.new.self.items ≡ h.entries.items ++ e ∷ [] =
     appended _ _ _ _ _ c.push_reserved.ensures.items c.reserve.ensures.items
-    (c.still.ensures ∙ ap (λ (y : Reply). entry_of c.args.who (call.Fill c.args.addr c.in_ok-runs.runs) y chose_none no_draws f f) c.reply-reply.ensures
-    ∙ ap (λ (x : List (ℕ × ℕ)). entry_of c.args.who (call.Fill c.args.addr x) (reply_of o) chose_none no_draws f f) c.in_ok-runs.ensures) in
+    (c.plain.ensures ∙ ap (λ (y : Reply). entry_of c.args.who (call.Fill c.args.addr c.in_ok-runs.runs) y no_choices no_words f f) c.reply-reply.ensures
+    ∙ ap (λ (x : List (ℕ × ℕ)). entry_of c.args.who (call.Fill c.args.addr x) (reply_of o) no_choices no_words f f) c.in_ok-runs.ensures) in
     let bytes : c.deref.result.now ≡ expand rs = c.deref.ensures.value ∙ c.in_ok-bytes.ensures ∙ ap (λ (x : List (ℕ × ℕ)). expand x) c.in_ok-runs.ensures in (
       subst (λ (b : Bool). IsKept b (g.P.Pages.runs pages) (g.P.Pages.faults pages) h.config h.number h.arena h.shape c.push_reserved.new.self.items h.slabs h.stream h.quarantine h.parking.items) (sym c.fill-outcome.ensures.told)
           (subst (λ (l : List Entry). IsKept (g.P.Pages.told h.pages) (g.P.Pages.runs pages) (g.P.Pages.faults pages) h.config h.number h.arena h.shape l h.slabs h.stream h.quarantine h.parking.items) (sym all)
@@ -38,28 +37,28 @@ returns-clause-added g c =
     let f = c.faults-faults.result in
     let rs : List (ℕ × ℕ) = c.args.runs.now in
     let answer : c.reply-reply.result ≡ c.reply.result = c.reply-reply.ensures ∙ sym c.reply.ensures in
-    let all : c.push_reserved.new.self.items ≡ h.entries.items ++ entry_of c.args.who (call.Fill c.args.addr rs) c.reply.result chose_none no_draws f f ∷ [] =
+    let all : c.push_reserved.new.self.items ≡ h.entries.items ++ entry_of c.args.who (call.Fill c.args.addr rs) c.reply.result no_choices no_words f f ∷ [] =
     appended _ _ _ _ _ c.push_reserved.ensures.items c.reserve.ensures.items
-    (c.still.ensures ∙ ap (λ (y : Reply). entry_of c.args.who (call.Fill c.args.addr c.in_ok-runs.runs) y chose_none no_draws f f) answer
-    ∙ ap (λ (x : List (ℕ × ℕ)). entry_of c.args.who (call.Fill c.args.addr x) c.reply.result chose_none no_draws f f) c.in_ok-runs.ensures) in
-    added_of g.P.Pages.faults c.args.self.now _ _ c.args.who (call.Fill c.args.addr rs) c.reply.result chose_none no_draws f f c.self.view_is all c.faults-faults.ensures (c.faults-faults.ensures ∙ sym c.fill-outcome.ensures.count)
+    (c.plain.ensures ∙ ap (λ (y : Reply). entry_of c.args.who (call.Fill c.args.addr c.in_ok-runs.runs) y no_choices no_words f f) answer
+    ∙ ap (λ (x : List (ℕ × ℕ)). entry_of c.args.who (call.Fill c.args.addr x) c.reply.result no_choices no_words f f) c.in_ok-runs.ensures) in
+    added_of g.P.Pages c.args.self.now _ _ _ c.args.who (call.Fill c.args.addr rs) c.reply.result no_choices no_words f f c.self.view_is all c.faults-faults.ensures (c.faults-faults.ensures ∙ sym c.fill-outcome.ensures.count)
 
 pub returns-clause-region : goal.returns-clause-region
 returns-clause-region g c =
     let kept = invariant_of-self-2 g c in
-    region_of g.P.Pages.told g.P.Pages.runs g.P.Pages.faults _ c.self.inside.shape _ _ _ _ refl kept.0 kept.1
+    region_of g.P.Pages _ c.self.inside.shape _ _ _ _ refl kept.0 kept.1
 
 pub returns-in_err-reserve-clause-region : goal.returns-in_err-reserve-clause-region
-returns-in_err-reserve-clause-region g c = region_of g.P.Pages.told g.P.Pages.runs g.P.Pages.faults _ c.self.inside.shape _ _ _ _ refl
+returns-in_err-reserve-clause-region g c = region_of g.P.Pages _ c.self.inside.shape _ _ _ _ refl
     (let h = c.self.inside in subst (λ (l : List Entry). IsKept (g.P.Pages.told h.pages) (g.P.Pages.runs h.pages) (g.P.Pages.faults h.pages) h.config h.number h.arena h.shape l h.slabs h.stream h.quarantine h.parking.items) (sym c.reserve.ensures.items) c.self.invariant.0)
     (omega (arith, c.self.invariant.1, c.reserve.ensures.len, c.reserve.ensures.capacity))
 
 pub returns-in_err-runs-clause-region : goal.returns-in_err-runs-clause-region
-returns-in_err-runs-clause-region g c = region_of g.P.Pages.told g.P.Pages.runs g.P.Pages.faults _ c.self.inside.shape _ _ _ _ refl
+returns-in_err-runs-clause-region g c = region_of g.P.Pages _ c.self.inside.shape _ _ _ _ refl
     (let h = c.self.inside in subst (λ (l : List Entry). IsKept (g.P.Pages.told h.pages) (g.P.Pages.runs h.pages) (g.P.Pages.faults h.pages) h.config h.number h.arena h.shape l h.slabs h.stream h.quarantine h.parking.items) (sym c.reserve.ensures.items) c.self.invariant.0)
     (omega (arith, c.self.invariant.1, c.reserve.ensures.len, c.reserve.ensures.capacity))
 
 pub returns-in_err-bytes-clause-region : goal.returns-in_err-bytes-clause-region
-returns-in_err-bytes-clause-region g c = region_of g.P.Pages.told g.P.Pages.runs g.P.Pages.faults _ c.self.inside.shape _ _ _ _ refl
+returns-in_err-bytes-clause-region g c = region_of g.P.Pages _ c.self.inside.shape _ _ _ _ refl
     (let h = c.self.inside in subst (λ (l : List Entry). IsKept (g.P.Pages.told h.pages) (g.P.Pages.runs h.pages) (g.P.Pages.faults h.pages) h.config h.number h.arena h.shape l h.slabs h.stream h.quarantine h.parking.items) (sym c.reserve.ensures.items) c.self.invariant.0)
     (omega (arith, c.self.invariant.1, c.reserve.ensures.len, c.reserve.ensures.capacity))

@@ -3,8 +3,7 @@ use Rattle.hm_model.specs.declared.entry.Call.TheVariants as call
 use Rattle.hm_model.specs.declared.entry.Entry.{Entry}
 use Rattle.hm_model.specs.declared.entry.Reply.{Reply}
 use Rattle.hm_model.specs.declared.entry.Reply.TheVariants as reply
-use Rattle.hm_class_rules.specs.Rules.{chose_none}
-use Rattle.hm_class.specs.Calls.{entry_of, no_draws}
+use Rattle.hm_model.specs.Calls.{no_choices, entry_of, no_words}
 use Rattle.hm_class.specs.Kept.{IsKept}
 use Rattle.hm_class.specs.Outcomes.{reply_of}
 use Rattle.hm_class.specs.Region.{Region, IsTakenBack}
@@ -25,7 +24,7 @@ pub returns-in_err-reserve-in-Refused-clause-accepted :
     goal.returns-in_err-reserve-in-Refused-clause-accepted
 returns-in_err-reserve-in-Refused-clause-accepted g c = λ taken.
     (let h = c.self.inside in
-    absurd (never_refused g.P.Pages.told g.P.Pages.runs g.P.Pages.faults _ h.shape h.slabs h.stream h.quarantine h.parking.items c.args.addr c.args.stated c.in-Refused.outcome refl c.self.invariant.0 c.in-Refused.ensures
+    absurd (never_refused g.P.Pages _ h.shape h.slabs h.stream h.quarantine h.parking.items c.args.addr c.args.stated c.in-Refused.outcome refl c.self.invariant.0 c.in-Refused.ensures.judged
     (subst (λ (r : Region _). IsTakenBack g.P.Pages.told r c.args.addr c.args.stated) (sym c.self.view_is) taken)))
 
 pub invariant_of-self-in-Refused : goal.invariant_of-self-in-Refused
@@ -33,13 +32,13 @@ invariant_of-self-in-Refused g c =
     let h = c.self.inside in
     let f = c.faults-before.result in
     let o = c.in-Refused.outcome in
-    let e = entry_of c.args.who (call.GiveBack c.args.addr c.args.stated) (reply_of o) chose_none no_draws f f in
+    let e = entry_of c.args.who (call.GiveBack c.args.addr c.args.stated) (reply_of o) no_choices no_words f f in
     let all : c.push_reserved.new.self.items ≡ h.entries.items ++ e ∷ [] =
     appended _ _ _ _ _ c.push_reserved.ensures.items c.reserve.ensures.items
-    (c.still.ensures ∙ ap (λ (y : Reply). entry_of c.args.who (call.GiveBack c.args.addr c.args.stated) y chose_none no_draws f f) c.reply-reply.ensures) in (
+    (c.plain.ensures ∙ ap (λ (y : Reply). entry_of c.args.who (call.GiveBack c.args.addr c.args.stated) y no_choices no_words f f) c.reply-reply.ensures) in (
       subst (λ (l : List Entry). IsKept (g.P.Pages.told h.pages) (g.P.Pages.runs h.pages) (g.P.Pages.faults h.pages) h.config h.number h.arena h.shape l h.slabs h.stream h.quarantine h.parking.items) (sym all)
           (kept_refused (g.P.Pages.told h.pages) (g.P.Pages.runs h.pages) (g.P.Pages.faults h.pages) h.config h.number h.arena h.shape h.entries.items h.slabs h.stream h.quarantine h.parking.items c.self.invariant.0
-          g.P.Pages.told g.P.Pages.runs h.pages refl refl c.args.who c.args.addr f c.faults-before.ensures c.args.stated o c.in-Refused.ensures),
+          g.P.Pages h.pages refl refl c.args.who c.args.addr f c.faults-before.ensures c.args.stated o c.in-Refused.ensures.judged),
       omega (arith, c.self.invariant.1, c.in_ok-reserve-in-Refused.ensures.ok, c.reserve.ensures.len, c.push_reserved.ensures.len, c.push_reserved.ensures.capacity),
       c.self.invariant.2,
     )
@@ -50,18 +49,18 @@ hold-released-requires-clause-array g c κs within = let h = c.self.inside in (k
 pub settle-emptied-requires-clause-can : goal.settle-emptied-requires-clause-can
 settle-emptied-requires-clause-can g c κs within =
     let h = c.self.inside in
-    let r = c.in-Accepted.ensures in
-    release_ready (g.P.Pages.told h.pages) (g.P.Pages.runs h.pages) (g.P.Pages.faults h.pages) h.config h.number h.arena h.shape h.entries.items h.slabs h.stream h.quarantine h.parking.items c.self.invariant.0 g.P.Pages.told g.P.Pages.runs h.pages c.hold-released.new.pages c.hold-released.new.slabs c.args.addr c.in-Accepted.slot.slab c.in-Accepted.slot.index refl refl r.judged.0.is r.judged.0.slot r.judged.1 c.hold-released.ensures.slabs c.hold-released.ensures.cleared c.hold-released.result.0 c.hold-released.ensures.released c.hold-released.ensures.told
+    let r = c.in-Accepted.ensures.judged in
+    release_ready (g.P.Pages.told h.pages) (g.P.Pages.runs h.pages) (g.P.Pages.faults h.pages) h.config h.number h.arena h.shape h.entries.items h.slabs h.stream h.quarantine h.parking.items c.self.invariant.0 g.P.Pages h.pages c.hold-released.new.pages c.hold-released.new.slabs c.args.addr c.in-Accepted.slot.slab c.in-Accepted.slot.index refl refl r.judged.0.is r.judged.0.slot r.judged.1 c.hold-released.ensures.slabs c.hold-released.ensures.cleared c.hold-released.result.0 c.hold-released.ensures.released c.hold-released.ensures.told
 
 pub settle-emptied-requires-clause-few : goal.settle-emptied-requires-clause-few
 settle-emptied-requires-clause-few g c κs within =
     let h = c.self.inside in
-    omega (arith, c.self.invariant.1, c.self.invariant.0.follows.counted, c.hold-released.ensures.counted, one_less h.slabs.slabs.items c.hold-released.new.slabs.slabs.items c.in-Accepted.slot.slab c.in-Accepted.slot.index c.in-Accepted.ensures.judged.1 c.hold-released.ensures.slabs)
+    omega (arith, c.self.invariant.1, c.self.invariant.0.follows.counted, c.hold-released.ensures.counted, one_less h.slabs.slabs.items c.hold-released.new.slabs.slabs.items c.in-Accepted.slot.slab c.in-Accepted.slot.index c.in-Accepted.ensures.judged.judged.1 c.hold-released.ensures.slabs)
 
 pub settle-emptied-requires-clause-room : goal.settle-emptied-requires-clause-room
 settle-emptied-requires-clause-room g c κs within =
     let h = c.self.inside in
-    room_same h.slabs c.hold-released.new.slabs 1 c.hold-released.ensures.lists (room_less h.slabs h.slabs.live 1 (omega (arith, c.self.invariant.0.follows.counted, one_less h.slabs.slabs.items c.hold-released.new.slabs.slabs.items c.in-Accepted.slot.slab c.in-Accepted.slot.index c.in-Accepted.ensures.judged.1 c.hold-released.ensures.slabs)) c.self.invariant.2)
+    room_same h.slabs c.hold-released.new.slabs 1 c.hold-released.ensures.lists (room_less h.slabs h.slabs.live 1 (omega (arith, c.self.invariant.0.follows.counted, one_less h.slabs.slabs.items c.hold-released.new.slabs.slabs.items c.in-Accepted.slot.slab c.in-Accepted.slot.index c.in-Accepted.ensures.judged.judged.1 c.hold-released.ensures.slabs)) c.self.invariant.2)
 
 pub settle-emptied-requires-clause-parking_some : goal.settle-emptied-requires-clause-parking_some
 settle-emptied-requires-clause-parking_some g c κs within =
@@ -76,28 +75,28 @@ settle-emptied-requires-clause-parking_most g c κs within =
 pub slab_of-slab-requires-clause-from : goal.slab_of-slab-requires-clause-from
 slab_of-slab-requires-clause-from g c =
     let h = c.self.inside in
-    let r = c.in-Accepted.ensures in
-    released_from (g.P.Pages.told h.pages) (g.P.Pages.runs h.pages) (g.P.Pages.faults h.pages) h.config h.number h.arena h.shape h.entries.items h.slabs h.stream h.quarantine h.parking.items c.self.invariant.0 g.P.Pages.told g.P.Pages.runs h.pages c.hold-released.new.pages c.hold-released.new.slabs c.args.addr c.in-Accepted.slot.slab c.in-Accepted.slot.index refl refl r.judged.0.is r.judged.0.slot r.judged.1 c.hold-released.ensures.slabs c.hold-released.ensures.cleared c.hold-released.result.0 c.hold-released.ensures.released
+    let r = c.in-Accepted.ensures.judged in
+    released_from (g.P.Pages.told h.pages) (g.P.Pages.runs h.pages) (g.P.Pages.faults h.pages) h.config h.number h.arena h.shape h.entries.items h.slabs h.stream h.quarantine h.parking.items c.self.invariant.0 g.P.Pages h.pages c.hold-released.new.pages c.hold-released.new.slabs c.args.addr c.in-Accepted.slot.slab c.in-Accepted.slot.index refl refl r.judged.0.is r.judged.0.slot r.judged.1 c.hold-released.ensures.slabs c.hold-released.ensures.cleared c.hold-released.result.0 c.hold-released.ensures.released
 
 pub push_reserved-requires-in-Accepted : goal.push_reserved-requires-in-Accepted
 push_reserved-requires-in-Accepted g c =
     let h = c.self.inside in
-    omega (arith, c.self.invariant.1, c.self.invariant.0.follows.counted, one_less h.slabs.slabs.items c.hold-released.new.slabs.slabs.items c.in-Accepted.slot.slab c.in-Accepted.slot.index c.in-Accepted.ensures.judged.1 c.hold-released.ensures.slabs)
+    omega (arith, c.self.invariant.1, c.self.invariant.0.follows.counted, one_less h.slabs.slabs.items c.hold-released.new.slabs.slabs.items c.in-Accepted.slot.slab c.in-Accepted.slot.index c.in-Accepted.ensures.judged.judged.1 c.hold-released.ensures.slabs)
 
 pub returns-in_ok-reserve-in-Refused-clause-region : goal.returns-in_ok-reserve-in-Refused-clause-region
 returns-in_ok-reserve-in-Refused-clause-region g c =
     let kept = invariant_of-self-in-Refused g c in
-    region_of g.P.Pages.told g.P.Pages.runs g.P.Pages.faults _ c.self.inside.shape _ _ _ _ refl kept.0 kept.1
+    region_of g.P.Pages _ c.self.inside.shape _ _ _ _ refl kept.0 kept.1
 
 pub returns-in_ok-reserve-in-Refused-clause-added : goal.returns-in_ok-reserve-in-Refused-clause-added
 returns-in_ok-reserve-in-Refused-clause-added g c =
     let h = c.self.inside in
     let f = c.faults-before.result in
     let answer : c.reply-reply.result ≡ c.reply.result = c.reply-reply.ensures ∙ sym c.reply.ensures in
-    let all : c.push_reserved.new.self.items ≡ h.entries.items ++ entry_of c.args.who (call.GiveBack c.args.addr c.args.stated) c.reply.result chose_none no_draws f f ∷ [] =
+    let all : c.push_reserved.new.self.items ≡ h.entries.items ++ entry_of c.args.who (call.GiveBack c.args.addr c.args.stated) c.reply.result no_choices no_words f f ∷ [] =
     appended _ _ _ _ _ c.push_reserved.ensures.items c.reserve.ensures.items
-    (c.still.ensures ∙ ap (λ (y : Reply). entry_of c.args.who (call.GiveBack c.args.addr c.args.stated) y chose_none no_draws f f) answer) in
-    added_of g.P.Pages.faults c.args.self.now _ _ c.args.who (call.GiveBack c.args.addr c.args.stated) c.reply.result chose_none no_draws f f c.self.view_is all c.faults-before.ensures c.faults-before.ensures
+    (c.plain.ensures ∙ ap (λ (y : Reply). entry_of c.args.who (call.GiveBack c.args.addr c.args.stated) y no_choices no_words f f) answer) in
+    added_of g.P.Pages c.args.self.now _ _ _ c.args.who (call.GiveBack c.args.addr c.args.stated) c.reply.result no_choices no_words f f c.self.view_is all c.faults-before.ensures c.faults-before.ensures
 
 pub invariant_of-self-in-Accepted : goal.invariant_of-self-in-Accepted
 invariant_of-self-in-Accepted g c =
@@ -110,24 +109,24 @@ invariant_of-self-in-Accepted g c =
     let parking' = c.settle-emptied.new.parking.items in
     let f = c.faults-before.result in
     let f' = c.faults-now.result in
-    let settled : Settles g.P.Pages.told g.P.Pages.runs g.P.Pages.faults h.shape c.hold-released.new.slabs k' c.hold-released.new.pages now (array_stream h.shape h.stream) stream' h.parking.items parking' released emptied =
-    subst (λ (x : Words). Settles g.P.Pages.told g.P.Pages.runs g.P.Pages.faults h.shape c.hold-released.new.slabs k' c.hold-released.new.pages now x stream' h.parking.items parking' released emptied) c.hold-released.ensures.taken c.settle-emptied.ensures.settled in
+    let settled : Settles g.P.Pages h.shape c.hold-released.new.slabs k' c.hold-released.new.pages now (array_stream h.shape h.stream) stream' h.parking.items parking' released emptied =
+    subst (λ (x : Words). Settles g.P.Pages h.shape c.hold-released.new.slabs k' c.hold-released.new.pages now x stream' h.parking.items parking' released emptied) c.hold-released.ensures.taken c.settle-emptied.ensures.settled in
     let half_is : f ≡ g.P.Pages.faults c.hold-released.new.pages = c.faults-before.ensures ∙ sym c.hold-released.ensures.count in
-    let later : f ≤ f' = omega (arith, half_is, c.faults-now.ensures, settled_later g.P.Pages.told g.P.Pages.runs g.P.Pages.faults h.shape c.hold-released.new.slabs k' c.hold-released.new.pages now (array_stream h.shape h.stream) stream' h.parking.items parking' released emptied settled) in
+    let later : f ≤ f' = omega (arith, half_is, c.faults-now.ensures, settled_later g.P.Pages h.shape c.hold-released.new.slabs k' c.hold-released.new.pages now (array_stream h.shape h.stream) stream' h.parking.items parking' released emptied settled) in
     let x = entry_freed h.shape h.stream c.args.who c.args.addr c.args.stated released (released_slab h.shape released) emptied f f' in
     let all : c.push_reserved-in-Accepted.new.self.items ≡ h.entries.items ++ x ∷ [] =
     appended _ _ _ _ _ c.push_reserved-in-Accepted.ensures.items refl
     (c.entry.ensures ∙ ap (λ (ev : Event). entry_of c.args.who (call.GiveBack c.args.addr c.args.stated) reply.Freed ev.choices ev.draws f f') c.freed-event.ensures
     ∙ ap (λ (n : ℕ). entry_of c.args.who (call.GiveBack c.args.addr c.args.stated) reply.Freed (freed_choices released n emptied) (freed_draws c.hold-released.result.1 emptied) f f') c.slab_of-slab.ensures
     ∙ ap (λ (w : Option ℕ). entry_of c.args.who (call.GiveBack c.args.addr c.args.stated) reply.Freed (freed_choices released (released_slab h.shape released) emptied) (freed_draws w emptied) f f') c.hold-released.ensures.word) in
-    let less = live_ended (g.P.Pages.told h.pages) (g.P.Pages.runs h.pages) (g.P.Pages.faults h.pages) h.config h.number h.arena h.shape h.entries.items h.slabs h.stream h.quarantine h.parking.items c.self.invariant.0 g.P.Pages.told g.P.Pages.runs g.P.Pages.faults h.pages c.hold-released.new.pages c.settle-emptied.new.pages c.hold-released.new.slabs c.settle-emptied.new.slabs c.settle-emptied.new.stream c.settle-emptied.new.parking.items c.args.addr c.in-Accepted.slot c.args.stated c.args.who c.faults-before.result c.faults-now.result refl refl c.in-Accepted.ensures c.hold-released.ensures.slabs c.hold-released.ensures.cleared c.hold-released.ensures.lists c.hold-released.ensures.counted c.settle-emptied.ensures.counted c.faults-before.ensures later released emptied c.hold-released.ensures.released settled in
+    let less = live_ended (g.P.Pages.told h.pages) (g.P.Pages.runs h.pages) (g.P.Pages.faults h.pages) h.config h.number h.arena h.shape h.entries.items h.slabs h.stream h.quarantine h.parking.items c.self.invariant.0 g.P.Pages h.pages c.hold-released.new.pages c.settle-emptied.new.pages c.hold-released.new.slabs c.settle-emptied.new.slabs c.settle-emptied.new.stream c.settle-emptied.new.parking.items c.args.addr c.in-Accepted.slot c.args.stated c.args.who c.faults-before.result c.faults-now.result refl refl c.in-Accepted.ensures.judged c.hold-released.ensures.slabs c.hold-released.ensures.cleared c.hold-released.ensures.lists c.hold-released.ensures.counted c.settle-emptied.ensures.counted c.faults-before.ensures later released emptied c.hold-released.ensures.released settled in
     let fewer : k'.live + 1 ≡ h.slabs.live = omega (arith, less, c.settle-emptied.ensures.counted, c.self.invariant.0.follows.counted) in
     let room : HasRoom k' k'.live = c.settle-emptied.ensures.room k'.live (room_same h.slabs c.hold-released.new.slabs (k'.live + 1) c.hold-released.ensures.lists (subst (λ (n : ℕ). HasRoom h.slabs n) (sym fewer) c.self.invariant.2)) in (
       subst (λ (b : Bool). IsKept b (g.P.Pages.runs now) (g.P.Pages.faults now) h.config h.number h.arena h.shape c.push_reserved-in-Accepted.new.self.items k' stream' c.hold-released.new.quarantine parking') (sym (c.settle-emptied.ensures.told ∙ c.hold-released.ensures.told))
           (subst (λ (l : List Entry). IsKept (g.P.Pages.told h.pages) (g.P.Pages.runs now) (g.P.Pages.faults now) h.config h.number h.arena h.shape l k' stream' c.hold-released.new.quarantine parking') (sym all)
           (subst (λ (n : ℕ). IsKept (g.P.Pages.told h.pages) (g.P.Pages.runs now) n h.config h.number h.arena h.shape (h.entries.items ++ x ∷ []) k' stream' c.hold-released.new.quarantine parking') c.faults-now.ensures
           (subst (λ (q : Kept). IsKept (g.P.Pages.told h.pages) (g.P.Pages.runs now) f' h.config h.number h.arena h.shape (h.entries.items ++ x ∷ []) k' stream' q parking') (sym c.hold-released.ensures.kept)
-          (kept_ended (g.P.Pages.told h.pages) (g.P.Pages.runs h.pages) (g.P.Pages.faults h.pages) h.config h.number h.arena h.shape h.entries.items h.slabs h.stream h.quarantine h.parking.items c.self.invariant.0 g.P.Pages.told g.P.Pages.runs g.P.Pages.faults h.pages c.hold-released.new.pages c.settle-emptied.new.pages c.hold-released.new.slabs c.settle-emptied.new.slabs c.settle-emptied.new.stream c.settle-emptied.new.parking.items c.args.addr c.in-Accepted.slot c.args.stated c.args.who c.faults-before.result c.faults-now.result refl refl c.in-Accepted.ensures c.hold-released.ensures.slabs c.hold-released.ensures.cleared c.hold-released.ensures.lists c.hold-released.ensures.counted c.settle-emptied.ensures.counted c.faults-before.ensures later released emptied c.hold-released.ensures.released settled c.hold-released.ensures.told half_is c.faults-now.ensures)))),
+          (kept_ended (g.P.Pages.told h.pages) (g.P.Pages.runs h.pages) (g.P.Pages.faults h.pages) h.config h.number h.arena h.shape h.entries.items h.slabs h.stream h.quarantine h.parking.items c.self.invariant.0 g.P.Pages h.pages c.hold-released.new.pages c.settle-emptied.new.pages c.hold-released.new.slabs c.settle-emptied.new.slabs c.settle-emptied.new.stream c.settle-emptied.new.parking.items c.args.addr c.in-Accepted.slot c.args.stated c.args.who c.faults-before.result c.faults-now.result refl refl c.in-Accepted.ensures.judged c.hold-released.ensures.slabs c.hold-released.ensures.cleared c.hold-released.ensures.lists c.hold-released.ensures.counted c.settle-emptied.ensures.counted c.faults-before.ensures later released emptied c.hold-released.ensures.released settled c.hold-released.ensures.told half_is c.faults-now.ensures)))),
       omega (arith, c.self.invariant.1, fewer, c.push_reserved-in-Accepted.ensures.len, c.push_reserved-in-Accepted.ensures.capacity),
       room,
     )
@@ -135,7 +134,7 @@ invariant_of-self-in-Accepted g c =
 pub returns-in-Accepted-clause-region : goal.returns-in-Accepted-clause-region
 returns-in-Accepted-clause-region g c =
     let kept = invariant_of-self-in-Accepted g c in
-    region_of g.P.Pages.told g.P.Pages.runs g.P.Pages.faults _ c.self.inside.shape _ _ _ _ refl kept.0 kept.1
+    region_of g.P.Pages _ c.self.inside.shape _ _ _ _ refl kept.0 kept.1
 
 pub returns-in-Accepted-clause-added : goal.returns-in-Accepted-clause-added
 returns-in-Accepted-clause-added g c =
@@ -143,10 +142,10 @@ returns-in-Accepted-clause-added g c =
     let ev = c.freed-event.result in
     let all : c.push_reserved-in-Accepted.new.self.items ≡ h.entries.items ++ entry_of c.args.who (call.GiveBack c.args.addr c.args.stated) reply.Freed ev.choices ev.draws c.faults-before.result c.faults-now.result ∷ [] =
     appended _ _ _ _ _ c.push_reserved-in-Accepted.ensures.items refl c.entry.ensures in
-    added_of g.P.Pages.faults c.args.self.now _ _ c.args.who (call.GiveBack c.args.addr c.args.stated) reply.Freed ev.choices ev.draws c.faults-before.result c.faults-now.result c.self.view_is all c.faults-before.ensures c.faults-now.ensures
+    added_of g.P.Pages c.args.self.now _ _ _ c.args.who (call.GiveBack c.args.addr c.args.stated) reply.Freed ev.choices ev.draws c.faults-before.result c.faults-now.result c.self.view_is all c.faults-before.ensures c.faults-now.ensures
 
 pub returns-in_err-reserve-in-Refused-clause-region : goal.returns-in_err-reserve-in-Refused-clause-region
 returns-in_err-reserve-in-Refused-clause-region g c =
-    region_of g.P.Pages.told g.P.Pages.runs g.P.Pages.faults _ c.self.inside.shape _ _ _ _ refl
+    region_of g.P.Pages _ c.self.inside.shape _ _ _ _ refl
     (let h = c.self.inside in subst (λ (l : List Entry). IsKept (g.P.Pages.told h.pages) (g.P.Pages.runs h.pages) (g.P.Pages.faults h.pages) h.config h.number h.arena h.shape l h.slabs h.stream h.quarantine h.parking.items) (sym c.reserve.ensures.items) c.self.invariant.0)
     (omega (arith, c.self.invariant.1, c.reserve.ensures.len, c.reserve.ensures.capacity))

@@ -5,5 +5,5 @@ use Rattle.hm_class.proofs.heap.ClassHeap.pages.Goals as goal
 
 pub returns-clause-region : goal.returns-clause-region
 returns-clause-region g c =
-    subst (λ (r : Region _). IsRegion g.P.Pages.told g.P.Pages.runs g.P.Pages.faults r) c.self.view_is
-    (region_of g.P.Pages.told g.P.Pages.runs g.P.Pages.faults _ c.self.inside.shape _ _ _ _ refl c.self.invariant.0 c.self.invariant.1)
+    subst (λ (r : Region _). IsRegion g.P.Pages r) c.self.view_is
+    (region_of g.P.Pages _ c.self.inside.shape _ _ _ _ refl c.self.invariant.0 c.self.invariant.1)
