@@ -1,0 +1,41 @@
+-- Which plan a call of a heap follows.
+use Rattle.std.proofs.Common.{◌≡◌, ◌==◌, ◌*◌, ◌^◌, ◌<◌, ◌≤◌, ℕ, Bool, true, false, if◌then◌else◌, Option, Some, None, refl, sym, ◌∙◌, ap, subst, arith}
+use Rattle.hm_model.specs.declared.answer.Answer.TheVariants as answer
+use Rattle.hm_sizes.specs.declared.class.Kind.{Kind}
+use Rattle.hm_sizes.specs.declared.config.Config.{Config}
+use Rattle.hm_sizes.specs.Aligned.{AlignedGives}
+use Rattle.hm_sizes.specs.Sizes.{IsKindOf}
+use Rattle.hm_heap.specs.Plans.{Plan, Done}
+use Rattle.hm_heap.specs.Calls.{place_for, home_place, allot_plan, aligned_plan, moving_plan, resize_plan, IsMallocPlan, IsCallocPlan, IsAlignedPlan, IsReallocPlan}
+
+pub overflows : (c : Config) (thread count size : ℕ) → 2 ^ 64 ≤ count * size → IsCallocPlan c thread count size (Done answer.Overflow)
+overflows c thread count size most = record { overflow = λ e. refl; fits = λ lt. absurd (omega (arith, most, lt)) }
+
+pub product_fits : (c : Config) (thread count size asked : ℕ) (plan : Plan) → asked ≡ count * size → asked < 2 ^ 64 → IsMallocPlan c thread asked plan → IsCallocPlan c thread count size plan
+product_fits c thread count size asked plan is lt malloc = record {
+  overflow = λ most. absurd (omega (arith, most, lt, is));
+  fits = λ e. record { kind = malloc.kind; kind_is = subst (λ (n : ℕ). IsKindOf n malloc.kind) is malloc.kind_is; is = malloc.is ∙ ap (λ (n : ℕ). allot_plan c thread n 1 malloc.kind) is };
+}
+
+pub no_alignment_plan : (c : Config) (thread align asked : ℕ) → AlignedGives asked align None → IsAlignedPlan c thread align asked (Done answer.BadAlignment)
+no_alignment_plan c thread align asked none = record { kind = None; kind_is = none; is = refl }
+
+module _ (c : Config) (thread a asked : ℕ) (kind : Kind) (kind_is : IsKindOf asked kind) where
+  pub too_large : None ≡ place_for c thread kind → IsReallocPlan c thread a asked (Done answer.TooLarge)
+  too_large at = record { kind = kind; kind_is = kind_is; is = ap (resize_plan c thread a asked kind) at }
+
+  pub is_malloc : (place : ℕ) → Some place ≡ place_for c thread kind → a ≡ 0 → IsReallocPlan c thread a asked (allot_plan c thread asked 1 kind)
+  is_malloc place at zero = record {
+    kind = kind;
+    kind_is = kind_is;
+    is = sym (ap (λ (n : ℕ). if n == 0 then allot_plan c thread asked 1 kind else moving_plan c place a asked kind (home_place c a)) zero) ∙ ap (resize_plan c thread a asked kind) at;
+  }
+
+  pub moves : (place : ℕ) (home : Option ℕ) → Some place ≡ place_for c thread kind → (a == 0) ≡ false → home ≡ home_place c a → IsReallocPlan c thread a asked (moving_plan c place a asked kind home)
+  moves place home at some is = record {
+    kind = kind;
+    kind_is = kind_is;
+    is = ap (moving_plan c place a asked kind) is
+        ∙ sym (ap (λ (b : Bool). if b then allot_plan c thread asked 1 kind else moving_plan c place a asked kind (home_place c a)) some)
+        ∙ ap (resize_plan c thread a asked kind) at;
+  }
