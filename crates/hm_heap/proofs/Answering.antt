@@ -1,21 +1,19 @@
 -- Which plan a call of a heap follows.
-use Rattle.std.proofs.Common.{◌≡◌, ◌==◌, ◌*◌, ◌^◌, ◌<◌, ◌≤◌, ℕ, Bool, true, false, if◌then◌else◌, Option, Some, None, refl, sym, ◌∙◌, ap, subst, arith}
+use Rattle.std.proofs.Common.{◌≡◌, ◌==◌, ◌*◌, ◌^◌, ◌<◌, ℕ, Bool, true, false, if◌then◌else◌, Option, Some, None, refl, sym, ◌∙◌, ap}
 use Rattle.hm_model.specs.declared.answer.Answer.TheVariants as answer
 use Rattle.hm_sizes.specs.declared.class.Kind.{Kind}
 use Rattle.hm_sizes.specs.declared.config.Config.{Config}
 use Rattle.hm_sizes.specs.Aligned.{AlignedGives}
 use Rattle.hm_sizes.specs.Sizes.{IsKindOf}
+use Rattle.hm_model.specs.declared.entry.Call.{Call}
+use Rattle.hm_model.specs.declared.entry.Reply.{Reply}
+use Rattle.hm_model.specs.declared.entry.Reply.TheVariants.{Given, Overwritten, Exhausted, NoSpace, PagesFailed, Freed, NoSlot, Unused, DoubleFree, WrongSize, Canary, Usable, Bytes, Filled, Trap, NotLive}
 use Rattle.hm_heap.specs.Plans.{Plan, Done}
-use Rattle.hm_heap.specs.Calls.{place_for, home_place, allot_plan, aligned_plan, moving_plan, resize_plan, IsMallocPlan, IsCallocPlan, IsAlignedPlan, IsReallocPlan}
+use Rattle.hm_heap.specs.Requests.{Reaches}
+use Rattle.hm_heap.specs.Calls.{place_for, home_place, allot_plan, aligned_plan, moving_plan, resize_plan, IsCallocPlan, IsAlignedPlan, IsReallocPlan, ReplyInReach}
 
-pub overflows : (c : Config) (thread count size : ℕ) → 2 ^ 64 ≤ count * size → IsCallocPlan c thread count size (Done answer.Overflow)
-overflows c thread count size most = record { overflow = λ e. refl; fits = λ lt. absurd (omega (arith, most, lt)) }
-
-pub product_fits : (c : Config) (thread count size asked : ℕ) (plan : Plan) → asked ≡ count * size → asked < 2 ^ 64 → IsMallocPlan c thread asked plan → IsCallocPlan c thread count size plan
-product_fits c thread count size asked plan is lt malloc = record {
-  overflow = λ most. absurd (omega (arith, most, lt, is));
-  fits = λ e. record { kind = malloc.kind; kind_is = subst (λ (n : ℕ). IsKindOf n malloc.kind) is malloc.kind_is; is = malloc.is ∙ ap (λ (n : ℕ). allot_plan c thread n 1 malloc.kind) is };
-}
+pub overflows : (c : Config) (thread count size : ℕ) → (count * size < 2 ^ 64 → ⊥) → IsCallocPlan c thread count size (Done answer.Overflow)
+overflows c thread count size most = record { overflow = λ e. refl; fits = λ lt. absurd (most lt) }
 
 pub no_alignment_plan : (c : Config) (thread align asked : ℕ) → AlignedGives asked align None → IsAlignedPlan c thread align asked (Done answer.BadAlignment)
 no_alignment_plan c thread align asked none = record { kind = None; kind_is = none; is = refl }
@@ -39,3 +37,22 @@ module _ (c : Config) (thread a asked : ℕ) (kind : Kind) (kind_is : IsKindOf a
         ∙ sym (ap (λ (b : Bool). if b then allot_plan c thread asked 1 kind else moving_plan c place a asked kind (home_place c a)) some)
         ∙ ap (resize_plan c thread a asked kind) at;
   }
+
+-- the block of a reply
+pub reply_in_reach : (call : Call) (reply : Reply) → Reaches call reply → ReplyInReach reply
+reply_in_reach call (Given a usable) r = r.given a usable refl
+reply_in_reach call (Overwritten a at found) r = tt
+reply_in_reach call Exhausted r = tt
+reply_in_reach call NoSpace r = tt
+reply_in_reach call PagesFailed r = tt
+reply_in_reach call Freed r = tt
+reply_in_reach call NoSlot r = tt
+reply_in_reach call Unused r = tt
+reply_in_reach call DoubleFree r = tt
+reply_in_reach call (WrongSize block stated) r = tt
+reply_in_reach call (Canary kept found) r = tt
+reply_in_reach call (Usable size) r = tt
+reply_in_reach call (Bytes runs) r = tt
+reply_in_reach call Filled r = tt
+reply_in_reach call (Trap a) r = tt
+reply_in_reach call NotLive r = tt

@@ -1,10 +1,10 @@
 -- How far a reply reaches.
-use Rattle.std.proofs.Common.{◌≡◌, ℕ, ◌+◌, ◌*◌, ◌/◌, ◌^◌, ◌<◌, ◌≤◌, ◌⊎◌, Bool, nat_lt, if◌then◌else◌, List, [], ◌∷◌, ◌++◌, length, slice_index_or, Result, Ok, Err, IfOk, sym, ◌∙◌, ap, subst, arith}
+use Rattle.std.proofs.Common.{◌≡◌, ℕ, ◌+◌, ◌*◌, ◌/◌, ◌^◌, ◌<◌, ◌≤◌, ◌⊎◌, Bool, nat_lt, if◌then◌else◌, List, [], ◌∷◌, ◌++◌, length, slice_index_or, Option, Some, None, IfSome, Result, Ok, Err, IfOk, sym, ◌∙◌, ap, subst, refl, arith}
 use Rattle.std.proofs.lemmas.Bool.{cases_lt, lt-ltb, le-ltb}
 use mathlib.Core.Logic.{inl, inr}
 use Rattle.hm_outside.specs.declared.memory.NoMemory.{NoMemory}
 use Rattle.hm_model.specs.declared.entry.Call.{Call}
-use Rattle.hm_model.specs.declared.entry.Call.TheVariants.{Allot, Fetch}
+use Rattle.hm_model.specs.declared.entry.Call.TheVariants.{Allot, GiveBack, Measure, Fetch, Fill}
 use Rattle.hm_model.specs.declared.entry.Entry.{Entry}
 use Rattle.hm_model.specs.declared.entry.Reply.{Reply}
 use Rattle.hm_model.specs.declared.entry.Reply.TheVariants.{Given, Bytes}
@@ -23,7 +23,7 @@ use Rattle.hm_large.specs.Rules as large
 use Rattle.hm_large.specs.State as large_state
 use Rattle.hm_turn.specs.Knowledge.{Knowledge}
 use Rattle.hm_turn.specs.Known.{Lock, Known}
-use Rattle.hm_heap.specs.Called.{Called}
+use Rattle.hm_heap.specs.Called.{Called, Tried}
 use Rattle.hm_heap.specs.Lawful.{IsLawful, class_terms, large_terms}
 use Rattle.hm_heap.specs.Origins.{origin_in}
 use Rattle.hm_heap.specs.Passes.{AreLocks, AreOf, region_at}
@@ -52,6 +52,27 @@ large_least t es e asked align a size legal call reply =
     let allows = subst (λ (r : Reply). large.Allows t s e (Allot asked align) r) reply (subst (λ (c : Call). large.Allows t s e c e.reply) call last.allows) in
     omega (arith, allows.0.0.fits.from)
 
+-- ---- only an allotment gives a block
+pub record IsAllotment (call : Call) (a : ℕ) : Type 0 where
+  pub asked : ℕ
+  pub align : ℕ
+  pub call_is : call ≡ Allot asked align
+  pub low : a < 2 ^ 47
+
+class_given : (n : ℕ) (call : Call) (a size : ℕ) → IsClassReply n call (Given a size) → IsAllotment call a
+class_given n (Allot asked align) a size is = record { asked = asked; align = align; call_is = refl; low = is.0 }
+class_given n (GiveBack addr stated) a size is = absurd is
+class_given n (Measure addr) a size is = absurd is
+class_given n (Fetch addr len) a size is = absurd is
+class_given n (Fill addr runs) a size is = absurd is
+
+large_given : (call : Call) (a size : ℕ) → IsLargeReply call (Given a size) → IsAllotment call a
+large_given (Allot asked align) a size is = record { asked = asked; align = align; call_is = refl; low = is }
+large_given (GiveBack addr stated) a size is = absurd is
+large_given (Measure addr) a size is = absurd is
+large_given (Fetch addr len) a size is = absurd is
+large_given (Fill addr runs) a size is = absurd is
+
 -- ---- the kinds of region
 module _ (o : Origin) (es : List Entry) (e : Entry) (call : Call) (reply : Reply) (lawful : IsLawful o (es ++ e ∷ [])) (call_is : e.call ≡ call) (reply_is : e.reply ≡ reply) (kind : IsReply o call reply) where
   class_reaches : o.region < large_region_number → Reaches call reply
@@ -59,10 +80,9 @@ module _ (o : Origin) (es : List Entry) (e : Entry) (call : Call) (reply : Reply
       let is : IsClassReply (usable (class_terms o).shape) call reply = kind.class lt in
       let n = usable (class_terms o).shape in
       record {
-        given = λ asked align a size allot given. (
-          class_least (class_terms o) es e asked align a size (starts_late o) (lawful.class lt).legal (call_is ∙ allot) (reply_is ∙ given),
-          (subst (λ (r : Reply). IsClassReply n (Allot asked align) r) given (subst (λ (c : Call). IsClassReply n c reply) allot is)).0,
-        );
+        given = λ a size given.
+            let it = class_given n call a size (subst (λ (r : Reply). IsClassReply n call r) given is) in
+            (class_least (class_terms o) es e it.asked it.align a size (starts_late o) (lawful.class lt).legal (call_is ∙ it.call_is) (reply_is ∙ given), it.low);
         bytes = λ a len runs fetch bytes. subst (λ (r : Reply). IsClassReply n (Fetch a len) r) bytes (subst (λ (c : Call). IsClassReply n c reply) fetch is);
       }
 
@@ -70,10 +90,9 @@ module _ (o : Origin) (es : List Entry) (e : Entry) (call : Call) (reply : Reply
   large_reaches large =
       let is : IsLargeReply call reply = kind.large large in
       record {
-        given = λ asked align a size allot given. (
-          large_least (large_terms o) es e asked align a size (lawful.large large).legal (call_is ∙ allot) (reply_is ∙ given),
-          subst (λ (r : Reply). IsLargeReply (Allot asked align) r) given (subst (λ (c : Call). IsLargeReply c reply) allot is),
-        );
+        given = λ a size given.
+            let it = large_given call a size (subst (λ (r : Reply). IsLargeReply call r) given is) in
+            (large_least (large_terms o) es e it.asked it.align a size (lawful.large large).legal (call_is ∙ it.call_is) (reply_is ∙ given), it.low);
         bytes = λ a len runs fetch bytes. subst (λ (r : Reply). IsLargeReply (Fetch a len) r) bytes (subst (λ (c : Call). IsLargeReply c reply) fetch is);
       }
 
@@ -104,3 +123,8 @@ pub region_there : (c : Config) (number : ℕ) (locks : List Lock) (turns : List
 region_there c number locks turns place t are below of at =
     let l : Lock = record { id = t.lock; origin = t.knows.origin } in
     ap (λ (numbers : List ℕ). (origin_in numbers).region) (ap (λ (z : Known). z.knows.origin) at ∙ (of.each place l t below).1 ∙ (are.each place l below).is)
+
+pub tried_reaches : (who : Who) (c : Config) (place : ℕ) (call : Call) (o : Option (Result Reply NoMemory)) (before after : Knowledge) → c.arenas ≤ 4 → (origin_in before.origin).region ≡ region_at c place
+    → Tried who call o before after → IfSome o (λ made. IfOk made (Reaches call))
+tried_reaches who c place call (Some r) before after most is tried = called_reaches who c place call r before after most is tried
+tried_reaches who c place call None before after most is tried = tt

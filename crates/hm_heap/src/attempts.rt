@@ -1,9 +1,9 @@
 //! The calls of a heap that wait for nobody.
-ghost use Rattle.std.specs.Prelude.{◌≡◌, ◌<◌, ◌^◌, None, length};
+ghost use Rattle.std.specs.Prelude.{◌≡◌, ◌<◌, ◌^◌, None, length, IfOk};
 ghost use Rattle.hm_heap.specs.Requests.{call_of, Asks, AsksOfKind};
 ghost use Rattle.hm_heap.specs.Passes.{AreOf, region_at};
 ghost use Rattle.hm_heap.specs.Plans.{Part, Tries, ServesTry};
-ghost use Rattle.hm_heap.specs.Calls.{replied, allot_plan, IsMallocPlan, free_plan};
+ghost use Rattle.hm_heap.specs.Calls.{replied, allot_plan, IsMallocPlan, free_plan, AnswerInReach};
 
 use crate::heap::Heap;
 use crate::homes::{class_place, home_place, large_place};
@@ -15,6 +15,7 @@ use hm_sizes::{Kind, class_of};
 
 impl<'g, P: Pages, G: Gate> Heap<'g, P, G> {
     // The only part of a call, if the region's turn is free.
+    #[tactic(auto, using(crate::proofs::Answering::reply_in_reach))]
     fn try_reply_of(
         &self,
         pass: &mut Pass,
@@ -28,6 +29,7 @@ impl<'g, P: Pages, G: Gate> Heap<'g, P, G> {
         ensures same { pass.new ≡ record pass.old { turns = pass.new.turns } }
         ensures of { AreOf self.now.locks pass.new.turns }
         ensures answer { Tries pass.old pass.new step (Part place (call_of request.entry) replied) result }
+        ensures reach { IfOk result AnswerInReach }
     {
         match self.try_make(pass, place, step, 1, request) {
             Some(Ok(reply)) => Ok(Answer::Reply(reply)),
@@ -49,6 +51,7 @@ impl<'g, P: Pages, G: Gate> Heap<'g, P, G> {
         ensures same { pass.new ≡ record pass.old { turns = pass.new.turns } }
         ensures of { AreOf self.now.locks pass.new.turns }
         ensures answer { Tries pass.old pass.new step (allot_plan self.now.config pass.old.thread asked 1 kind) result }
+        ensures reach { IfOk result AnswerInReach }
     {
         let request = Request::Allot { asked, align: 1 };
         match kind {
@@ -71,6 +74,7 @@ impl<'g, P: Pages, G: Gate> Heap<'g, P, G> {
         ensures same { pass.new ≡ record pass.old { turns = pass.new.turns } }
         ensures of { AreOf self.now.locks pass.new.turns }
         ensures answer { ServesTry (IsMallocPlan self.now.config pass.old.thread asked) pass.old pass.new step result }
+        ensures reach { IfOk result AnswerInReach }
     {
         self.try_allot(pass, step, asked, class_of(asked))
     }

@@ -1,10 +1,10 @@
 //! The calls of a heap that are one part.
-ghost use Rattle.std.specs.Prelude.{◌≡◌, ◌<◌, ◌≤◌, ◌^◌, None, Some, length};
+ghost use Rattle.std.specs.Prelude.{◌≡◌, ◌<◌, ◌≤◌, ◌^◌, None, Some, length, IfOk};
 ghost use Rattle.hm_model.specs.Runs.{expand};
-ghost use Rattle.hm_heap.specs.Requests.{call_of, Asks, AsksAtHome, AsksOfKind};
+ghost use Rattle.hm_heap.specs.Requests.{call_of, Asks, AsksAtHome, AsksOfKind, IsInReach};
 ghost use Rattle.hm_heap.specs.Passes.{AreOf, region_at};
 ghost use Rattle.hm_heap.specs.Plans.{Part, Follows, Serves};
-ghost use Rattle.hm_heap.specs.Calls.{replied, at_home, home_place, allot_plan, IsMallocPlan, IsCallocPlan, IsAlignedPlan, free_plan, usable_plan, read_plan, write_plan};
+ghost use Rattle.hm_heap.specs.Calls.{replied, at_home, home_place, allot_plan, IsMallocPlan, IsCallocPlan, IsAlignedPlan, free_plan, usable_plan, read_plan, write_plan, AnswerInReach};
 
 use crate::heap::Heap;
 use crate::homes::{class_place, home_place, large_place};
@@ -17,6 +17,7 @@ use std::sync::Wait;
 
 impl<'g, P: Pages, G: Gate> Heap<'g, P, G> {
     // The only part of a call.
+    #[tactic(auto, using(crate::proofs::Answering::reply_in_reach))]
     fn reply_of<R: Wait>(
         &self,
         rt: &R,
@@ -31,6 +32,7 @@ impl<'g, P: Pages, G: Gate> Heap<'g, P, G> {
         ensures same { pass.new ≡ record pass.old { turns = pass.new.turns } }
         ensures of { AreOf self.now.locks pass.new.turns }
         ensures answer { Follows pass.old pass.new step 1 (Part place (call_of request.entry) replied) result }
+        ensures reach { IfOk result AnswerInReach }
     {
         match self.make(rt, pass, place, step, 1, request) {
             Ok(reply) => Ok(Answer::Reply(reply)),
@@ -48,7 +50,7 @@ impl<'g, P: Pages, G: Gate> Heap<'g, P, G> {
         request: Request,
     ) -> Result<Answer, NoMemory>
         requires of { AreOf self.now.locks pass.old.turns }
-        requires asks { addr < 2 ^ 47 → AsksAtHome (call_of request) }
+        requires asks { IsInReach addr → AsksAtHome (call_of request) }
         ensures same { pass.new ≡ record pass.old { turns = pass.new.turns } }
         ensures of { AreOf self.now.locks pass.new.turns }
         ensures answer { Follows pass.old pass.new step 1 (at_home (home_place self.now.config addr) (call_of request.entry)) result }
@@ -74,6 +76,7 @@ impl<'g, P: Pages, G: Gate> Heap<'g, P, G> {
         ensures same { pass.new ≡ record pass.old { turns = pass.new.turns } }
         ensures of { AreOf self.now.locks pass.new.turns }
         ensures answer { Follows pass.old pass.new step 1 (allot_plan self.now.config pass.old.thread asked align kind) result }
+        ensures reach { IfOk result AnswerInReach }
     {
         match kind {
             Kind::TooLarge => Ok(Answer::TooLarge),
@@ -102,6 +105,7 @@ impl<'g, P: Pages, G: Gate> Heap<'g, P, G> {
         ensures same { pass.new ≡ record pass.old { turns = pass.new.turns } }
         ensures of { AreOf self.now.locks pass.new.turns }
         ensures answer { Serves (IsMallocPlan self.now.config pass.old.thread asked) pass.old pass.new step result }
+        ensures reach { IfOk result AnswerInReach }
     {
         self.allot(rt, pass, step, asked, 1, class_of(asked))
     }
@@ -119,6 +123,7 @@ impl<'g, P: Pages, G: Gate> Heap<'g, P, G> {
         ensures same { pass.new ≡ record pass.old { turns = pass.new.turns } }
         ensures of { AreOf self.now.locks pass.new.turns }
         ensures answer { Serves (IsCallocPlan self.now.config pass.old.thread count size) pass.old pass.new step result }
+        ensures reach { IfOk result AnswerInReach }
     {
         match count.checked_mul(size) {
             None => Ok(Answer::Overflow),
@@ -139,6 +144,7 @@ impl<'g, P: Pages, G: Gate> Heap<'g, P, G> {
         ensures same { pass.new ≡ record pass.old { turns = pass.new.turns } }
         ensures of { AreOf self.now.locks pass.new.turns }
         ensures answer { Serves (IsAlignedPlan self.now.config pass.old.thread align asked) pass.old pass.new step result }
+        ensures reach { IfOk result AnswerInReach }
     {
         match class_aligned(asked, align) {
             None => Ok(Answer::BadAlignment),

@@ -1,5 +1,5 @@
 //! The heap, and one part of a call on it.
-ghost use Rattle.std.specs.Prelude.{◌≡◌, ◌<◌, ◌≤◌, length, IfOk};
+ghost use Rattle.std.specs.Prelude.{◌≡◌, ◌<◌, ◌≤◌, length, IfOk, IfSome};
 ghost use Rattle.hm_heap.specs.Requests.{call_of, Asks, Reaches};
 ghost use Rattle.hm_heap.specs.Passes.{AreOf, region_at};
 ghost use Rattle.hm_heap.specs.Parts.{who_of, HasPart, HasTried};
@@ -112,6 +112,7 @@ impl<'g, P: Pages, G: Gate> Heap<'g, P, G> {
         ensures same { pass.new ≡ record pass.old { turns = pass.new.turns } }
         ensures of { AreOf self.now.locks pass.new.turns }
         ensures part { HasTried pass.old pass.new place (who_of pass.old step part) (call_of request.entry) result }
+        ensures reach { IfSome result (λ made. IfOk made (Reaches (call_of request.entry))) }
     {
         let who = who_of(pass, step, part);
         let region = region_at(&self.config, place);

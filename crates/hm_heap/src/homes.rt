@@ -1,9 +1,9 @@
 //! Where the regions stand that serve a call.
-ghost use Rattle.std.specs.Prelude.{◌≡◌, ◌+◌, ◌<◌, ◌≤◌, ◌^◌, IfSome, MatchOption};
-ghost use Rattle.hm_sizes.specs.declared.class.Kind.{Kind};
+ghost use Rattle.std.specs.Prelude.{◌≡◌, ◌+◌, ◌<◌, ◌≤◌, IfSome};
 ghost use Rattle.hm_sizes.specs.Classes.{class_count};
 ghost use Rattle.hm_sizes.specs.Configs.{IsValid};
 ghost use Rattle.hm_sizes.specs.Homes.{region_count};
+ghost use Rattle.hm_heap.specs.Requests.{IsInReach};
 ghost use Rattle.hm_heap.specs.Calls.{class_place, large_place, home_place};
 
 use crate::heap::CLASSES;
@@ -34,7 +34,7 @@ pub(crate) fn home_place(config: &Config, addr: u64) -> Option<usize>
     requires { IsValid config.now }
     ensures place { result ≡ home_place config.now addr }
     ensures below { IfSome result (λ place. place < region_count config.now + 1) }
-    ensures reach { IfSome result (λ place. addr < 2 ^ 47) }
+    ensures reach { IfSome result (λ place. IsInReach addr) }
 {
     match home_of(config, addr) {
         Home::Class(region) => Some(region.0 as usize),

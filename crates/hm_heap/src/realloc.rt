@@ -1,13 +1,13 @@
 //! Moving a block, in up to five parts.
-ghost use Rattle.std.specs.Prelude.{◌≡◌, ◌<◌, ◌≤◌, ◌^◌, length, IfSome, ◌+◌};
+ghost use Rattle.std.specs.Prelude.{◌≡◌, ◌<◌, ◌≤◌, ◌^◌, length, IfOk, IfSome, ◌+◌};
 ghost use Rattle.hm_model.specs.declared.entry.Call.TheVariants as call;
 ghost use Rattle.hm_sizes.specs.Configs.{IsValid};
 ghost use Rattle.hm_sizes.specs.Homes.{region_count};
 ghost use Rattle.hm_sizes.specs.Sizes.{IsKindOf};
-ghost use Rattle.hm_heap.specs.Requests.{call_of, Asks};
+ghost use Rattle.hm_heap.specs.Requests.{Asks, IsInReach};
 ghost use Rattle.hm_heap.specs.Passes.{AreOf, region_at};
 ghost use Rattle.hm_heap.specs.Plans.{Follows, Part, Serves};
-ghost use Rattle.hm_heap.specs.Calls.{freeing, filled, copying, allotted, measured, keeps, place_for, IsReallocPlan};
+ghost use Rattle.hm_heap.specs.Calls.{freeing, filled, copying, allotted, measured, keeps, place_for, IsReallocPlan, AnswerInReach};
 
 use crate::heap::{CLASSES, Heap};
 use crate::homes::{class_place, home_place, large_place};
@@ -53,9 +53,11 @@ impl<'g, P: Pages, G: Gate> Heap<'g, P, G> {
     ) -> Result<Answer, NoMemory>
         requires of { AreOf self.now.locks pass.old.turns }
         requires home { moved.home < length self.now.locks }
+        requires reach { IsInReach moved.new }
         ensures same { pass.new ≡ record pass.old { turns = pass.new.turns } }
         ensures of { AreOf self.now.locks pass.new.turns }
         ensures answer { Follows pass.old pass.new step part (freeing moved.home moved.addr moved.new moved.usable) result }
+        ensures reach { IfOk result AnswerInReach }
     {
         let request = Request::GiveBack {
             addr: moved.addr,
@@ -84,9 +86,11 @@ impl<'g, P: Pages, G: Gate> Heap<'g, P, G> {
         requires home { moved.home < length self.now.locks }
         requires place { moved.place < length self.now.locks }
         requires asks { Asks (region_at self.now.config moved.place) (call.Fill moved.new runs.now) }
+        requires reach { IsInReach moved.new }
         ensures same { pass.new ≡ record pass.old { turns = pass.new.turns } }
         ensures of { AreOf self.now.locks pass.new.turns }
         ensures answer { Follows pass.old pass.new step 4 (Part moved.place (call.Fill moved.new runs.now) (filled moved.home moved.addr moved.new moved.usable)) result }
+        ensures reach { IfOk result AnswerInReach }
     {
         let request = Request::Fill {
             addr: moved.new,
@@ -111,11 +115,12 @@ impl<'g, P: Pages, G: Gate> Heap<'g, P, G> {
         requires of { AreOf self.now.locks pass.old.turns }
         requires home { moved.home < length self.now.locks }
         requires place { moved.place < length self.now.locks }
-        requires reach { (moved.addr < 2 ^ 47) × (moved.new < 2 ^ 47) }
+        requires reach { IsInReach moved.addr × IsInReach moved.new }
         requires few { count ≤ 2 ^ 30 }
         ensures same { pass.new ≡ record pass.old { turns = pass.new.turns } }
         ensures of { AreOf self.now.locks pass.new.turns }
         ensures answer { Follows pass.old pass.new step 3 (copying moved.home moved.place moved.addr moved.new moved.usable count) result }
+        ensures reach { IfOk result AnswerInReach }
     {
         if count == 0 {
             return self.release(rt, pass, step, 3, moved);
@@ -132,6 +137,7 @@ impl<'g, P: Pages, G: Gate> Heap<'g, P, G> {
     }
 
     // A new block is asked for, and the bytes of the old one are written to it.
+    #[tactic(auto, using(crate::proofs::Answering::reply_in_reach))]
     fn move_block<R: Wait>(
         &self,
         rt: &R,
@@ -146,12 +152,13 @@ impl<'g, P: Pages, G: Gate> Heap<'g, P, G> {
         requires of { AreOf self.now.locks pass.old.turns }
         requires home { home < length self.now.locks }
         requires place { place < length self.now.locks }
-        requires reach { addr < 2 ^ 47 }
+        requires reach { IsInReach addr }
         requires few { count ≤ 2 ^ 30 }
         requires asks { Asks (region_at self.now.config place) (call.Allot asked 1) }
         ensures same { pass.new ≡ record pass.old { turns = pass.new.turns } }
         ensures of { AreOf self.now.locks pass.new.turns }
         ensures answer { Follows pass.old pass.new step 2 (Part place (call.Allot asked 1) (allotted home place addr count)) result }
+        ensures reach { IfOk result AnswerInReach }
     {
         let request = Request::Allot { asked, align: 1 };
         match self.make(rt, pass, place, step, 2, request) {
@@ -171,6 +178,7 @@ impl<'g, P: Pages, G: Gate> Heap<'g, P, G> {
     }
 
     // The block is measured, and moved if its kind is another.
+    #[tactic(auto, using(crate::proofs::Answering::reply_in_reach))]
     fn resize<R: Wait>(
         &self,
         rt: &R,
@@ -185,12 +193,13 @@ impl<'g, P: Pages, G: Gate> Heap<'g, P, G> {
         requires of { AreOf self.now.locks pass.old.turns }
         requires home { home < length self.now.locks }
         requires place { place < length self.now.locks }
-        requires reach { addr < 2 ^ 47 }
+        requires reach { IsInReach addr }
         requires few { asked ≤ 2 ^ 30 }
         requires asks { Asks (region_at self.now.config place) (call.Allot asked 1) }
         ensures same { pass.new ≡ record pass.old { turns = pass.new.turns } }
         ensures of { AreOf self.now.locks pass.new.turns }
         ensures answer { Follows pass.old pass.new step 1 (Part home (call.Measure addr) (measured home place addr asked (keeps self.now.config home kind))) result }
+        ensures reach { IfOk result AnswerInReach }
     {
         let request = Request::Measure { addr };
         match self.make(rt, pass, home, step, 1, request) {
@@ -220,6 +229,7 @@ impl<'g, P: Pages, G: Gate> Heap<'g, P, G> {
         ensures same { pass.new ≡ record pass.old { turns = pass.new.turns } }
         ensures of { AreOf self.now.locks pass.new.turns }
         ensures answer { Serves (IsReallocPlan self.now.config pass.old.thread addr asked) pass.old pass.new step result }
+        ensures reach { IfOk result AnswerInReach }
     {
         let kind = class_of(asked);
         let Some(place) = place_for(&self.config, pass.thread, kind, asked) else {
