@@ -2,11 +2,65 @@
 //! takes memory.
 #![tactic(auto)]
 
-ghost use Rattle.std.specs.Prelude.{◌≡◌, ◌↔◌, IsTrue, length, replicate};
+ghost use Rattle.std.specs.Prelude.{◌≡◌, ◌↔◌, ◌+◌, ◌≤◌, IsTrue, length, replicate};
 ghost use Rattle.hm_canary.specs.Canaries.{first_nonzero, canary_bytes};
+ghost use Rattle.hm_canary.specs.Lanes.{AllZero};
+
+use std::simd::prelude::*;
+
+/// Whether the 32 bytes from `from` on are all zero.
+#[inline(always)]
+fn is_zero_lane(bytes: &[u8], from: usize) -> bool
+    requires { from + 32 ≤ length bytes.now }
+    ensures { IsTrue result → AllZero bytes.now from (from + 32) }
+{
+    u8x32::from_slice(&bytes[from..])
+        .simd_ne(u8x32::splat(0))
+        .to_bitmask()
+        == 0
+}
+
+/// Whether the 8 bytes from `from` on are all zero.
+#[inline(always)]
+fn is_zero_word(bytes: &[u8], from: usize) -> bool
+    requires { from + 8 ≤ length bytes.now }
+    ensures { IsTrue result → AllZero bytes.now from (from + 8) }
+{
+    u8x8::from_slice(&bytes[from..])
+        .simd_ne(u8x8::splat(0))
+        .to_bitmask()
+        == 0
+}
+
+/// How many zero bytes at the front were passed, by whole lanes and words.
+fn skip_zeros(bytes: &[u8]) -> usize
+    ensures within { result ≤ length bytes.now }
+    ensures zero { AllZero bytes.now 0 result }
+{
+    let len = bytes.len();
+    let mut i = 0;
+    while 32 <= len - i && is_zero_lane(bytes, i) {
+        i += 32;
+    }
+    while 8 <= len - i && is_zero_word(bytes, i) {
+        i += 8;
+    }
+    i
+}
 
 /// The place of the first byte that is not zero.
 pub fn first_nonzero(bytes: &[u8]) -> Option<usize>
+    ensures { result ≡ first_nonzero bytes.now }
+{
+    let skipped = skip_zeros(bytes);
+    match first_by_bytes(&bytes[skipped..]) {
+        Some(place) => Some(skipped + place),
+        None => None,
+    }
+}
+
+/// The same, byte by byte.
+fn first_by_bytes(bytes: &[u8]) -> Option<usize>
     ensures { result ≡ first_nonzero bytes.now }
 {
     bytes.iter().position(|byte| *byte != 0)
@@ -30,7 +84,7 @@ pub fn set(last: &mut [u8; 8], canary: u64)
 pub fn matches(last: &[u8; 8], canary: u64) -> bool
     ensures { IsTrue result ↔ (last.now ≡ canary_bytes canary) }
 {
-    *last == canary.to_le_bytes()
+    u64::from_le_bytes(*last) == canary
 }
 
 #[cfg(test)]

@@ -268,7 +268,8 @@ impl<P: Pages> ClassHeap<P> {
                 self.entries.reserve(self.slabs.live + 1)?;
                 let call = Call::GiveBack { addr, stated };
                 let reply = outcome.reply();
-                self.entries.push_reserved(Entry::plain(who, call, reply, before, before));
+                self.entries
+                    .push_reserved(Entry::plain(who, call, reply, before, before));
                 Ok(outcome.reply())
             }
             Judgement::Accepted(slot) => {
@@ -313,7 +314,8 @@ impl<P: Pages> ClassHeap<P> {
         let outcome = measure(&self.slabs, &self.shape, addr);
         let call = Call::Measure { addr };
         let reply = outcome.reply();
-        self.entries.push_reserved(Entry::plain(who, call, reply, faults, faults));
+        self.entries
+            .push_reserved(Entry::plain(who, call, reply, faults, faults));
         Ok(outcome.reply())
     }
 
@@ -333,7 +335,8 @@ impl<P: Pages> ClassHeap<P> {
         let fetched = fetch(&self.slabs, &self.pages, self.alloc, &self.shape, addr, len)?;
         let (reply, answer) = replies(self.alloc, fetched)?;
         let call = Call::Fetch { addr, len };
-        self.entries.push_reserved(Entry::plain(who, call, reply, faults, faults));
+        self.entries
+            .push_reserved(Entry::plain(who, call, reply, faults, faults));
         Ok(answer)
     }
 
@@ -356,7 +359,8 @@ impl<P: Pages> ClassHeap<P> {
         let outcome = fill(&self.slabs, &mut self.pages, &self.shape, addr, &bytes);
         let call = Call::Fill { addr, runs };
         let reply = outcome.reply();
-        self.entries.push_reserved(Entry::plain(who, call, reply, faults, faults));
+        self.entries
+            .push_reserved(Entry::plain(who, call, reply, faults, faults));
         Ok(outcome.reply())
     }
 }

@@ -6,7 +6,7 @@ ghost use Rattle.hm_sizes.specs.Classes.{class_count};
 
 use crate::ClassHeap;
 use hm_model::{Draws, Reply, Runs, Who};
-use hm_outside::{FailingPages, NoMemory, Pages, PlainPages};
+use hm_outside::{FailingPages, NoMemory, PageFault, PageRefusal, Pages, PlainPages};
 use hm_sizes::{ClassId, Config, Kind, class_of};
 use std::alloc::Global;
 use std::test::Fail;
@@ -29,6 +29,53 @@ const WHO: Who = Who {
     step: 1,
     part: 1,
 };
+
+/// Pages that tell nothing and lend nothing.
+#[derive(Drop)]
+struct SilentPages;
+
+impl Pages for SilentPages {
+    ghost use Rattle.std.specs.Prelude.{false};
+    ghost use Rattle.std.specs.FinMap as map;
+
+    ghost told = { λ p. false };
+
+    ghost runs = { λ p. map.empty };
+
+    ghost faults = { λ p. 0 };
+
+    ghost can_write = { λ p addr len. ⊥ };
+
+    ghost after_write = { λ p addr len bytes. p };
+
+    ghost written = { λ p addr bytes never. absurd never };
+
+    fn make_accessible(&mut self, _first: u64, _pages: u32) -> Result<(), PageRefusal> {
+        Ok(())
+    }
+
+    fn drop_contents(&mut self, _first: u64, _pages: u32) -> Result<(), PageFault> {
+        Ok(())
+    }
+
+    fn purge(&mut self, _first: u64, _pages: u32) {}
+
+    fn bytes(&self, _addr: u64, _len: usize) -> Option<&[u8]> {
+        None
+    }
+
+    fn holds(&self, _addr: u64, _len: usize) -> bool {
+        false
+    }
+
+    fn bytes_mut(&mut self, _addr: u64, _len: usize) -> &mut [u8] {
+        unreachable!()
+    }
+
+    fn faults(&self) -> u64 {
+        0
+    }
+}
 
 /// A region in arena 0 of a run, whose quarantine has this base.
 fn region_of<P: Pages>(
@@ -92,6 +139,28 @@ fn stain<P: Pages>(alloc: Global, region: &mut ClassHeap<P>, addr: u64) -> Resul
         Reply::Filled => Ok(()),
         _ => Err(Fail::new("not written")),
     }
+}
+
+/// A byte and how often it stands in a row.
+type Run = Option<(u8, u64)>;
+
+/// The first two runs of five bytes from an address on.
+fn two_runs<P: Pages>(region: &mut ClassHeap<P>, addr: u64) -> Result<(Run, Run), Fail> {
+    match region.fetch(WHO, addr.min(LAST), 5)? {
+        Reply::Bytes(runs) => Ok((runs.pairs().first().copied(), runs.pairs().get(1).copied())),
+        _ => Err(Fail::new("not read")),
+    }
+}
+
+/// Whether a write of one byte is answered by a trap at its address.
+fn write_traps<P: Pages>(
+    alloc: Global,
+    region: &mut ClassHeap<P>,
+    addr: u64,
+) -> Result<bool, Fail> {
+    let runs = Runs::same(alloc, 0x41, 1)?;
+    let reply = region.fill(WHO, addr.min(LAST), &runs)?;
+    Ok(matches!(reply, Reply::Trap { addr: at } if at == addr))
 }
 
 /// The slabs that a call opened, retired and purged.
@@ -558,4 +627,27 @@ fn slabs_of_no_bytes(rt: HostRuntime) -> Result<(), Fail> {
     assert_eq!(rt; moved(&region, 18_431), Some((None, None, None)));
     assert_eq!(rt; moved(&region, 18_687), Some((None, Some(64), None)));
     Ok(())
+}
+
+#[test]
+fn bytes_that_were_written_are_read(rt: HostRuntime) -> Result<(), Fail> {
+    let alloc = rt.alloc();
+    let mut region = region(alloc, 7, 1, PlainPages::new(alloc))?;
+    let block = given(&mut region, 100)?;
+    stain(alloc, &mut region, block)?;
+    assert_eq!(rt;
+        two_runs(&mut region, block)?,
+        (Some((0x41, 1)), Some((0, 4)))
+    );
+    Ok(())
+}
+
+#[test]
+fn pages_that_lend_nothing(rt: HostRuntime) -> Result<(), Fail> {
+    let alloc = rt.alloc();
+    let mut region = region(alloc, 7, 1, SilentPages)?;
+    let block = given(&mut region, 100)?;
+    assert_eq!(rt; trap(&mut region, block)?, Some(block));
+    assert!(rt; write_traps(alloc, &mut region, block)?);
+    free(&mut region, block)
 }

@@ -265,3 +265,8 @@ trap_left c s q len (suc left) sound guarded (a, x, there, low, high) lt =
 pub left_held : (live : Blocks) (q len left : ℕ) → 1 ≤ len → IsLeft live q left → len ≤ left → HeldByNone live q len → ⊥
 left_held live q len zero some is le none = omega arith
 left_held live q len (suc left) some (a, x, there, low, high) le none = none a x there low (omega arith)
+
+pub none_left : (c : Config) (s : State) (q len left : ℕ) → IsSound c s → 1 ≤ len → IsLeft s.live q left → len ≤ left → first_trap s.live q len ≡ None
+none_left c s q len zero sound some is le = absurd (omega arith)
+none_left c s q len (suc left) sound some (a, x, there, low, high) le =
+    no_trap s.live q len (λ k l h. ap is_some (byte_there c s.live a k x sound.live (omega (arith, sound.once k)) there (omega arith) (omega arith)))

@@ -75,6 +75,10 @@ abbrev pub first_trap : Blocks → ℕ → ℕ → Option ℕ
 first_trap blocks a zero = None
 first_trap blocks a (suc len) = if is_some (byte_at blocks a) then first_trap blocks (a + 1) len else Some a
 
+-- where such a range traps that is not lent: there, or at its own address where all are accessible
+abbrev pub trap_in : Blocks → ℕ → ℕ → ℕ
+trap_in blocks a len = unwrap_or (first_trap blocks a len) a
+
 -- len bytes from a on
 abbrev pub bytes_read : Blocks → ℕ → ℕ → List ℕ
 bytes_read blocks a zero = []

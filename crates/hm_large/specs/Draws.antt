@@ -11,16 +11,13 @@ use Rattle.hm_model.specs.Calls.{no_words, one_word}
 use Rattle.hm_model.specs.Machine.{Legal}
 use Rattle.hm_model.specs.Maps.{at}
 use Rattle.hm_quarantine.specs.LookingBack.{released}
+use Rattle.hm_sizes.specs.Origins.{large_region_number}
 use Rattle.hm_large.specs.Blocks.{Block, size_for, guard_of, is_quarantined}
 use Rattle.hm_large.specs.State.{State, start, step, array_length, ring_length, free_of}
 
--- the number of the large region's stream
-abbrev pub stream_number : ℕ
-stream_number = 196
-
--- the stream of a run once so many of its words are taken
+-- the stream of a run once so many of its words are taken; its number is the region's
 abbrev pub stream_after : ℕ → ℕ → Words
-stream_after seed zero = start_of seed stream_number
+stream_after seed zero = start_of seed large_region_number
 stream_after seed (suc n) = after_word (stream_after seed n)
 
 -- the next word after so many

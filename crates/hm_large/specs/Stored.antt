@@ -48,10 +48,14 @@ module _ {P : Type 0} (meaning : pages.Ghosts P) where
       × (IsTrue (meaning.told before) → meaning.runs now ≡ map.insert (meaning.runs before) addr (zeros (size_for asked)))
       × (meaning.faults before ≤ meaning.faults now)
   Ends c number s asked align new before now guard outcome.NoSpace =
-      ((a : ℕ) → IsCandidate c s align (size_for asked) guard a → ⊥) × Shows c number (record s { words = suc s.words }) new × SameRuns before now
+      ((a : ℕ) → IsCandidate c s align (size_for asked) guard a → ⊥)
+      × Shows c number (record s { words = suc s.words }) new
+      × SameRuns before now
       × (meaning.faults now ≡ meaning.faults before)
   Ends c number s asked align new before now guard outcome.PagesFailed =
-      ((a : ℕ) × IsCandidate c s align (size_for asked) guard a) × Shows c number (record s { words = suc s.words }) new × SameRuns before now
+      ((a : ℕ) × IsCandidate c s align (size_for asked) guard a)
+      × Shows c number (record s { words = suc s.words }) new
+      × SameRuns before now
       × (meaning.faults before < meaning.faults now)
 
   -- the next word was drawn, and the guard by it

@@ -8,12 +8,10 @@ ghost use Rattle.hm_choice.specs.Stream.{next_word, after_word};
 ghost use Rattle.hm_outside.specs.PageRuns.{MeetsNone, zeros};
 ghost use Rattle.hm_outside.specs.Causes.{HasRefusalCause};
 ghost use Rattle.hm_space.specs.Space.{IsFreeRange, TakesRange};
-ghost use Rattle.hm_sizes.specs.Configs.{IsValid};
 ghost use Rattle.hm_sizes.specs.declared.config.Config.{Config};
 ghost use Rattle.hm_large.specs.Blocks.{size_for, guard_of};
 ghost use Rattle.hm_large.specs.State.{State};
 ghost use Rattle.hm_large.specs.Rules.{IsAlignment};
-ghost use Rattle.hm_large.specs.Laws.{IsSound};
 ghost use Rattle.hm_large.specs.Region.{HoldsBlocks};
 ghost use Rattle.hm_large.specs.Kept.{Shows};
 ghost use Rattle.hm_large.specs.Stored.{Allots, Declines, Stands};
@@ -129,7 +127,7 @@ pub fn allot<P: Pages>(
     requires stands { Stands (P.told pages.old) (P.runs pages.old) store.old }
     ensures told { P.told pages.new ≡ P.told pages.old }
     ensures owed { store.new.owed ≤ store.old.owed + 1 }
-    ensures allots { IfOk result (λ attempt. (c : Config) (number : ℕ) (s : State) → IsSound c s → Shows c number s store.old
+    ensures allots { IfOk result (λ attempt. (c : Config) (number : ℕ) (s : State) → Shows c number s store.old
         → Allots P.Pages c number s asked align store.new pages.old pages.new attempt) }
     ensures declines { OnErr result ((c : Config) (number : ℕ) (s : State) → Shows c number s store.old
         → Declines P.Pages c number s store.new pages.old pages.new) }

@@ -10,7 +10,7 @@ ghost use Rattle.hm_sizes.specs.Configs.{IsValid};
 ghost use Rattle.hm_large.specs.Blocks.{Block};
 ghost use Rattle.hm_large.specs.Rules.{IsAlignment, chose, chose_guard, wrong_size};
 ghost use Rattle.hm_large.specs.Region.{region_state, origin, IsRegion};
-ghost use Rattle.hm_large.specs.Calls.{Added, IsBuilt};
+ghost use Rattle.hm_large.specs.Calls.{Added, IsBuilt, TrapsIn};
 ghost use Rattle.hm_large.specs.Stored.{attempt_reply, free_draws, measured_reply};
 
 use crate::access::{read, trap_from, write};
@@ -253,7 +253,8 @@ impl<P: Pages> LargeHeap<P> {
         ensures added { IfOk result (Added P.Pages self.old self.new who (Call.GiveBack addr stated)) }
         ensures replies { IfOk result (IsLargeReply (Call.GiveBack addr stated)) }
         ensures memory { OnErr result (self.new.entries ≡ self.old.entries) }
-        ensures accepted { (b : Block) → at addr (region_state P.told self.old).live ≡ Some b → b.failed ≡ false → wrong_size (Some b) stated ≡ None → IsOk result }
+        ensures accepted { (b : Block) → at addr (region_state P.told self.old).live ≡ Some b → b.failed ≡ false
+            → wrong_size (Some b) stated ≡ None → IsOk result }
         ensures origin { origin P.told self.new ≡ origin P.told self.old }
         ensures region { IsRegion P.Pages self.new }
     {
@@ -281,7 +282,13 @@ impl<P: Pages> LargeHeap<P> {
                         mark_failed(&mut self.store, addr, block);
                         let call = Call::GiveBack { addr, stated };
                         self.entries
-                            .push_reserved(Entry::plain(who, call, Reply::PagesFailed, before, now));
+                            .push_reserved(Entry::plain(
+                                who,
+                                call,
+                                Reply::PagesFailed,
+                                before,
+                                now,
+                            ));
                         Ok(Reply::PagesFailed)
                     }
                 }
@@ -306,13 +313,15 @@ impl<P: Pages> LargeHeap<P> {
         Ok(measured(block))
     }
 
-    /// The `len` bytes from an address on, or the first address that is not accessible.
+    /// The `len` bytes from an address on, or the first address that is not accessible. A live range that the
+    /// pages do not lend traps at its own address.
     pub fn fetch(&mut self, who: Who, addr: u64, len: u64) -> Result<Reply, NoMemory>
         requires some { 1 ≤ len }
         requires most { len ≤ 2 ^ 30 }
         requires low { addr < 2 ^ 47 }
         ensures added { IfOk result (Added P.Pages self.old self.new who (Call.Fetch addr len)) }
         ensures replies { IfOk result (IsLargeReply (Call.Fetch addr len)) }
+        ensures trap { IfOk result (TrapsIn (region_state P.told self.old).live addr len) }
         ensures memory { OnErr result (self.new.entries ≡ self.old.entries) }
         ensures origin { origin P.told self.new ≡ origin P.told self.old }
         ensures region { IsRegion P.Pages self.new }
@@ -338,13 +347,15 @@ impl<P: Pages> LargeHeap<P> {
         }
     }
 
-    /// Writes bytes from an address on, or names the first address that is not accessible.
+    /// Writes bytes from an address on, or names the first address that is not accessible. A live range that
+    /// the pages do not lend traps at its own address.
     pub fn fill(&mut self, who: Who, addr: u64, runs: &Runs) -> Result<Reply, NoMemory>
         requires some { 1 ≤ length (expand runs.now) }
         requires most { length (expand runs.now) ≤ 2 ^ 30 }
         requires low { addr < 2 ^ 47 }
         ensures added { IfOk result (Added P.Pages self.old self.new who (Call.Fill addr runs.now)) }
         ensures replies { IfOk result (IsLargeReply (Call.Fill addr runs.now)) }
+        ensures trap { IfOk result (TrapsIn (region_state P.told self.old).live addr (length (expand runs.now))) }
         ensures memory { OnErr result (self.new.entries ≡ self.old.entries) }
         ensures origin { origin P.told self.new ≡ origin P.told self.old }
         ensures region { IsRegion P.Pages self.new }

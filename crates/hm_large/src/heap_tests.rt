@@ -5,7 +5,7 @@ ghost use Rattle.hm_model.specs.Runs.{expand};
 
 use crate::LargeHeap;
 use hm_model::{Reply, Runs, Who};
-use hm_outside::{FailingPages, NoMemory, Pages, PlainPages};
+use hm_outside::{FailingPages, NoMemory, PageFault, PageRefusal, Pages, PlainPages};
 use hm_sizes::Config;
 use std::alloc::Global;
 use std::test::Fail;
@@ -23,6 +23,53 @@ const SPACE_START: u64 = 1 << 46;
 
 /// The last address that a call may name.
 const LAST: u64 = (1 << 47) - 1;
+
+/// Pages that tell nothing and lend nothing.
+#[derive(Drop)]
+struct SilentPages;
+
+impl Pages for SilentPages {
+    ghost use Rattle.std.specs.Prelude.{false};
+    ghost use Rattle.std.specs.FinMap as map;
+
+    ghost told = { λ p. false };
+
+    ghost runs = { λ p. map.empty };
+
+    ghost faults = { λ p. 0 };
+
+    ghost can_write = { λ p addr len. ⊥ };
+
+    ghost after_write = { λ p addr len bytes. p };
+
+    ghost written = { λ p addr bytes never. absurd never };
+
+    fn make_accessible(&mut self, _first: u64, _pages: u32) -> Result<(), PageRefusal> {
+        Ok(())
+    }
+
+    fn drop_contents(&mut self, _first: u64, _pages: u32) -> Result<(), PageFault> {
+        Ok(())
+    }
+
+    fn purge(&mut self, _first: u64, _pages: u32) {}
+
+    fn bytes(&self, _addr: u64, _len: usize) -> Option<&[u8]> {
+        None
+    }
+
+    fn holds(&self, _addr: u64, _len: usize) -> bool {
+        false
+    }
+
+    fn bytes_mut(&mut self, _addr: u64, _len: usize) -> &mut [u8] {
+        unreachable!()
+    }
+
+    fn faults(&self) -> u64 {
+        0
+    }
+}
 
 /// A region with a large space of so many bytes.
 fn region_of<P: Pages>(alloc: Global, pages: P, large_space: u64) -> Result<LargeHeap<P>, NoMemory>
@@ -205,5 +252,19 @@ fn failed_drop_leaves_the_block(rt: HostRuntime) -> Result<(), Fail> {
     assert!(rt; matches!(region.give_back(WHO, addr, None)?, Reply::PagesFailed));
     assert!(rt; matches!(region.measure(WHO, addr)?, Reply::Usable(229_376)));
     assert!(rt; matches!(region.give_back(WHO, addr, None)?, Reply::Freed));
+    Ok(())
+}
+
+#[test]
+fn pages_that_lend_nothing(rt: HostRuntime) -> Result<(), Fail> {
+    let alloc = rt.alloc();
+    let mut region = standard(alloc, SilentPages)?;
+    let (block, _) = given(allot(&mut region, 200_000)?);
+    assert!(rt; matches!(fetch_one(&mut region, block)?, Reply::Trap { addr } if addr == block));
+    let runs = Runs::same(alloc, 7, 100)?;
+    assert!(rt;
+        matches!(fill_at(&mut region, block, &runs)?, Reply::Trap { addr } if addr == block)
+    );
+    assert!(rt; matches!(region.give_back(WHO, block, None)?, Reply::Freed));
     Ok(())
 }

@@ -65,8 +65,8 @@ fn replace(store: &mut Store, addr: u64, block: KeptBlock)
 /// Takes a live block back, its pages being dropped already.
 pub fn release(store: &mut Store, addr: u64, block: KeptBlock) -> Freeing
     requires { StandsLive store.old addr block }
-    ensures frees { (c : Config) (number : ℕ) (s : State) (x : Block) → IsSound c s → Shows c number s store.old → at addr s.live ≡ Some x
-        → Frees c number s addr x store.new result }
+    ensures frees { (c : Config) (number : ℕ) (s : State) (x : Block) → IsSound c s → Shows c number s store.old
+        → at addr s.live ≡ Some x → Frees c number s addr x store.new result }
     ensures owed { store.new.owed + (if block.failed then 0 else 1) ≡ store.old.owed }
 {
     uncount(store, block.failed);
@@ -102,8 +102,8 @@ pub fn release(store: &mut Store, addr: u64, block: KeptBlock) -> Freeing
 /// used up.
 pub fn mark_failed(store: &mut Store, addr: u64, block: KeptBlock)
     requires { StandsLive store.old addr block }
-    ensures shows { (c : Config) (number : ℕ) (s : State) (x : Block) → IsSound c s → Shows c number s store.old → at addr s.live ≡ Some x
-        → Shows c number (record s { live = marked addr s.live }) store.new }
+    ensures shows { (c : Config) (number : ℕ) (s : State) (x : Block) → IsSound c s → Shows c number s store.old
+        → at addr s.live ≡ Some x → Shows c number (record s { live = marked addr s.live }) store.new }
     ensures owed { store.new.owed + (if block.failed then 0 else 1) ≡ store.old.owed }
 {
     uncount(store, block.failed);

@@ -23,8 +23,10 @@ pub record IsLeastAligned (r align class : ℕ) : Type 0 where
 
 -- where a request goes at an alignment above 16
 abbrev pub IsWideKindOf : ℕ → ℕ → Kind → Type 0
-IsWideKindOf asked align (Small class) = (align ≤ 4096) × (raised asked ≤ 131072) × IsLeastAligned (raised asked) align class.0
-IsWideKindOf asked align (Large size) = ((4096 < align) ⊎ (131072 < raised asked)) × (asked ≤ 2 ^ 30) × (size ≡ large_size (raised asked))
+IsWideKindOf asked align (Small class) =
+    (align ≤ 4096) × (raised asked ≤ 131072) × IsLeastAligned (raised asked) align class.0
+IsWideKindOf asked align (Large size) =
+    ((4096 < align) ⊎ (131072 < raised asked)) × (asked ≤ 2 ^ 30) × (size ≡ large_size (raised asked))
 IsWideKindOf asked align TooLarge = 2 ^ 30 < asked
 
 -- where a request goes at an alignment

@@ -34,6 +34,7 @@ region_of arena class = record { 0 = arena * class_count + class }
 -- the ranges of the class regions follow one another
 abbrev pub home_of : Config → ℕ → Home
 home_of c a =
-    if nat_le (2 ^ 40) a && nat_lt a (reserved_start c (region_count c)) then Class (record { 0 = (a - 2 ^ 40) / (2 * c.class_region) })
+    if nat_le (2 ^ 40) a && nat_lt a (reserved_start c (region_count c))
+    then Class (record { 0 = (a - 2 ^ 40) / (2 * c.class_region) })
     else if nat_le (2 ^ 46) a && nat_lt a (2 ^ 46 + c.large_space) then Large
     else Outside

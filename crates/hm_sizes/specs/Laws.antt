@@ -94,19 +94,22 @@ ReservesItsSpace = (c : Config) (arena class a : ℕ) → arena < c.arenas → c
 
 -- the home of each address that a class region reserves is that region
 abbrev pub HomesOfRegions : Type 0
-HomesOfRegions = (c : Config) (region : RegionId) (a : ℕ) → IsValid c → IsInRegion c region.0 a → home_of c a ≡ Class region
+HomesOfRegions = (c : Config) (region : RegionId) (a : ℕ) → IsValid c → IsInRegion c region.0 a
+    → home_of c a ≡ Class region
 
 -- the home of each address of a slab is its region
 abbrev pub HomesOfSlabs : Type 0
-HomesOfSlabs = (c : Config) (arena : ℕ) (class : ClassId) (gap n a : ℕ) → IsValid c → arena < c.arenas → class.0 < class_count
-    → gap ≤ c.class_region → n < (shape_of c arena class gap).limit
-    → slab_at (shape_of c arena class gap) n ≤ a → a < slab_at (shape_of c arena class gap) n + (shape_of c arena class gap).slab
+HomesOfSlabs = (c : Config) (arena : ℕ) (class : ClassId) (gap n a : ℕ) → IsValid c → arena < c.arenas
+    → class.0 < class_count → gap ≤ c.class_region → n < (shape_of c arena class gap).limit
+    → slab_at (shape_of c arena class gap) n ≤ a
+    → a < slab_at (shape_of c arena class gap) n + (shape_of c arena class gap).slab
     → home_of c a ≡ Class (region_of arena class.0)
 
 -- the home of each place is its region
 abbrev pub HomesOfPlaces : Type 0
-HomesOfPlaces = (c : Config) (arena : ℕ) (class : ClassId) (gap a : ℕ) → IsValid c → arena < c.arenas → class.0 < class_count
-    → gap ≤ c.class_region → IsPlace (shape_of c arena class gap) a → home_of c a ≡ Class (region_of arena class.0)
+HomesOfPlaces = (c : Config) (arena : ℕ) (class : ClassId) (gap a : ℕ) → IsValid c → arena < c.arenas
+    → class.0 < class_count → gap ≤ c.class_region → IsPlace (shape_of c arena class gap) a
+    → home_of c a ≡ Class (region_of arena class.0)
 
 -- the home of each byte of the large space is the large region
 abbrev pub HomesOfLarge : Type 0
@@ -128,7 +131,8 @@ pub record IsServedBy (align class : ℕ) : Type 0 where
   pub multiple : slot_size class % align ≡ 0
 
 abbrev pub ChoosesMultiples : Type 0
-ChoosesMultiples = (asked align : ℕ) (class : ClassId) → IsAlignment align → IsAlignedKindOf asked align (Small class) → IsServedBy align class.0
+ChoosesMultiples = (asked align : ℕ) (class : ClassId) → IsAlignment align → IsAlignedKindOf asked align (Small class)
+    → IsServedBy align class.0
 
 -- a place of the class that was chosen for an alignment is a multiple of it
 abbrev pub PlacesAligned : Type 0

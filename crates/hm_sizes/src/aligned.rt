@@ -40,7 +40,8 @@ pub fn class_aligned(asked: u64, align: u64) -> Option<Kind>
 /// The least class whose slots hold `size` bytes and stand at multiples of `align`.
 fn least_aligned(size: u64, align: u64) -> Option<ClassId>
     requires { 16 < align }
-    ensures { MatchOption result ((class : ℕ) → ¬ ServesAligned size align class) (λ class. IsLeastAligned size align class.0) }
+    ensures { MatchOption result ((class : ℕ) → ¬ ServesAligned size align class)
+        (λ class. IsLeastAligned size align class.0) }
 {
     let class = SIZE_CLASSES.iter().position(|class| class.slot >= size
         && class.slot.is_multiple_of(align))?;

@@ -11,6 +11,7 @@ mod Forms
 mod GoodLines
 mod Hex
 mod Kept
+mod Lengths
 mod NameSets
 mod Numerals
 mod Parts

@@ -153,3 +153,12 @@ ends p h = record { each = all_rounds p.stage p.rounds p.scripts p.steps h.close
 -- the open script is a script
 pub open_script : (p : Progress) (t : ℕ) → p.stage ≡ InScript t → IsProgress p → is_script (script t p.steps) ≡ true
 open_script p t e h = let open_round : is_round (scripts_after (InScript t) p.scripts p.steps) ≡ true = subst (λ stage. is_round (scripts_after stage p.scripts p.steps) ≡ true) e h.open_round in (are_split [] 0 p.scripts (script t p.steps) open_round).1.fits
+
+-- its steps are among those of all rounds
+open_among : (rs : List (List ScriptView)) (ss : List ScriptView) (t : ℕ) (steps : List StepView) → length steps ≤ step_count (rs ++ (ss ++ script t steps ∷ []) ∷ [])
+open_among rs ss t steps = simp (flat_map-append, append-nil, length-append) (omega arith)
+
+pub open_few : (p : Progress) (t : ℕ) → p.stage ≡ InScript t → IsProgress p → length p.steps ≤ 200000
+open_few p t e h =
+    let counted : step_count (rounds_after (InScript t) p.rounds p.scripts p.steps) ≡ p.count = subst (λ stage. step_count (rounds_after stage p.rounds p.scripts p.steps) ≡ p.count) e h.counted in
+    omega (arith, open_among p.rounds p.scripts t p.steps, counted, h.count_fits)

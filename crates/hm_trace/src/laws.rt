@@ -1,6 +1,6 @@
 //! What ties the spelling of traces to the table of faults: a text has no fault exactly where it is the
-//! spelling of a trace, and of one trace alone.
-ghost use Rattle.std.specs.Prelude.{◌≡◌, ℕ, List, None};
+//! spelling of a trace, and of one trace alone. And how long a spelling is at most.
+ghost use Rattle.std.specs.Prelude.{◌≡◌, ◌≤◌, ℕ, List, None, length};
 ghost use Rattle.hm_trace.specs.Faults.{text_fault};
 ghost use Rattle.hm_trace.specs.Spelling.{spelling};
 ghost use Rattle.hm_trace.specs.Traces.{IsTrace};
@@ -19,4 +19,9 @@ pub fn spellings_have_no_fault()
 /// Two traces of one spelling are one trace.
 pub fn spellings_differ()
     ensures { (one other : List (List ScriptView)) → IsTrace one → IsTrace other → spelling one ≡ spelling other → one ≡ other }
+{}
+
+/// The spelling of a trace has at most 67,108,864 bytes.
+pub fn spellings_are_short()
+    ensures { (trace : List (List ScriptView)) → IsTrace trace → length (spelling trace) ≤ 67108864 }
 {}

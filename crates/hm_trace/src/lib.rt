@@ -17,7 +17,9 @@ mod words;
 mod writing;
 
 pub use fault::{FaultKind, ReadRefusal, TraceFault};
-pub use laws::{spellings_differ, spellings_have_no_fault, texts_without_fault_are_spelled};
+pub use laws::{
+    spellings_are_short, spellings_differ, spellings_have_no_fault, texts_without_fault_are_spelled,
+};
 pub use names::Name;
 pub use reading::read_trace;
 pub use step::{Place, Step};

@@ -1,5 +1,5 @@
 //! Scripts, rounds and traces. Each keeps as a fact what the grammar says of it, and reading alone makes them.
-ghost use Rattle.std.specs.Prelude.{◌≡◌, ◌≤◌, true};
+ghost use Rattle.std.specs.Prelude.{◌≡◌, ◌≤◌, true, length};
 ghost use Rattle.std.specs.List.{list_all};
 ghost use Rattle.hm_trace.specs.Traces.{is_step, is_script, is_round, IsTrace};
 ghost use Rattle.hm_trace.specs.Views.{ScriptView, steps_view};
@@ -8,7 +8,7 @@ use crate::step::Step;
 use hm_outside::List;
 use std::marker::Model;
 
-/// The steps of a thread in a round.
+/// The steps of a thread in a round, at most 200,000.
 #[derive(Drop)]
 pub struct Script {
     thread: u32,
@@ -16,7 +16,7 @@ pub struct Script {
 }
 
 impl Model for Script {
-    ghost use Rattle.std.specs.Prelude.{◌≡◌, true};
+    ghost use Rattle.std.specs.Prelude.{◌≡◌, ◌≤◌, true, length};
     ghost use Rattle.hm_trace.specs.Traces.{is_script};
     ghost use Rattle.hm_trace.specs.Views.{ScriptView, steps_view};
 
@@ -24,12 +24,14 @@ impl Model for Script {
 
     ghost view = { λ s. record { thread = s.thread; steps = steps_view s.steps } };
 
-    ghost invariant = { λ s. is_script (record { thread = s.thread; steps = steps_view s.steps }) ≡ true };
+    ghost invariant = { λ s. (is_script (record { thread = s.thread; steps = steps_view s.steps }) ≡ true)
+        × (length s.steps ≤ 200000) };
 }
 
 impl Script {
     pub(crate) fn of(thread: u32, steps: Vec<Step>) -> Script
-        requires { is_script (record { thread = thread; steps = steps_view steps.items }) ≡ true }
+        requires valid { is_script (record { thread = thread; steps = steps_view steps.items }) ≡ true }
+        requires few { length steps.items ≤ 200000 }
         ensures { result ≡ record { thread = thread; steps = steps_view steps.items } }
     {
         Script {
@@ -50,6 +52,7 @@ impl Script {
     pub fn steps(&self) -> &[Step]
         ensures all { steps_view result.now ≡ self.now.steps }
         ensures valid { list_all is_step self.now.steps ≡ true }
+        ensures few { length result.now ≤ 200000 }
     {
         self.steps.items()
     }

@@ -1,7 +1,7 @@
 -- Splitting, joining and closing keep the rule.
-use Rattle.std.proofs.Common.{◌≡◌, ◌≢◌, ℕ, zero, suc, ◌<◌, ◌≤◌, Bool, true, false, eqb, ◌||◌, cond, ◌⊎◌, List, [], ◌∷◌, ◌++◌, length, set, sym, refl, ap, ◌∙◌, subst, inl, inr, ⊎_elim, arith, Option, None, Some, eq-eqb, ne_eqb}
+use Rattle.std.proofs.Common.{◌≡◌, ◌≢◌, ℕ, ◌<◌, ◌≤◌, Bool, true, false, eqb, ◌||◌, cond, ◌⊎◌, List, [], ◌∷◌, ◌++◌, length, set, sym, refl, ap, ◌∙◌, subst, inl, inr, ⊎_elim, arith, Option, None, Some, eq-eqb, ne_eqb}
 use lib.Dec.{ltb}
-use mathlib.Core.Option.{Option as Place, some, some-injective, some-ne-none}
+use mathlib.Core.Option.{Option as Place, some}
 use mathlib.Core.Logic.{dite}
 use native.Mathlib.Decide.{ℕ_discrete}
 use lib.ListN.{get_elem?}
@@ -17,14 +17,9 @@ use Rattle.hm_turn.specs.Rule.{At, Fits, IsHome, IsOut, Orderly}
 use Rattle.hm_turn.specs.Knowledge.{Knowledge}
 use Rattle.hm_turn.specs.Views.{knowledge, view_in, splitting, entering, joining, spent}
 use Rattle.hm_turn.specs.Known.{IsWhole}
-use Rattle.hm_turn.proofs.Views.{set_at, one_at, not_true, apart_bools, backwards, forwards}
+use Rattle.hm_turn.proofs.Views.{set_at, one_at, at_snoc, not_true, apart_bools, backwards, forwards}
+use Rattle.hm_turn.proofs.Queues.{queue_kept, queue_spent, queue_snoc}
 use Rattle.hm_turn.proofs.Numbers.{without, in_without, in_before, length-without, gone_without, distinct-without}
-
-at_snoc : {A : Type 0} (l : List A) (a b : A) (j : ℕ) → get_elem? (l ++ a ∷ []) j ≡ some b → (get_elem? l j ≡ some b) ⊎ ((j ≡ length l) × (a ≡ b))
-at_snoc [] a b zero e = inr (refl, some-injective a b e)
-at_snoc [] a b (suc j) e = absurd (some-ne-none b (sym e))
-at_snoc (x ∷ xs) a b zero e = inl e
-at_snoc (x ∷ xs) a b (suc j) e = ⊎_elim (λ p. inl p) (λ t. inr (ap suc t.0, t.1)) (at_snoc xs a b j e)
 
 at_end : {A : Type 0} (l : List A) (a : A) → get_elem? (l ++ a ∷ []) (length l) ≡ some a
 at_end [] a = refl
@@ -77,15 +72,15 @@ module _ {T : Type 0} (entries : T → List Entry) (origin_of : T → List ℕ) 
   abbrev Rule : St → Type 0
   Rule = Orderly entries origin_of origin
 
-  abbrev Where : List Entry → St → Type 0
-  Where history s = IsHome entries origin_of origin history s ⊎ IsOut entries origin_of history s
+  abbrev Where : ℕ → List Entry → St → Type 0
+  Where serving history s = IsHome entries origin_of origin history s ⊎ IsOut entries origin_of serving history s
 
   -- where those who hold the turn stay the same
-  place_stays : (history : List Entry) (s : St) (views' : List View) → ((j : ℕ) (u : View) → At views' j u → u.holds ≡ true → At s.views j u) → ((j : ℕ) (u : View) → At s.views j u → u.holds ≡ true → At views' j u)
-      → Where history s → Where history record { words = s.words; homes = s.homes; views = views' }
-  place_stays history s views' there back place = ⊎_elim
-      (λ (h : IsHome entries origin_of origin history s). inl record { value = h.value; words = h.words; homes = h.homes; entries_are = h.entries_are; origin_is = h.origin_is; none_holds = λ j u p. not_true u.holds (λ q. apart_bools u.holds q (h.none_holds j u (there j u p q))) })
-      (λ (o : IsOut entries origin_of history s). inr record { holder = o.holder; view = o.view; words = o.words; homes = o.homes; at_holder = back o.holder o.view o.at_holder o.holds; holds = o.holds; holder_live = o.holder_live; knows = o.knows; only = λ j u p q. o.only j u (there j u p q) q })
+  place_stays : (serving : ℕ) (history : List Entry) (s : St) (views' : List View) → ((j : ℕ) (u : View) → At views' j u → u.holds ≡ true → At s.views j u)
+      → ((j : ℕ) (u : View) → At s.views j u → u.holds ≡ true → At views' j u) → Where serving history s → Where serving history record { words = s.words; homes = s.homes; views = views' }
+  place_stays serving history s views' there back place = ⊎_elim
+      (λ (h : IsHome entries origin_of origin history s). inl record { value = h.value; homes = h.homes; entries_are = h.entries_are; origin_is = h.origin_is; none_holds = λ j u p. not_true u.holds (λ q. apart_bools u.holds q (h.none_holds j u (there j u p q))) })
+      (λ (o : IsOut entries origin_of serving history s). inr record { holder = o.holder; view = o.view; homes = o.homes; at_holder = back o.holder o.view o.at_holder o.holds; holds = o.holds; served = o.served; holder_live = o.holder_live; knows = o.knows; only = λ j u p q. o.only j u (there j u p q) q })
       place
 
   pub splits : (id : ℕ) (v : View) (c : ℕ) → v.spent ≡ false → v.holds ≡ false → v.caller ≡ 0 → c ≢ 0 → is_among c v.used ≡ false → Splits Rule id v (splitting v c) (entering v c)
@@ -99,7 +94,11 @@ module _ {T : Type 0} (entries : T → List Entry) (origin_of : T → List ℕ) 
       (λ (z : is_among x.0.caller k.outs ≡ true). apart_bools (is_among c v.used) (ap (λ (m : ℕ). is_among m v.used) (sym e) ∙ (ap (λ (m : ℕ). is_among m v.used) (sym x.3) ∙ (ap (is_among x.0.caller) (sym used_is) ∙ k.calls.out_used x.0.caller z))) fresh) (k.seats.live j x.0 x.1 x.2) in
       let fits = r.each id v at lives in record {
         history = r.history;
-        place = place_stays r.history s vs
+        ticket = r.ticket;
+        serving = r.serving;
+        words = r.words;
+        queue = queue_snoc r.ticket r.serving mid right (queue_kept r.ticket r.serving s.views id v left r.queue at refl (λ n q. r.queue.noted id v n at q)) refl refl;
+        place = place_stays r.serving r.history s vs
             (λ j u p q. ⊎_elim (λ (t : At mid j u). ⊎_elim (λ (w : (j ≡ id) × (left ≡ u)). absurd (apart_bools u.holds q (ap (λ (z : View). z.holds) (sym w.1) ∙ rests))) (λ (w : (j ≢ id) × At s.views j u). w.1) (at_set s.views id j left u t))
             (λ (t : (j ≡ length mid) × (right ≡ u)). absurd (apart_bools u.holds q (ap (λ (z : View). z.holds) (sym t.1)))) (at_snoc mid right u j p))
             (λ j u p q. at_longer mid (right ∷ []) j u (set_else s.views id j left (λ e. apart_bools u.holds q (ap (λ (z : View). z.holds) (one_at s.views id u v (ap (get_elem? s.views) (sym e) ∙ p) at) ∙ rests)) ∙ p))
@@ -139,8 +138,8 @@ module _ {T : Type 0} (entries : T → List Entry) (origin_of : T → List ℕ) 
         };
       }
 
-  pub joins : (id : ℕ) (v : View) (other : ℕ) (w : View) → v.spent ≡ false → v.holds ≡ false → v.caller ≡ 0 → w.spent ≡ false → w.holds ≡ false → Joins Rule id v other w (joining v w) spent
-  joins id v other w lives rests zero_is livew restw s r at other_one there = let both : View = joining v w in let mid : List View = set s.views id both in let vs : List View = set mid other spent in let k = r.callers in
+  pub joins : (id : ℕ) (v : View) (other : ℕ) (w : View) → v.spent ≡ false → v.holds ≡ false → v.caller ≡ 0 → w.spent ≡ false → w.holds ≡ false → w.ticket ≡ None → Joins Rule id v other w (joining v w) spent
+  joins id v other w lives rests zero_is livew restw no_ticket s r at other_one there = let both : View = joining v w in let mid : List View = set s.views id both in let vs : List View = set mid other spent in let k = r.callers in
       let root_is : k.root ≡ id = k.seats.apart k.root id k.chief v k.seats.at_root at k.seats.root_live lives (k.seats.root_zero ∙ sym zero_is) in
       let chief_is : k.chief ≡ v = one_at s.views id k.chief v (ap (get_elem? s.views) (sym root_is) ∙ k.seats.at_root) at in
       let used_is : k.chief.used ≡ v.used = ap (λ (z : View). z.used) chief_is in let ended_is : k.chief.ended ≡ v.ended = ap (λ (z : View). z.ended) chief_is in
@@ -151,7 +150,11 @@ module _ {T : Type 0} (entries : T → List Entry) (origin_of : T → List ℕ) 
       (λ (t : (j ≢ other) × At mid j u). let x = backwards s.views id v both at lives refl j u t.1 lu in (x.0, x.1, x.2, x.3, λ e. t.0 (k.seats.apart j other x.0 w x.1 at_other x.2 livew (x.3 ∙ e)))) (at_set mid other j spent u p) in
       let fv = r.each id v at lives in let fw = r.each other w at_other livew in record {
         history = r.history;
-        place = place_stays r.history s vs
+        ticket = r.ticket;
+        serving = r.serving;
+        words = r.words;
+        queue = queue_spent r.ticket r.serving mid other w spent (queue_kept r.ticket r.serving s.views id v both r.queue at refl (λ n q. r.queue.noted id v n at q)) there no_ticket refl refl;
+        place = place_stays r.serving r.history s vs
             (λ j u p q. ⊎_elim (λ (t : (j ≡ other) × (spent ≡ u)). absurd (apart_bools u.holds q (ap (λ (z : View). z.holds) (sym t.1))))
             (λ (t : (j ≢ other) × At mid j u). ⊎_elim (λ (x : (j ≡ id) × (both ≡ u)). absurd (apart_bools u.holds q (ap (λ (z : View). z.holds) (sym x.1) ∙ rests))) (λ (x : (j ≢ id) × At s.views j u). x.1) (at_set s.views id j both u t.1)) (at_set mid other j spent u p))
             (λ j u p q. set_else mid other j spent (λ e. apart_bools u.holds q (ap (λ (z : View). z.holds) (one_at s.views other u w (ap (get_elem? s.views) (sym e) ∙ p) at_other) ∙ restw))
@@ -219,7 +222,7 @@ module _ {T : Type 0} (entries : T → List Entry) (origin_of : T → List ℕ) 
             (λ (z : (calls : List Entry) × (ended_of c k.chief.ended ≡ Some calls)). let q : Some z.0 ≡ None = sym z.1 ∙ (ap (ended_of c) ended_is ∙ h) in absurd (cc)) (k.calls.used_are c u)));
       } in
       ⊎_elim (λ (h : IsHome entries origin_of origin r.history s). record { value = h.value; homes = h.homes; origin_is = h.origin_is; whole = subst (λ (l : List Entry). IsWhole l (knowledge v)) (sym h.entries_are) whole })
-      (λ (o : IsOut entries origin_of r.history s). absurd (⊎_elim
+      (λ (o : IsOut entries origin_of r.serving r.history s). absurd (⊎_elim
       (λ (z : o.view.caller ≡ 0). let e = k.seats.apart o.holder id o.view v o.at_holder at o.holder_live lives (z ∙ sym zero_is) in apart_bools v.holds (ap (λ (u : View). u.holds) (sym (one_at s.views id o.view v (ap (get_elem? s.views) (sym e) ∙ o.at_holder) at)) ∙ o.holds) rests)
       (λ (z : is_among o.view.caller k.outs ≡ true). apart_bools (is_among o.view.caller []) (ap (is_among o.view.caller) (sym none_out) ∙ z) refl) (k.seats.live o.holder o.view o.at_holder o.holder_live)))
       r.place

@@ -1,5 +1,5 @@
 -- Lists of views, and who is known after a change of one.
-use Rattle.std.proofs.Common.{◌≡◌, ◌≢◌, ℕ, zero, suc, Bool, true, false, ◌⊎◌, List, [], ◌∷◌, ◌++◌, set, sym, refl, ap, ◌∙◌, subst, inl, inr, ⊎_elim, Some, ne_eqb}
+use Rattle.std.proofs.Common.{◌≡◌, ◌≢◌, ℕ, zero, suc, Bool, true, false, ◌⊎◌, List, [], ◌∷◌, ◌++◌, length, set, sym, refl, ap, ◌∙◌, subst, inl, inr, ⊎_elim, Some, ne_eqb}
 use mathlib.Core.Option.{some, some-injective, some-ne-none}
 use mathlib.Core.Logic.{dite}
 use native.Mathlib.Decide.{ℕ_discrete}
@@ -23,6 +23,12 @@ set_at (x ∷ xs) (suc i) a b e = set_at xs i a b e
 
 pub one_at : {A : Type 0} (l : List A) (i : ℕ) (a b : A) → get_elem? l i ≡ some a → get_elem? l i ≡ some b → a ≡ b
 one_at l i a b p q = some-injective a b (sym p ∙ q)
+
+pub at_snoc : {A : Type 0} (l : List A) (a b : A) (j : ℕ) → get_elem? (l ++ a ∷ []) j ≡ some b → (get_elem? l j ≡ some b) ⊎ ((j ≡ length l) × (a ≡ b))
+at_snoc [] a b zero e = inr (refl, some-injective a b e)
+at_snoc [] a b (suc j) e = absurd (some-ne-none b (sym e))
+at_snoc (x ∷ xs) a b zero e = inl e
+at_snoc (x ∷ xs) a b (suc j) e = ⊎_elim (λ p. inl p) (λ t. inr (ap suc t.0, t.1)) (at_snoc xs a b j e)
 
 pub not_true : (b : Bool) → (b ≡ true → ⊥) → b ≡ false
 not_true true h = absurd (h refl)

@@ -7,7 +7,8 @@ use Rattle.hm_turn.specs.Histories.{longer}
 
 -- the turn's caller, and the origin of the lock's value;
 -- the entries seen, a beginning of the history, and the caller's own entries;
--- how many of its steps found the turn held;
+-- how many of its steps found a ticket drawn by another that was not served when the call loaded `serving`, or found
+-- 2^64 - 1 tickets drawn;
 -- the callers that it split off, how many of them are not joined, and those that are, with their entries
 pub record Knowledge : Type 0 where
   pub caller : ℕ
@@ -31,7 +32,7 @@ with_seen k entries = record k { seen = entries }
 abbrev pub with_given : Knowledge → List Entry → Knowledge
 with_given k entries = record k { seen = entries; mine = calls_of entries k.caller }
 
--- one more of its steps found the turn held
+-- one more of its steps found a ticket drawn by another that was not served, or found all tickets drawn
 abbrev pub with_lost : Knowledge → Knowledge
 with_lost k = record k { lost = k.lost + 1 }
 

@@ -54,7 +54,7 @@ pub record Gains (before after : Knowledge) : Type 0 where
   pub same : after.seen ≡ before.seen → after.mine ≡ before.mine
   pub more : (e : Entry) → after.seen ≡ before.seen ++ e ∷ [] → after.mine ≡ before.mine ++ e ∷ []
 
--- as before, but that more steps found the turn held
+-- as before, but that more steps found tickets drawn by others that were not served, or found all tickets drawn
 pub record HasLost (before after : Knowledge) : Type 0 where
   pub lost : ℕ
   pub more : before.lost ≤ lost

@@ -1,6 +1,6 @@
--- The rule of a lock's table, which holds between any two steps. Word 0 is 1 while the turn is held, word 1 is the number
--- of entries, and the one slot has the value. Spent views are excepted.
-use Rattle.std.specs.Prelude.{◌≡◌, ◌≢◌, ℕ, true, false, ◌⊎◌, List, [], ◌∷◌, length, Option, None, Some}
+-- The rule of a lock's table, which holds between any two steps. Word 0 is the next number to draw, word 1 the number
+-- whose turn it is, word 2 the number of entries, and the one slot has the value. Spent views are excepted.
+use Rattle.std.specs.Prelude.{◌≡◌, ◌≢◌, ◌≤◌, ◌<◌, ◌+◌, ℕ, true, false, ◌⊎◌, List, [], ◌∷◌, length, Option, None, Some}
 use mathlib.Core.Option.{some, none}
 use lib.ListN.{get_elem?}
 use Rattle.atomic_table.specs.Table.{State}
@@ -50,34 +50,57 @@ pub record AreKnown (history : List Entry) (views : List View) : Type 0 where
   pub seats : AreSeated root chief outs views
   pub calls : AreCounted chief outs history views
 
+-- one for a ticket, and none for none
+abbrev pub one_for : Option ℕ → ℕ
+one_for None = 0
+one_for (Some ticket) = 1
+
+-- how many views have a ticket
+abbrev pub tickets_out : List View → ℕ
+tickets_out [] = 0
+tickets_out (v ∷ vs) = one_for v.ticket + tickets_out vs
+
+-- the tickets drawn and not yet served are the different tickets of the views, and no number noted is above that served
+pub record AreQueued (ticket serving : ℕ) (views : List View) : Type 0 where
+  pub in_order : serving ≤ ticket
+  pub many : serving + tickets_out views ≡ ticket
+  pub between : (j : ℕ) (v : View) (t : ℕ) → At views j v → v.ticket ≡ Some t → (serving ≤ t) × (t < ticket)
+  pub differ : (j k : ℕ) (v w : View) (t : ℕ) → At views j v → At views k w
+      → v.ticket ≡ Some t → w.ticket ≡ Some t → j ≡ k
+  pub noted : (j : ℕ) (v : View) (n : ℕ) → At views j v → v.note ≡ Some n → n ≤ serving
+
 module _ {T : Type 0} (entries : T → List Entry) (origin_of : T → List ℕ) where
   abbrev pub Table : Type 0
   Table = State (Option T) View
 
-  -- the turn is free: the value is at home, the history is its entries, and no seat holds the turn
+  -- the value is at home: the history is its entries, and no seat holds the turn
   pub record IsHome (origin : List ℕ) (history : List Entry) (s : Table) : Type 0 where
     pub value : T
-    pub words : s.words ≡ 0 ∷ length history ∷ []
     pub homes : s.homes ≡ some (Some value) ∷ []
     pub entries_are : entries value ≡ history
     pub origin_is : origin_of value ≡ origin
     pub none_holds : (j : ℕ) (v : View) → At s.views j v → v.holds ≡ false
 
-  -- the turn is held: one seat holds it and has the value out, and the history is what it has seen
-  pub record IsOut (history : List Entry) (s : Table) : Type 0 where
+  -- the value is out: one seat holds the turn, its ticket is served, and the history is what it has seen
+  pub record IsOut (serving : ℕ) (history : List Entry) (s : Table) : Type 0 where
     pub holder : ℕ
     pub view : View
-    pub words : s.words ≡ 1 ∷ length history ∷ []
     pub homes : s.homes ≡ none ∷ []
     pub at_holder : At s.views holder view
     pub holds : view.holds ≡ true
+    pub served : view.ticket ≡ Some serving
     pub holder_live : view.spent ≡ false
     pub knows : view.seen ≡ history
     pub only : (j : ℕ) (v : View) → At s.views j v → v.holds ≡ true → j ≡ holder
 
-  -- there is a history: the turn is free or held, each seat knows a beginning of it, and the callers are known
+  -- there is a history: the value is at home or out, each seat knows a beginning of it, and the callers are known;
+  -- the tickets not yet served are the seats'
   pub record Orderly (origin : List ℕ) (s : Table) : Type 0 where
     pub history : List Entry
-    pub place : IsHome origin history s ⊎ IsOut history s
+    pub ticket : ℕ
+    pub serving : ℕ
+    pub words : s.words ≡ ticket ∷ serving ∷ length history ∷ []
+    pub queue : AreQueued ticket serving s.views
+    pub place : IsHome origin history s ⊎ IsOut serving history s
     pub each : (j : ℕ) (v : View) → At s.views j v → v.spent ≡ false → Fits origin history v
     pub callers : AreKnown history s.views

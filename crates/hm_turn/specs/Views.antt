@@ -1,5 +1,7 @@
--- Views of seats: what is known, whether the seat holds the turn, and whether it was joined to another.
-use Rattle.std.specs.Prelude.{ℕ, ◌+◌, ◌-◌, true, false, List, [], ◌∷◌}
+-- Views of seats: what is known, the ticket and the note, whether the seat holds the turn, and whether it was joined
+-- to another.
+use Rattle.std.specs.Prelude.{ℕ, ◌+◌, ◌-◌, true, false, cond, List, [], ◌∷◌, None, Some}
+use lib.Dec.{ltb}
 use Rattle.hm_model.specs.declared.entry.Entry.{Entry}
 use Rattle.hm_model.specs.Entries.{calls_of}
 use Rattle.hm_turn.specs.declared.view.View.{View}
@@ -12,28 +14,57 @@ knowledge v = record { caller = v.caller; origin = v.origin; seen = v.seen; mine
 
 -- of the first seat
 abbrev pub founder : List ℕ → View
-founder origin = record { caller = 0; origin = origin; seen = []; mine = []; lost = 0; used = []; out = 0; ended = []; holds = false; spent = false }
+founder origin = record {
+  caller = 0;
+  origin = origin;
+  seen = [];
+  mine = [];
+  lost = 0;
+  used = [];
+  out = 0;
+  ended = [];
+  ticket = None;
+  note = None;
+  holds = false;
+  spent = false;
+}
 
 -- the one view in a badge's list
 abbrev pub view_in : List View → View
 view_in [] = founder []
 view_in (v ∷ vs) = v
 
+-- it has drawn this ticket, and a note is used up
+abbrev pub drawing : View → ℕ → View
+drawing v ticket = record v { ticket = Some ticket; note = None }
+
+-- it found this number served
+abbrev pub noting : View → ℕ → View
+noting v number = record v { note = Some number }
+
+-- it found that another had drawn the number noted, or that no ticket is left
+abbrev pub outrun : View → View
+outrun v = record v { lost = v.lost + 1; note = None }
+
+-- the number that is drawn by nobody: where it is served, no ticket is left
+abbrev pub last_number : ℕ
+last_number = 18446744073709551615
+
+-- it found this number served, and notes it if it can be drawn
+abbrev pub finding : View → ℕ → View
+finding v number = cond (ltb number last_number) (noting v number) (outrun v)
+
 -- it got the turn, and found these entries
 abbrev pub holding : View → List Entry → View
-holding v entries = record v { seen = entries; holds = true }
-
--- it found the turn held
-abbrev pub outrun : View → View
-outrun v = record v { lost = v.lost + 1 }
+holding v entries = record v { seen = entries; note = None; holds = true }
 
 -- it knows these entries, and its own among them
 abbrev pub knowing : View → List Entry → View
 knowing v entries = record v { seen = entries; mine = calls_of entries v.caller }
 
--- it holds the turn no more
+-- it holds the turn no more, and has neither a ticket nor a note
 abbrev pub resting : View → View
-resting v = record v { holds = false }
+resting v = record v { ticket = None; note = None; holds = false }
 
 -- it has split off a caller
 abbrev pub splitting : View → ℕ → View
@@ -41,7 +72,20 @@ splitting v caller = record v { used = caller ∷ v.used; out = v.out + 1 }
 
 -- of the caller that was split off
 abbrev pub entering : View → ℕ → View
-entering v caller = record { caller = caller; origin = v.origin; seen = v.seen; mine = []; lost = 0; used = []; out = 0; ended = []; holds = false; spent = false }
+entering v caller = record {
+  caller = caller;
+  origin = v.origin;
+  seen = v.seen;
+  mine = [];
+  lost = 0;
+  used = [];
+  out = 0;
+  ended = [];
+  ticket = None;
+  note = None;
+  holds = false;
+  spent = false;
+}
 
 -- it has joined the other
 abbrev pub joining : View → View → View

@@ -4,7 +4,7 @@ ghost use Rattle.hm_turn.specs.Callers.{is_among};
 ghost use Rattle.hm_turn.specs.Knowledge.{with_split, newcomer, with_joined};
 ghost use Rattle.hm_turn.specs.Known.{IsOf, IsWhole, KnowsCallers};
 
-use crate::steps::{Cut, Ends, Learn, Naming};
+use crate::steps::{Cut, Ends, Learn, Naming, TICKET};
 use crate::{Kept, Turn, TurnLock};
 use atomic_table::Badge;
 use std::marker::Brand;
@@ -63,7 +63,7 @@ impl<T: Kept> TurnLock<T> {
         ensures callers { KnowsCallers turn.new.knows }
     {
         let mut seat = mem::replace(&mut turn.badge, Badge::blank()).into_seat::<Option<T>>();
-        self.table.shared.load::<Learn<T>>(&mut seat, 0);
+        self.table.shared.load::<Learn<T>>(&mut seat, TICKET);
         turn.badge = seat.into_badge();
     }
 

@@ -8,6 +8,7 @@ mod lends;
 mod lock;
 mod shelf;
 mod steps;
+mod tickets;
 mod turn;
 mod view;
 

@@ -5,7 +5,7 @@ ghost use Rattle.hm_turn.specs.Known.{IsOf, IsTaken, MayGive, Gains, HasLost};
 ghost use Rattle.hm_turn.specs.Views.{knowing};
 ghost use Rattle.hm_turn.specs.Steps.{IsGrown};
 
-use crate::steps::{Add, Ask, Count, Free, Order, Written};
+use crate::steps::{Add, COUNT, Count, Free, Order, SERVING, Written};
 use crate::{Held, Kept, Turn, View};
 use atomic_table::{Refused, Seat, Table};
 use hm_outside::NoMemory;
@@ -13,7 +13,6 @@ use std::alloc::Global;
 use std::marker::{Brand, Model};
 use std::snapshot::Snapshot;
 use std::sync::Wait;
-use std::thread;
 
 /// A value that is lent to one holder at a time.
 #[derive(Drop)]
@@ -29,7 +28,7 @@ impl<T: Kept> Model for TurnLock<T> {
 
     ghost view = { λ l. record { id = l.table.shared.table_id; origin = T.origin l.table.shared.key.value } };
 
-    ghost invariant = { λ l. (l.table.shared.table_id.words ≡ 2) × (l.table.shared.table_id.slots ≡ 1) };
+    ghost invariant = { λ l. (l.table.shared.table_id.words ≡ 3) × (l.table.shared.table_id.slots ≡ 1) };
 }
 
 impl<T: Kept> TurnLock<T> {
@@ -42,7 +41,7 @@ impl<T: Kept> TurnLock<T> {
         let key = Snapshot::of(&value);
         let mut slots = Vec::with_capacity(alloc, 1)?;
         slots.push_reserved(Some(value));
-        match Table::new(alloc, &[0, 0], slots, &key) {
+        match Table::new(alloc, &[0, 0, 0], slots, &key) {
             Ok((table, seat)) => Ok((
                 TurnLock { table },
                 Turn {
@@ -55,19 +54,21 @@ impl<T: Kept> TurnLock<T> {
         }
     }
 
-    /// The value, if the turn is free. At `Err` this call's one step found the turn held by another.
+    /// The value, if the turn is free. At `Err` this call's one deciding step found a ticket drawn by another that
+    /// was not served when this call loaded `serving`, or found 2^64 - 1 tickets drawn.
     pub fn try_take(&self, turn: Turn) -> Result<Held<T>, Turn>
         requires lock { IsOf self.now turn }
         ensures { MatchResult result (λ held. IsTaken T.entries T.origin self.now turn held × (held.knows ≡ with_seen turn.knows (T.entries held.value))) (λ back. (back.lock ≡ turn.lock) × (back.knows ≡ with_lost turn.knows)) }
     {
         let Turn { badge, caller, out } = turn;
-        let shared = &self.table.shared;
         let mut seat = badge.into_seat::<Option<T>>();
-        if shared.compare_exchange::<Ask<T>>(&mut seat, 0, 0, 1) == 0 {
-            let value = shared.exchange(&mut seat, 0, None).unwrap();
+        let serving = self.observe(&mut seat);
+        if serving < u64::MAX && self.ask(&mut seat, serving) {
+            let value = self.table.shared.exchange(&mut seat, 0, None).unwrap();
             Ok(Held {
                 seat,
                 value,
+                ticket: serving,
                 caller,
                 out,
             })
@@ -80,23 +81,28 @@ impl<T: Kept> TurnLock<T> {
         }
     }
 
-    /// The value. It waits until the turn is got.
-    pub fn take<R: Wait>(&self, rt: &R, mut turn: Turn) -> Held<T>
+    /// The value. It waits until all who drew a ticket before it have given the value back. Once 2^64 - 1 tickets
+    /// are drawn it waits for ever.
+    pub fn take<R: Wait>(&self, rt: &R, turn: Turn) -> Held<T>
         requires lock { IsOf self.now turn }
         ensures taken { IsTaken T.entries T.origin self.now turn result }
         ensures knows { (k : Knowledge) × HasLost turn.knows k × (result.knows ≡ with_seen k (T.entries result.value)) }
     {
-        for _ in rt.forever() {
-            match self.try_take(turn) {
-                Ok(held) => return held,
-                Err(back) => turn = back,
-            }
-            thread::yield_now();
+        let Turn { badge, caller, out } = turn;
+        let mut seat = badge.into_seat::<Option<T>>();
+        let ticket = self.draw(rt, &mut seat);
+        self.wait_for(rt, &mut seat, ticket);
+        let value = self.table.shared.exchange(&mut seat, 0, None).unwrap();
+        Held {
+            seat,
+            value,
+            ticket,
+            caller,
+            out,
         }
-        unreachable!()
     }
 
-    /// Puts the value back, and frees the turn, which has then seen all entries of the value.
+    /// Puts the value back, and serves the next ticket. The turn has then seen all entries of the value.
     pub fn give(&self, held: Held<T>) -> Turn
         requires value { MayGive T.entries T.origin self.now held }
         ensures lock { result.lock ≡ held.lock }
@@ -106,13 +112,14 @@ impl<T: Kept> TurnLock<T> {
         let Held {
             mut seat,
             value,
+            ticket,
             caller,
             out,
         } = held;
         let shared = &self.table.shared;
         self.note::<Brand>(&mut seat, &value);
         drop(shared.exchange(&mut seat, 0, Some(value)));
-        shared.store::<Free<T>>(&mut seat, 0, 0);
+        shared.store::<Free<T>>(&mut seat, SERVING, ticket + 1);
         Turn {
             badge: seat.into_badge(),
             caller,
@@ -139,8 +146,8 @@ impl<T: Kept> TurnLock<T> {
         ensures knows { seat.new.me ≡ (knowing seat.old.me.0 N.entries, seat.old.me.1) }
     {
         let shared = &self.table.shared;
-        if shared.load::<Count<T>>(seat, 1) < len {
-            shared.fetch_add::<Add<N>>(seat, 1, 1);
+        if shared.load::<Count<T>>(seat, COUNT) < len {
+            shared.fetch_add::<Add<N>>(seat, COUNT, 1);
         }
     }
 }

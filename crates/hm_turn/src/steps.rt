@@ -1,13 +1,22 @@
-//! The rule of the lock's table, and what each step on its words tells.
+//! The words of the lock's table, its rule, and what each step on a word tells.
 ghost use Rattle.std.specs.Prelude.{ℕ};
 ghost use Rattle.hm_turn.specs.Rule.{Orderly};
-ghost use Rattle.hm_turn.specs.Steps.{asked, counted, added, freed, informed};
+ghost use Rattle.hm_turn.specs.Steps.{drawn, awaited, observed, asked, counted, added, freed, informed};
 ghost use Rattle.hm_turn.specs.Views.{founder, splitting, entering, joining, spent};
 
 use crate::{Kept, View};
 use atomic_table::{Join, Play, Split, TableRule};
 use std::marker::{Brand, PhantomData};
 use std::snapshot::Snapshot;
+
+/// The word that has the next number to draw.
+pub(crate) const TICKET: usize = 0;
+
+/// The word that has the number whose turn it is.
+pub(crate) const SERVING: usize = 1;
+
+/// The word that has the number of entries.
+pub(crate) const COUNT: usize = 2;
 
 /// The rule. The key is the value that the lock was built over.
 pub struct Order<T> {
@@ -20,7 +29,34 @@ impl<T: Kept> TableRule<Option<T>, View, Snapshot<T>> for Order<T> {
     ghost first = { λ key. founder (T.origin key.value) };
 }
 
-/// The turn is asked for.
+/// A ticket is drawn, by a seat that will wait for it.
+pub(crate) struct Draw<T> {
+    marker: PhantomData<T>,
+}
+
+impl<T: Kept> Play<Option<T>, View> for Draw<T> {
+    ghost then = { drawn };
+}
+
+/// The number served is read by a seat that waits for its ticket.
+pub(crate) struct Await<T> {
+    marker: PhantomData<T>,
+}
+
+impl<T: Kept> Play<Option<T>, View> for Await<T> {
+    ghost then = { awaited T.entries T.origin };
+}
+
+/// The number served is read by a seat that will not wait.
+pub(crate) struct Observe<T> {
+    marker: PhantomData<T>,
+}
+
+impl<T: Kept> Play<Option<T>, View> for Observe<T> {
+    ghost then = { observed };
+}
+
+/// The number noted is asked for.
 pub(crate) struct Ask<T> {
     marker: PhantomData<T>,
 }
@@ -61,7 +97,7 @@ impl<T: Kept, N: Written> Play<Option<T>, View> for Add<N> {
     ghost then = { added N.entries };
 }
 
-/// The turn is freed.
+/// The next number is served.
 pub(crate) struct Free<T> {
     marker: PhantomData<T>,
 }

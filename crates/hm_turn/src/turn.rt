@@ -45,6 +45,7 @@ impl Turn {
 pub struct Held<T: Kept> {
     pub(crate) seat: Seat<Option<T>, View>,
     pub(crate) value: T,
+    pub(crate) ticket: u64,
     pub(crate) caller: u32,
     pub(crate) out: u64,
 }
@@ -58,7 +59,7 @@ impl<T: Kept> Model for Held<T> {
 
     ghost view = { λ h. record { lock = h.seat.table_id; knows = knowledge h.seat.me.0; value = h.value } };
 
-    ghost invariant = { λ h. IsFirm h.seat.me h.caller h.out };
+    ghost invariant = { λ h. IsFirm h.seat.me h.ticket h.caller h.out };
 }
 
 impl<T: Kept> Held<T> {

@@ -24,7 +24,7 @@ none_some : (fault : TraceFault) → None ≡ Some fault → ⊥
 none_some fault e = cc
 
 -- what was read to its end is what was left
-read_all : (bytes read : List ℕ) (left' : Option (List ℕ)) → IsReadToEnd (Some bytes) left' read → read ≡ bytes
+pub read_all : (bytes read : List ℕ) (left' : Option (List ℕ)) → IsReadToEnd (Some bytes) left' read → read ≡ bytes
 read_all bytes read None h = absurd h.0
 read_all bytes read (Some rest) h = sym (h.0 ∙ ap (λ (l : List ℕ). read ++ l) h.1 ∙ append-nil read)
 
@@ -44,14 +44,17 @@ refused ReadFault words bytes left' rose are short source cause = source cause.1
 refused TooLong words bytes left' rose are short source cause = not_past bytes left' short cause.1
 refused NotBuilt words bytes left' rose are short source cause = cause
 
--- the two laws of spellings that are needed
+-- the laws of spellings that are needed
 abbrev pub Faultless : Type 0
 Faultless = (trace : List (List ScriptView)) → IsTrace trace → text_fault (spelling trace) ≡ None
 
 abbrev pub OneTrace : Type 0
 OneTrace = (one other : List (List ScriptView)) → IsTrace one → IsTrace other → spelling one ≡ spelling other → one ≡ other
 
-module _ {P : Type 0} (faultless : Faultless) (one_trace : OneTrace) (told : P → Bool) (runs : P → PageRuns) (faults : P → ℕ) (status : ℕ) (closed : Option (Closed P)) where
+abbrev pub Short : Type 0
+Short = (trace : List (List ScriptView)) → IsTrace trace → length (spelling trace) ≤ 67108864
+
+module _ {P : Type 0} (faultless : Faultless) (one_trace : OneTrace) (short : Short) (told : P → Bool) (runs : P → PageRuns) (faults : P → ℕ) (status : ℕ) (closed : Option (Closed P)) where
   text_ends : (trace : List (List ScriptView)) (bytes : List ℕ) (held held' : Option (List ℕ)) (sink_rose : Type 0)
       → IsTrace trace → bytes ≡ spelling trace → is_built trace ≡ true → (sink_rose → ⊥) → TextEnds told runs faults status closed bytes held held' sink_rose → EndsRun status
   text_ends trace bytes held held' sink_rose is spelled built sink (inl ran) =
@@ -68,9 +71,10 @@ module _ {P : Type 0} (faultless : Faultless) (one_trace : OneTrace) (told : P �
 
   pub complete : (words : List (String Global)) (trace : List (List ScriptView)) (bytes : List ℕ) (left' held held' : Option (List ℕ)) (source_rose sink_rose : Type 0)
       → Ends told runs faults status closed words (Some bytes) left' source_rose held held' sink_rose
-      → AreRun words → IsTrace trace → bytes ≡ spelling trace → is_built trace ≡ true → length bytes ≤ 67108864 → (source_rose → ⊥) → (sink_rose → ⊥) → EndsRun status
-  complete words trace bytes left' held held' source_rose sink_rose (inl read) are is spelled built short source sink =
+      → AreRun words → IsTrace trace → bytes ≡ spelling trace → is_built trace ≡ true → (source_rose → ⊥) → (sink_rose → ⊥) → EndsRun status
+  complete words trace bytes left' held held' source_rose sink_rose (inl read) are is spelled built source sink =
       text_ends trace read.bytes held held' sink_rose is (read_all bytes read.bytes left' read.read ∙ spelled) built sink read.ends
-  complete words trace bytes left' held held' source_rose sink_rose (inr (inl ended)) are is spelled built short source sink =
-      absurd (refused ended.refusal words bytes left' source_rose are short source ended.cause)
-  complete words trace bytes left' held held' source_rose sink_rose (inr (inr unread)) are is spelled built short source sink = inr (inr unread.status_is)
+  complete words trace bytes left' held held' source_rose sink_rose (inr (inl ended)) are is spelled built source sink =
+      let fits : length bytes ≤ 67108864 = omega (arith, ap (λ (l : List ℕ). length l) spelled, short trace is) in
+      absurd (refused ended.refusal words bytes left' source_rose are fits source ended.cause)
+  complete words trace bytes left' held held' source_rose sink_rose (inr (inr unread)) are is spelled built source sink = inr (inr unread.status_is)

@@ -5,3 +5,4 @@ mod FirstRegions
 mod Pushed
 mod Putting
 mod Taking
+mod TooLong

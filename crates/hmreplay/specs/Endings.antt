@@ -1,5 +1,5 @@
 -- How a run ends, with its cause.
-use Rattle.std.specs.Prelude.{◌≡◌, ◌⊎◌, ℕ, Bool, true, false, if◌then◌else◌, List, [], ◌∷◌, ◌++◌, codes, String, Option, Some, None}
+use Rattle.std.specs.Prelude.{◌≡◌, ◌⊎◌, ℕ, ◌≤◌, Bool, true, false, if◌then◌else◌, List, [], ◌∷◌, ◌++◌, length, codes, String, Option, Some, None}
 use Rattle.std.specs.Fmt.{decimal}
 use Rattle.std.specs.declared.alloc.Global.{Global}
 use Rattle.hm_outside.specs.PageRuns.{PageRuns}
@@ -18,7 +18,7 @@ use Rattle.hmreplay.specs.declared.closed.Closed.{Closed}
 use Rattle.hmreplay.specs.declared.refusal.Refusal.{Refusal}
 use Rattle.hmreplay.specs.declared.refusal.Refusal.TheVariants.{Usage, NotBuilt, ReadFault, TooLong}
 use Rattle.hmreplay.specs.Words.{AreRun}
-use Rattle.hmreplay.specs.Streams.{IsReadToEnd, IsTakenPast, IsWritten}
+use Rattle.hmreplay.specs.Streams.{IsReadToEnd, IsTakenPast, IsTakenWithin, IsWritten}
 use Rattle.hmreplay.specs.Built.{is_built, steps_of}
 use Rattle.hmreplay.specs.Histories.{Closes}
 
@@ -35,10 +35,10 @@ line_of ReadFault = codes "fault: read" ++ 10 ∷ []
 line_of TooLong = codes "fault: too long" ++ 10 ∷ []
 line_of NotBuilt = codes "fault: not built" ++ 10 ∷ []
 
--- why a run is refused before its text is read; where the words are not accepted nothing was taken from the source, and a trace that is not built is refused after that
+-- why a run is refused before its text is read; where the words are not accepted nothing was taken from the source, and where the source failed no more than may be; a trace that is not built is refused after that
 abbrev pub IsRefused : Refusal → List (String Global) → Option (List ℕ) → Option (List ℕ) → Type 0 → Type 0
 IsRefused Usage words left left' rose = (AreRun words → ⊥) × (left' ≡ left)
-IsRefused ReadFault words left left' rose = AreRun words × rose
+IsRefused ReadFault words left left' rose = AreRun words × rose × IsTakenWithin 67108864 left left'
 IsRefused TooLong words left left' rose = AreRun words × IsTakenPast 67108864 left left'
 IsRefused NotBuilt words left left' rose = ⊥
 
@@ -133,11 +133,12 @@ module _ {P : Type 0} (told : P → Bool) (runs : P → PageRuns) (faults : P �
     pub unwritten : held' ≡ held
     pub not_closed : closed ≡ None
 
-  -- the source was read to its end
+  -- the source was read to its end, and has no more bytes than may be taken
   pub record EndsRead (words : List (String Global)) (left left' : Option (List ℕ)) (held held' : Option (List ℕ)) (sink_rose : Type 0) : Type 0 where
     pub words_are : AreRun words
     pub bytes : List ℕ
     pub read : IsReadToEnd left left' bytes
+    pub within : length bytes ≤ 67108864
     pub ends : TextEnds bytes held held' sink_rose
 
   abbrev pub Ends : List (String Global) → Option (List ℕ) → Option (List ℕ) → Type 0 → Option (List ℕ) → Option (List ℕ) → Type 0 → Type 0

@@ -1,5 +1,5 @@
 //! Which traces are built so far, and the steps of such a trace.
-ghost use Rattle.std.specs.Prelude.{◌≡◌, ◌≤◌, true, length, IfSome, MatchOption};
+ghost use Rattle.std.specs.Prelude.{◌≡◌, true, MatchOption};
 ghost use Rattle.std.specs.List.{list_all};
 ghost use Rattle.hm_trace.specs.Views.{place_view, step_view, steps_view};
 ghost use Rattle.hmreplay.specs.Built.{is_near, is_built_place, is_built_step, is_built_script, is_built, HasScript, HasNoScript};
@@ -78,7 +78,6 @@ pub fn is_built(trace: &Trace) -> bool
 pub fn script_of(trace: &Trace) -> Option<&Script>
     requires { is_built trace.now ≡ true }
     ensures which { MatchOption result (HasNoScript trace.now) (λ script. HasScript trace.now script.now) }
-    ensures few { IfSome result (λ script. length script.now.steps ≤ 200000) }
 {
     match trace.rounds() {
         [round] => match round.scripts() {

@@ -26,6 +26,8 @@ pub fn read_all<S: Source>(alloc: Global, source: &mut S) -> Result<Vec<u8>, Rea
     ensures whole { IfOk result (λ v. IsReadToEnd (S.left source.old) (S.left source.new) v.items) }
     ensures within { IfOk result (λ v. length v.items ≤ 67108864) }
     ensures fault { IsErrOf result ReadStop.Fault → Rose (S.faults source.old) (S.faults source.new) }
+    ensures before_fault { IsErrOf result ReadStop.Fault
+        → IsTakenWithin 67108864 (S.left source.old) (S.left source.new) }
     ensures bound { IsTakenWithin 67108865 (S.left source.old) (S.left source.new) }
     ensures long { IsErrOf result ReadStop.TooLong → IsTakenPast 67108864 (S.left source.old) (S.left source.new) }
 {
@@ -41,6 +43,8 @@ fn read_by<S: Source>(alloc: Global, source: &mut S, piece: &mut [u8]) -> Result
     ensures whole { IfOk result (λ v. IsReadToEnd (S.left source.old) (S.left source.new) v.items) }
     ensures within { IfOk result (λ v. length v.items ≤ 67108864) }
     ensures fault { IsErrOf result ReadStop.Fault → Rose (S.faults source.old) (S.faults source.new) }
+    ensures before_fault { IsErrOf result ReadStop.Fault
+        → IsTakenWithin 67108864 (S.left source.old) (S.left source.new) }
     ensures bound { IsTakenWithin 67108865 (S.left source.old) (S.left source.new) }
     ensures long { IsErrOf result ReadStop.TooLong → IsTakenPast 67108864 (S.left source.old) (S.left source.new) }
 {

@@ -1,6 +1,11 @@
 //! Runs over objects in memory.
+ghost use Rattle.std.specs.Prelude.{None};
+
 use crate::run::{Run, replay};
-use hm_outside::{FailingMaker, NoGate, PageMaker, PlainMaker, RegionId, VecSink, VecSource};
+use hm_outside::{
+    FailingMaker, NoGate, NoMemory, PageMaker, PlainMaker, PlainPages, RegionId, Source,
+    SourceFault, VecSink, VecSource,
+};
 use std::alloc::Global;
 use std::sync::Wait;
 use std::test::Fail;
@@ -185,11 +190,11 @@ fn words(alloc: Global, word: &str) -> Result<Vec<String>, Fail> {
 }
 
 // Runs over a source and a sink in memory.
-fn run_over<R: Wait + Threads, M: PageMaker>(
+fn run_over<R: Wait + Threads, S: Source, M: PageMaker>(
     rt: &R,
     alloc: Global,
     word: &str,
-    source: &mut VecSource,
+    source: &mut S,
     sink: &mut VecSink,
     maker: &mut M,
 ) -> Result<Run<M::P>, Fail> {
@@ -308,5 +313,67 @@ fn long_scripts(rt: HostRuntime) -> Result<(), Fail> {
             }
         }
     }
+    Ok(())
+}
+
+/// A source that notes the longest buffer that it was handed, and fails where it is called after its
+/// end. Its count of faults stands at its last value.
+struct NotingSource<'a> {
+    left: &'a [u8],
+    longest: usize,
+    ended: bool,
+}
+
+impl Source for NotingSource<'_> {
+    ghost left = { λ s. None };
+
+    ghost faults = { λ s. 18446744073709551615 };
+
+    fn take(&mut self, into: &mut [u8]) -> Result<usize, SourceFault> {
+        if self.ended {
+            return Err(SourceFault);
+        }
+        self.longest = self.longest.max(into.len());
+        let count = self.left.len().min(into.len());
+        let (front, rest) = self.left.split_at(count);
+        into[..count].copy_from_slice(front);
+        self.left = rest;
+        self.ended = count == 0;
+        Ok(count)
+    }
+}
+
+/// A maker that notes the regions for which it is asked.
+struct NotingMaker {
+    regions: Vec<RegionId>,
+}
+
+impl PageMaker for NotingMaker {
+    type P = PlainPages;
+
+    fn make(&mut self, alloc: Global, region: RegionId) -> Result<PlainPages, NoMemory> {
+        self.regions.push(region)?;
+        Ok(PlainPages::new(alloc))
+    }
+}
+
+// A buffer has at most 65,536 bytes, the end is asked for once, and the region is 7.
+#[test]
+fn what_is_asked(rt: HostRuntime) -> Result<(), Fail> {
+    let alloc = rt.alloc();
+    let text = long_script(alloc, 6_000)?;
+    let mut source = NotingSource {
+        left: &text,
+        longest: 0,
+        ended: false,
+    };
+    let mut sink = VecSink::build(alloc, 1_048_576, 65_536, Vec::new(alloc))?;
+    let mut maker = NotingMaker {
+        regions: Vec::new(alloc),
+    };
+    let run = run_over(&rt, alloc, "run", &mut source, &mut sink, &mut maker)?;
+    assert_eq!(rt; run.status, 0);
+    assert!(rt; source.longest <= 65_536);
+    assert_eq!(rt; maker.regions.as_slice(), [RegionId(7)].as_slice());
     Ok(())
 }

@@ -47,7 +47,7 @@ take_range-requires-clause-free g c =
 
 pub returns-in_default-clause-allots : goal.returns-in_default-clause-allots
 returns-in_default-clause-allots g c =
-    λ config n s sound shows. let size = c.size_of_block-size.result in
+    λ config n s shows. let size = c.size_of_block-size.result in
     let guard = c.draw_guard-word.result.1 in
     let drawn = shows_drawn config n s c.args.store.now c.draw_guard-word.new.store c.reserve_two.new.self c.draw_guard-word.ensures.store c.in_ok-reserve_two.ensures.ranges c.in_ok-reserve_two.ensures.out shows in
     let none : (a : ℕ) → IsCandidate config s c.args.align size guard a → ⊥ = same_none config s (suc s.words) c.args.align size guard (c.in_default.ensures.fits config n (record s { words = suc s.words }) drawn) in
@@ -56,7 +56,7 @@ returns-in_default-clause-allots g c =
 
 pub returns-in-Ok-clause-allots : goal.returns-in-Ok-clause-allots
 returns-in-Ok-clause-allots g c =
-    λ config n s sound shows. let size = c.size_of_block-size.result in
+    λ config n s shows. let size = c.size_of_block-size.result in
     let guard = c.draw_guard-word.result.1 in
     let drawn = shows_drawn config n s c.args.store.now c.draw_guard-word.new.store c.reserve_two.new.self c.draw_guard-word.ensures.store c.in_ok-reserve_two.ensures.ranges c.in_ok-reserve_two.ensures.out shows in
     let least = found_least config n s c.args.store.now c.draw_guard-word.new.store c.reserve_two.new.self c.args.align size guard c.in-Some.addr c.draw_guard-word.ensures.store c.in_ok-reserve_two.ensures.ranges c.in_ok-reserve_two.ensures.out c.in-Some.ensures.fits shows in
@@ -72,7 +72,7 @@ returns-in-Ok-clause-allots g c =
 
 pub returns-in-Err-Failed-clause-allots : goal.returns-in-Err-Failed-clause-allots
 returns-in-Err-Failed-clause-allots g c =
-    λ config n s sound shows. let size = c.size_of_block-size.result in
+    λ config n s shows. let size = c.size_of_block-size.result in
     let guard = c.draw_guard-word.result.1 in
     let d = c.draw_guard-word.new.store in
     let drawn = shows_drawn config n s c.args.store.now c.draw_guard-word.new.store c.reserve_two.new.self c.draw_guard-word.ensures.store c.in_ok-reserve_two.ensures.ranges c.in_ok-reserve_two.ensures.out shows in

@@ -53,11 +53,10 @@ pub invariant_of-self-2 : goal.invariant_of-self-2
 invariant_of-self-2 g c =
     let h = c.self.inside in
     let k = c.self.invariant.0 in
-    let s = state (terms_of h.config (g.P.Pages.told h.pages)) h.entries.items in
-    let sound = kept_sound g.P.Pages h.pages h.config h.number h.entries.items h.store k in (
+    let s = state (terms_of h.config (g.P.Pages.told h.pages)) h.entries.items in (
       subst (λ (l : List Entry). IsKept g.P.Pages c.allot.new.pages h.config h.number l c.allot.new.store) (sym (all_entries g c))
           (kept_allotted g.P.Pages h.config h.number h.entries.items h.store c.allot.new.store h.pages c.allot.new.pages c.in_ok-attempt.attempt c.args.who c.args.asked c.args.align c.requires.asked c.requires.align k c.allot.ensures.told
-          (c.in_ok-attempt.ensures.allots h.config h.number s sound k.shows)),
+          (c.in_ok-attempt.ensures.allots h.config h.number s k.shows)),
       omega (arith, c.self.invariant.1, c.allot.ensures.owed, c.in_ok-reserve.ensures.ok, c.reserve.ensures.len, c.push_reserved.ensures.len, c.push_reserved.ensures.capacity),
     )
 
@@ -66,9 +65,8 @@ returns-clause-replies g c =
     let h = c.self.inside in
     let k = c.self.invariant.0 in
     let s = state (terms_of h.config (g.P.Pages.told h.pages)) h.entries.items in
-    let sound = kept_sound g.P.Pages h.pages h.config h.number h.entries.items h.store k in
     subst IsBlockReply (sym c.reply_to.ensures)
-    (allotted_replies g.P.Pages h.config h.number h.entries.items h.store c.allot.new.store h.pages c.allot.new.pages c.in_ok-attempt.attempt s c.args.asked c.args.align k.valid (c.in_ok-attempt.ensures.allots h.config h.number s sound k.shows))
+    (allotted_replies g.P.Pages h.config h.number h.entries.items h.store c.allot.new.store h.pages c.allot.new.pages c.in_ok-attempt.attempt s c.args.asked c.args.align k.valid (c.in_ok-attempt.ensures.allots h.config h.number s k.shows))
 
 pub returns-clause-added : goal.returns-clause-added
 returns-clause-added g c =

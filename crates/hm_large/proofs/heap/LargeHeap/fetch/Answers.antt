@@ -8,6 +8,8 @@ use Rattle.hm_model.specs.Runs.{expand}
 use Rattle.hm_outside.specs.PageRuns.{InNone, Reads}
 use Rattle.hm_large.specs.Rules.{state}
 use Rattle.hm_large.specs.State.{State}
+use Rattle.hm_large.specs.Blocks.{trap_in}
+use Rattle.hm_large.specs.Region.{Region, region_state}
 use Rattle.hm_large.specs.Kept.{IsKept}
 use Rattle.hm_large.proofs.Entries.{terms_of, kept_sound, region_of, appended, added_of}
 use Rattle.hm_large.proofs.Reached.{kept_guarded, kept_fetched, kept_untold, held_by_none, in_none_held}
@@ -71,3 +73,12 @@ pub returns-in-None-clause-region : goal.returns-in-None-clause-region
 returns-in-None-clause-region g c =
     let kept = invariant_of-self-in-None g c in
     region_of g.P.Pages _ _ kept.0 kept.1
+
+pub returns-in-None-clause-trap : goal.returns-in-None-clause-trap
+returns-in-None-clause-trap g c =
+    let h = c.self.inside in
+    let k = c.self.invariant.0 in
+    let s : State = state (terms_of h.config (g.P.Pages.told h.pages)) h.entries.items in
+    let sound = kept_sound g.P.Pages h.pages h.config h.number h.entries.items h.store k in
+    subst (λ (r : Region _). c.trap_from-trap.result ≡ trap_in (region_state g.P.Pages.told r).live c.args.addr c.args.len) c.self.view_is
+    (c.trap_from-trap.ensures.lent h.config h.number s sound (kept_guarded g.P.Pages h.pages h.config h.number h.entries.items h.store k) k.shows)

@@ -5,7 +5,8 @@ use Rattle.hm_model.specs.declared.entry.Call.TheVariants as call
 use Rattle.hm_model.specs.Calls.{no_choices, no_words, entry_of}
 use Rattle.std.proofs.lemmas.Bool.{false≢true}
 use Rattle.hm_model.specs.Runs.{expand}
-use Rattle.hm_large.specs.Blocks.{first_trap}
+use Rattle.hm_large.specs.Blocks.{first_trap, trap_in}
+use Rattle.hm_large.specs.Region.{Region, region_state}
 use Rattle.hm_large.specs.Stored.{HeldByNone}
 use Rattle.hm_large.specs.Rules.{state}
 use Rattle.hm_large.specs.State.{State}
@@ -75,3 +76,13 @@ pub returns-else-write-clause-region : goal.returns-else-write-clause-region
 returns-else-write-clause-region g c =
     let kept = invariant_of-self-else-write g c in
     region_of g.P.Pages _ _ kept.0 kept.1
+
+pub returns-else-write-clause-trap : goal.returns-else-write-clause-trap
+returns-else-write-clause-trap g c =
+    let h = c.self.inside in
+    let k = c.self.invariant.0 in
+    let s : State = state (terms_of h.config (g.P.Pages.told h.pages)) h.entries.items in
+    let sound = kept_sound g.P.Pages h.pages h.config h.number h.entries.items h.store k in
+    let is = c.trap_from-trap.ensures.lent h.config h.number s sound (kept_guarded g.P.Pages h.pages h.config h.number h.entries.items h.store k) k.shows in
+    subst (λ (r : Region _). c.trap_from-trap.result ≡ trap_in (region_state g.P.Pages.told r).live c.args.addr (length (expand c.args.runs.now))) c.self.view_is
+    (subst (λ (n : ℕ). c.trap_from-trap.result ≡ trap_in s.live c.args.addr n) c.len.ensures.bytes is)

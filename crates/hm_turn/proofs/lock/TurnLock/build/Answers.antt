@@ -18,5 +18,5 @@ pub new-requires : goal.new-requires
 new-requires g c =
     let origin = g.T.Kept.origin c.of-key.result.value in
     let items = c.push_reserved.ensures.items ∙ ap (λ l. l ++ Some c.args.value ∷ []) (c.in_ok-slots.ensures.items) in
-    subst (λ (xs : List (Option g.row.T.Denot)). Orderly g.T.Kept.entries g.T.Kept.origin origin (opening (0 ∷ 0 ∷ []) xs (founder origin))) (sym {A = List (Option g.row.T.Denot)} items)
+    subst (λ (xs : List (Option g.row.T.Denot)). Orderly g.T.Kept.entries g.T.Kept.origin origin (opening (0 ∷ 0 ∷ 0 ∷ []) xs (founder origin))) (sym {A = List (Option g.row.T.Denot)} items)
     (opens _ _ _ c.args.value c.requires.empty (ap g.T.Kept.origin (sym c.of-key.ensures)))

@@ -1,4 +1,4 @@
-use Rattle.std.proofs.Common.{rules, ◌≡◌, ◌∷◌, [], ℕ, List, Option, Some, ap, sym, refl, ◌∙◌, subst}
+use Rattle.std.proofs.Common.{rules, ◌≡◌, ◌+◌, ◌∷◌, [], ℕ, List, Option, Some, ap, sym, refl, ◌∙◌, subst}
 use mathlib.Core.Option.{none}
 use Rattle.atomic_table.specs.Table.{Me, Allows, step, rest}
 use Rattle.hm_turn.specs.Known.{InHand}
@@ -17,6 +17,6 @@ store-requires g c = let entries = g.T.Kept.entries in let table = c.self.inside
     let from : g.T.Kept.origin x ≡ v.origin = ap (λ (h : InHand g.row.T.Denot). g.T.Kept.origin h.value) c.held.view_is ∙ (c.requires.value.origin_is ∙ sym same) in (
       search rules,
       search rules,
-      subst (λ (z : Me (Option g.row.T.Denot) View). Allows (Orderly entries g.T.Kept.origin (g.T.Kept.origin table.key.value)) table.table_id.slots c.exchange.new.seat.id z 0 (λ _. 0) (λ _. freed (step table.table_id.slots 0 0 0 none) z 0)) (sym total)
-          (frees entries g.T.Kept.origin _ _ _ (knowing v (entries x)) x c.held.invariant.live c.held.invariant.holds refl from),
+      subst (λ (z : Me (Option g.row.T.Denot) View). Allows (Orderly entries g.T.Kept.origin (g.T.Kept.origin table.key.value)) table.table_id.slots c.exchange.new.seat.id z 1 (λ _. c.held.inside.ticket + 1) (λ _. freed (step table.table_id.slots 1 (c.held.inside.ticket + 1) 0 none) z (c.held.inside.ticket + 1))) (sym total)
+          (frees entries g.T.Kept.origin _ _ _ c.held.inside.ticket (knowing v (entries x)) x c.held.invariant.live c.held.invariant.holds c.held.invariant.ticket_is refl from),
     )

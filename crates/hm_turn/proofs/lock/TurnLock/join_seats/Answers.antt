@@ -17,5 +17,5 @@ join_seat-requires g c = let m : View = c.into_seat-seat.result.me.0 in let n : 
       search rules,
       search rules,
       joins g.T.Kept.entries g.T.Kept.origin _ _ m _ n (ap (λ (v : View). v.spent) same ∙ c.into.invariant.live) (ap (λ (v : View). v.holds) same ∙ c.into.invariant.rests) (ap (λ (k : Knowledge). k.caller) known ∙ c.requires.root)
-          (ap (λ (v : View). v.spent) same_other ∙ c.other.invariant.live) (ap (λ (v : View). v.holds) same_other ∙ c.other.invariant.rests),
+          (ap (λ (v : View). v.spent) same_other ∙ c.other.invariant.live) (ap (λ (v : View). v.holds) same_other ∙ c.other.invariant.rests) (ap (λ (v : View). v.ticket) same_other ∙ c.other.invariant.no_ticket),
     )

@@ -1,0 +1,66 @@
+//! Searches of the cells, from a key's home on and round their end.
+ghost use Rattle.std.specs.Prelude.{◌≡◌, ◌<◌, length, IfSome, IfNone};
+ghost use Rattle.hm_region_table.specs.Cells.{home, next, IsKept, IsThere, IsNotThere, HasRoom, IsPlaceFor};
+
+use crate::entry::Entry;
+
+/// An odd factor near 2^64 over the golden ratio: what it multiplies is spread over the upper bits, so that addresses
+/// with a common stride, as multiples of 4,096 or of a large alignment, have different homes.
+const SPREAD: u64 = 11400714819323198485;
+
+/// Where the search for a key begins.
+pub(crate) fn home(addr: u64, count: usize) -> usize
+    requires { 0 < count }
+    ensures value { result ≡ home count addr }
+    ensures within { result < count }
+{
+    ((addr / 4096).wrapping_mul(SPREAD) / 4294967296 % count as u64) as usize
+}
+
+/// The cell after this one, round the end.
+pub(crate) fn next(place: usize, count: usize) -> usize
+    requires { place < count }
+    ensures value { result ≡ next count place }
+    ensures within { result < count }
+{
+    if place + 1 == count { 0 } else { place + 1 }
+}
+
+/// Where the key's entry stands.
+pub(crate) fn find(cells: &[Option<Entry>], addr: u64) -> Option<usize>
+    requires { IsKept cells.now }
+    ensures found { IfSome result (λ p. IsThere cells.now addr p) }
+    ensures absent { IfNone result (IsNotThere cells.now addr) }
+{
+    let count = cells.len();
+    let mut place = home(addr, count);
+    for _passed in 0..count {
+        match cells[place] {
+            None => return None,
+            Some(entry) => {
+                if entry.addr == addr {
+                    return Some(place);
+                }
+            }
+        }
+        place = next(place, count);
+    }
+    None
+}
+
+/// The first empty cell from the key's home on.
+pub(crate) fn place_for(cells: &[Option<Entry>], addr: u64) -> usize
+    requires kept { IsKept cells.now }
+    requires room { HasRoom cells.now }
+    ensures { IsPlaceFor cells.now addr result }
+{
+    let count = cells.len();
+    let mut place = home(addr, count);
+    for _passed in 0..count {
+        if cells[place].is_none() {
+            return place;
+        }
+        place = next(place, count);
+    }
+    place
+}
