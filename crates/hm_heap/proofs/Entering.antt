@@ -100,7 +100,7 @@ called_by : (before k taken after : Knowledge) (old new : List Entry) (who : Who
     → Called who call r before after
 called_by before k taken after old new who call r lost knows begins own gives caller lawful added kind memory ok =
     let same : after ≡ record before { lost = lost.lost; seen = new; mine = calls_of new before.caller } =
-        gives ∙ ap (λ (v : Knowledge). with_given v new) knows ∙ ap (λ (v : Knowledge). with_given (with_seen v old) new) lost.same in
+    gives ∙ ap (λ (v : Knowledge). with_given v new) knows ∙ ap (λ (v : Knowledge). with_given (with_seen v old) new) lost.same in
     subst (Called who call r before) (sym same) (record {
       same = refl;
       lost = lost.more;

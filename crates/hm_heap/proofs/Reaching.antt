@@ -41,7 +41,7 @@ class_least t es e asked align a size first legal call reply =
     let s = class.state t es in
     let last = (Legal_split (class_steps.step t.shape) (class.Allowed t) class_state.start es (e ∷ []) legal).1.0 in
     let allows = subst (λ (r : Reply). class.Allows t s e.faults_before e.faults_after e.choices (Allot asked align) r) reply
-        (subst (λ (c : Call). class.Allows t s e.faults_before e.faults_after e.choices c e.reply) call last.allows) in
+    (subst (λ (c : Call). class.Allows t s e.faults_before e.faults_after e.choices c e.reply) call last.allows) in
     let at = place_is t.shape a (slab_of t.shape a) (slot_of t.shape a) allows.0.place in
     from_first a t.shape.first (slab_of t.shape a * t.shape.slab) (slot_of t.shape a * t.shape.slot) at.is first
 

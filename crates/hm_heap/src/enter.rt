@@ -6,8 +6,8 @@ ghost use Rattle.hm_heap.specs.Requests.{call_of, Asks};
 ghost use Rattle.hm_heap.specs.Called.{Called, Tried};
 
 use crate::region::Region;
-use core::mem::replace_with;
 use crate::request::Request;
+use core::mem::replace_with;
 use hm_model::{Reply, Who};
 use hm_outside::{Gate, NoMemory, Pages, RegionId};
 use hm_turn::{Turn, TurnLock};

@@ -12,9 +12,9 @@ ghost use Rattle.hm_heap.specs.Requests.{call_of, Asks, IsReply};
 ghost use Rattle.hm_heap.specs.Regions.{entries_of, pages_of, spare_of, origin_of, Added};
 
 use crate::region::Region;
+use crate::request::Request;
 use hm_class::ClassHeap;
 use hm_large::LargeHeap;
-use crate::request::Request;
 use hm_model::{Counted, Entry, Reply, Who};
 use hm_outside::{NoMemory, Pages};
 use hm_turn::Kept;

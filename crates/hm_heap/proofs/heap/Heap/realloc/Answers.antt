@@ -16,7 +16,7 @@ returns-in_default-clause-answer g c =
     let config : c.self.inside.config ≡ h.config = ap (λ (z : HeapView). z.config) c.self.view_is in
     let thread : c.pass.inside.thread ≡ p.thread = ap (λ (z : PassView). z.thread) c.pass.view_is in
     let at : c.place_for.result ≡ place_for h.config p.thread kind =
-        c.place_for.ensures.place ∙ ap (λ (z : Config). place_for z c.pass.inside.thread kind) config ∙ ap (λ (n : ℕ). place_for h.config n kind) thread in
+    c.place_for.ensures.place ∙ ap (λ (z : Config). place_for z c.pass.inside.thread kind) config ∙ ap (λ (n : ℕ). place_for h.config n kind) thread in
     record {
       plan = Done TooLarge;
       is = too_large h.config p.thread a c.args.asked kind c.class_of-kind.ensures (sym c.in_default.is ∙ at);
@@ -32,7 +32,7 @@ returns-in-None-clause-answer g c =
     let config : c.self.inside.config ≡ h.config = ap (λ (z : HeapView). z.config) c.self.view_is in
     let thread : c.pass.inside.thread ≡ p.thread = ap (λ (z : PassView). z.thread) c.pass.view_is in
     let at : c.place_for.result ≡ place_for h.config p.thread kind =
-        c.place_for.ensures.place ∙ ap (λ (z : Config). place_for z c.pass.inside.thread kind) config ∙ ap (λ (n : ℕ). place_for h.config n kind) thread in
+    c.place_for.ensures.place ∙ ap (λ (z : Config). place_for z c.pass.inside.thread kind) config ∙ ap (λ (n : ℕ). place_for h.config n kind) thread in
     let home : c.home_place.result ≡ home_place h.config a = c.home_place.ensures.place ∙ ap (λ (z : Config). home_place z a) config in
     let some : (a == 0) ≡ false = grind (arith, c.if-addr-eq0.false) in
     record {
@@ -50,7 +50,7 @@ returns-in-Some-home_place-clause-answer g c =
     let config : c.self.inside.config ≡ h.config = ap (λ (z : HeapView). z.config) c.self.view_is in
     let thread : c.pass.inside.thread ≡ p.thread = ap (λ (z : PassView). z.thread) c.pass.view_is in
     let at : c.place_for.result ≡ place_for h.config p.thread kind =
-        c.place_for.ensures.place ∙ ap (λ (z : Config). place_for z c.pass.inside.thread kind) config ∙ ap (λ (n : ℕ). place_for h.config n kind) thread in
+    c.place_for.ensures.place ∙ ap (λ (z : Config). place_for z c.pass.inside.thread kind) config ∙ ap (λ (n : ℕ). place_for h.config n kind) thread in
     let home : c.home_place.result ≡ home_place h.config a = c.home_place.ensures.place ∙ ap (λ (z : Config). home_place z a) config in
     let some : (a == 0) ≡ false = grind (arith, c.if-addr-eq0.false) in
     let there = Some c.in-Some-home_place.home in
