@@ -6,9 +6,14 @@ use Rattle.std.proofs.Math.Seq.{get_or-append_seam}
 use Rattle.std.proofs.lemmas.Bool.{cases_lt}
 use mathlib.Core.Logic.{inl, inr}
 use Rattle.hm_outside.specs.declared.pages.Pages as pages
-use Rattle.hm_turn.specs.Known.{Known}
+use Rattle.hm_sizes.specs.declared.config.Config.{Config}
+use Rattle.hm_sizes.specs.Origins.{Origin}
+use Rattle.hm_turn.specs.Known.{Known, Lock}
+use Rattle.hm_heap.specs.Origins.{origin_in}
+use Rattle.hm_heap.specs.Passes.{AreLocks, AreOf, region_at}
+use Rattle.hm_heap.proofs.Origins.{origin_back}
 use Rattle.hm_heap.specs.declared.close.History.{History}
-use Rattle.hm_heap.specs.Closes.{Closes, ClosesFrom, IsClosed}
+use Rattle.hm_heap.specs.Closes.{Closes, ClosesAll, ClosesFrom, IsClosed, IsEnd}
 
 before_last : {X : Type 0} (xs ys : List X) (x d : X) (k : ℕ) → xs ≡ ys ++ x ∷ [] → k < length ys → slice_index_or ys k d ≡ slice_index_or xs k d
 before_last xs ys x d k e b = sym (ap (λ z. slice_index_or z k d) e ∙ get_or_append_left ys (x ∷ []) d k b)
@@ -61,7 +66,7 @@ module _ {P : Type 0} (meaning : pages.Ghosts P) where
 
   -- all regions, once none is left
   pub closes_all : {L : Type 0} (locks : List L) (turns : List Known) (locks_left : List L) (turns_left : List Known) (hs : List History) (ps : List P) → length turns ≡ length locks → length locks_left ≡ 0
-      → ClosesFrom meaning locks turns locks_left turns_left hs ps → Closes meaning turns (reverse hs) (reverse ps)
+      → ClosesFrom meaning locks turns locks_left turns_left hs ps → ClosesAll meaning turns (reverse hs) (reverse ps)
   closes_all locks turns locks_left turns_left hs ps same none c = record {
     histories = length-reverse hs ∙ omega (arith, c.histories, none, same);
     pages = length-reverse ps ∙ omega (arith, c.pages, none, same);
@@ -72,4 +77,22 @@ module _ {P : Type 0} (meaning : pages.Ghosts P) where
         subst (λ (z : P). IsClosed meaning (slice_index_or turns r t) (slice_index_or (reverse hs) r h) z) (sym (get_or-reverse ps r p in_ps ∙ ap (λ (k : ℕ). slice_index_or ps (k - 1 - r) p) (sym n)))
         (subst (λ (z : History). IsClosed meaning (slice_index_or turns r t) z (slice_index_or ps (length hs - 1 - r) p)) (sym (get_or-reverse hs r h in_hs))
         (c.each (length hs - 1 - r) r t h p (omega (arith, in_hs)) (omega (arith, in_hs, c.histories, none))));
+  }
+
+  -- of a heap with these locks
+  pub closes_heap : (c : Config) (number : ℕ) (locks : List Lock) (turns : List Known) (hs : List History) (ps : List P) → AreLocks c number locks → AreOf locks turns → ClosesAll meaning turns hs ps → Closes meaning c number turns hs ps
+  closes_heap c number locks turns hs ps are of all = record {
+    histories = all.histories;
+    pages = all.pages;
+    each = λ r t h p lt.
+        let below : r < length locks = omega (arith, lt, of.same) in
+        let l : Lock = record { id = t.lock; origin = t.knows.origin } in
+        let it = are.each r l below in
+        let o : Origin = record { config = c; number = number; region = region_at c r; told = it.told } in
+        let closed = all.each r t h p lt in
+        record {
+          told = it.told;
+          end = subst (λ (z : Origin). IsEnd meaning z (slice_index_or hs r h) (slice_index_or ps r p)) (ap origin_in ((of.each r l t below).1 ∙ it.is) ∙ origin_back o) closed.end;
+          whole = closed.whole;
+        };
   }

@@ -48,6 +48,16 @@ builds_more c number locks turns k l t b one = record {
   ];
 }
 
+-- the class regions, and then the large one
+pub built_all : (c : Config) (number : ℕ) (locks : List Lock) (turns : List Known) (k : ℕ) (l : Lock) (t : Known) (all_locks : List Lock) (all_turns : List Known)
+    → BuildsTo c number locks turns k → k ≡ region_count c → IsFounded c number large_region_number l t → all_locks ≡ locks ++ l ∷ [] → all_turns ≡ turns ++ t ∷ []
+    → BuildsTo c number all_locks all_turns (region_count c + 1)
+built_all c number locks turns k l t all_locks all_turns b is one locks_are turns_are =
+    let last : IsFounded c number (region_at c (region_count c)) l t = subst (λ (r : ℕ). IsFounded c number r l t) (sym (region_last c)) one in
+    let all = builds_more c number locks turns (region_count c) l t (subst (λ (n : ℕ). BuildsTo c number locks turns n) is b) last in
+    subst (λ (z : List Lock). BuildsTo c number z all_turns (region_count c + 1)) (sym locks_are)
+    (subst (λ (z : List Known). BuildsTo c number (locks ++ l ∷ []) z (region_count c + 1)) (sym turns_are) all)
+
 module _ (c : Config) (number : ℕ) (locks : List Lock) (turns : List Known) (b : BuildsTo c number locks turns (region_count c + 1)) where
   some_turn : Lock → Known
   some_turn l = record { lock = l.id; knows = founding l.origin }

@@ -10,3 +10,4 @@ pub mod Splitting
 pub mod Founding
 pub mod Closing
 pub mod Answering
+pub mod Blocks

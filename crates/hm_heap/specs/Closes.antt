@@ -1,11 +1,13 @@
 -- What closing a heap hands out.
-use Rattle.std.specs.Prelude.{◌≡◌, ◌+◌, ◌<◌, ◌≤◌, ℕ, List, length, slice_index_or}
+use Rattle.std.specs.Prelude.{◌≡◌, ◌+◌, ◌<◌, ◌≤◌, ℕ, Bool, List, length, slice_index_or}
 use Rattle.hm_outside.specs.declared.pages.Pages as pages
+use Rattle.hm_sizes.specs.declared.config.Config.{Config}
 use Rattle.hm_sizes.specs.Origins.{Origin}
 use Rattle.hm_turn.specs.Known.{Known, IsWhole}
 use Rattle.hm_heap.specs.declared.close.History.{History}
 use Rattle.hm_heap.specs.Lawful.{first_address, IsSound}
 use Rattle.hm_heap.specs.Origins.{origin_in}
+use Rattle.hm_heap.specs.Passes.{region_at}
 
 module _ {P : Type 0} (meaning : pages.Ghosts P) where
   -- the history of the region of this origin, and its pages, which are what the history says
@@ -16,13 +18,25 @@ module _ {P : Type 0} (meaning : pages.Ghosts P) where
     pub told_is : meaning.told p ≡ o.told
     pub sound : IsSound meaning o h.entries p
 
-  -- the history and the pages of a region, by the last turn of it
+  -- the history and the pages of this region of a heap: the history goes on from what its last turn had seen
+  pub record IsClosedRegion (c : Config) (number region : ℕ) (t : Known) (h : History) (p : P) : Type 0 where
+    pub told : Bool
+    pub end : IsEnd (record { config = c; number = number; region = region; told = told }) h p
+    pub whole : IsWhole h.entries t.knows
+
+  -- of each region, by ascending number
+  pub record Closes (c : Config) (number : ℕ) (turns : List Known) (hs : List History) (ps : List P) : Type 0 where
+    pub histories : length hs ≡ length turns
+    pub pages : length ps ≡ length turns
+    pub each : (r : ℕ) (t : Known) (h : History) (p : P) → r < length turns
+        → IsClosedRegion c number (region_at c r) (slice_index_or turns r t) (slice_index_or hs r h) (slice_index_or ps r p)
+
+  -- ---- lock by lock, each of which says which region it is
   pub record IsClosed (t : Known) (h : History) (p : P) : Type 0 where
     pub end : IsEnd (origin_in t.knows.origin) h p
     pub whole : IsWhole h.entries t.knows
 
-  -- of each region
-  pub record Closes (turns : List Known) (hs : List History) (ps : List P) : Type 0 where
+  pub record ClosesAll (turns : List Known) (hs : List History) (ps : List P) : Type 0 where
     pub histories : length hs ≡ length turns
     pub pages : length ps ≡ length turns
     pub each : (r : ℕ) (t : Known) (h : History) (p : P) → r < length turns

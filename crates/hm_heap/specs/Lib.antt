@@ -11,3 +11,4 @@ pub mod Calls
 pub mod Founds
 pub mod Loops
 pub mod Closes
+pub mod Laws

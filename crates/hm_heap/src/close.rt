@@ -5,7 +5,7 @@ ghost use Rattle.hm_turn.specs.Known.{Known, Lock, IsOf, IsWhole};
 ghost use Rattle.hm_heap.specs.Origins.{origin_in};
 ghost use Rattle.hm_heap.specs.Regions.{entries_of, origin_of};
 ghost use Rattle.hm_heap.specs.Passes.{AreOf, region_at};
-ghost use Rattle.hm_heap.specs.Closes.{IsEnd, IsClosed, Closes};
+ghost use Rattle.hm_heap.specs.Closes.{IsEnd, IsClosed, ClosesAll, Closes};
 
 use crate::heap::{Heap, region_at};
 use crate::pass::Pass;
@@ -75,7 +75,7 @@ fn close_all<P: Pages>(
     requires regions { (r : ℕ) (l : Lock) → r < vec_len locks → (origin_in (slice_index_or locks.items r l).origin).region ≡ region_at config.now r }
     requires room { (vec_len locks ≤ vec_capacity histories.old) × (vec_len locks ≤ vec_capacity pages.old) }
     requires empty { (vec_len histories.old ≡ 0) × (vec_len pages.old ≡ 0) }
-    ensures { Closes P.Pages turns.items histories.new.items pages.new.items }
+    ensures { ClosesAll P.Pages turns.items histories.new.items pages.new.items }
 {
     while let Some(lock) = locks.pop() {
         let Some(turn) = turns.pop() else {
@@ -92,10 +92,11 @@ fn close_all<P: Pages>(
 
 impl<'g, P: Pages, G: Gate> Heap<'g, P, G> {
     /// What each region did, and its pages, once every pass that was split off is joined.
+    #[tactic(auto, using(crate::proofs::Closing::closes_heap))]
     pub fn close(self, alloc: Global, pass: Pass) -> Result<Closed<P>, NoMemory>
         requires of { AreOf self.locks pass.turns }
         requires root { (pass.caller ≡ 0) × (pass.out ≡ 0) }
-        ensures { IfOk result (λ c. Closes P.Pages pass.turns c.histories c.pages) }
+        ensures { IfOk result (λ closed. Closes P.Pages self.config self.number pass.turns closed.histories closed.pages) }
     {
         let Heap { config, locks, .. } = self;
         let Pass { turns, .. } = pass;

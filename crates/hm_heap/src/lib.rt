@@ -8,6 +8,7 @@ mod close;
 mod enter;
 mod heap;
 mod homes;
+mod laws;
 mod pass;
 mod realloc;
 mod region;
@@ -17,5 +18,9 @@ mod split;
 
 pub use close::{Closed, History};
 pub use heap::Heap;
+pub use laws::{apart_blocks, delayed_blocks, homes_of_blocks, zeroed_blocks};
 pub use pass::Pass;
 pub use region::Region;
+
+#[cfg(test)]
+mod tests;

@@ -1,6 +1,5 @@
 use Rattle.std.proofs.Common.{rules, arith, ◌≡◌, ◌∙◌, ap, sym, List, reverse}
 use Rattle.hm_turn.specs.Known.{Known}
-use Rattle.hm_heap.specs.Closes.{Closes}
 use Rattle.hm_heap.proofs.Closing.{closes_more, closes_all}
 use Rattle.hm_heap.proofs.close.close_all.Goals as goal
 
