@@ -299,8 +299,12 @@ fn both_ask<R: Threads + Wait + Sync, P: Pages>(
 {
     join(
         rt,
-        || first_asks(rt, heap, first),
-        || second_asks(heap, gate, second),
+        ||
+            requires { AreOf heap.now.locks first.turns }
+        { first_asks(rt, heap, first) },
+        ||
+            requires { AreOf heap.now.locks second.turns }
+        { second_asks(heap, gate, second) },
     )
 }
 
