@@ -1,0 +1,64 @@
+-- Which plan a call of a heap follows.
+use Rattle.std.proofs.Common.{◌≡◌, ◌==◌, ◌*◌, ◌^◌, ◌<◌, ℕ, Bool, true, false, if◌then◌else◌, Option, Some, None, Ok, refl, sym, ◌∙◌, ap}
+use Rattle.hm_model.specs.declared.answer.Answer.{Answer}
+use Rattle.hm_model.specs.declared.answer.Answer.TheVariants as answer
+use Rattle.hm_sizes.specs.declared.class.Kind.{Kind}
+use Rattle.hm_sizes.specs.declared.config.Config.{Config}
+use Rattle.hm_sizes.specs.Aligned.{AlignedGives}
+use Rattle.hm_sizes.specs.Sizes.{IsKindOf}
+use Rattle.hm_model.specs.declared.entry.Call.{Call}
+use Rattle.hm_model.specs.declared.entry.Reply.{Reply}
+use Rattle.hm_model.specs.declared.entry.Reply.TheVariants.{Given, Overwritten, Exhausted, NoSpace, PagesFailed, Freed, NoSlot, Unused, DoubleFree, WrongSize, Canary, Usable, Bytes, Filled, Trap, NotLive}
+use Rattle.hm_heap.specs.Passes.{PassView}
+use Rattle.hm_heap.specs.Plans.{Plan, Done, Follows}
+use Rattle.hm_heap.specs.Requests.{Reaches}
+use Rattle.hm_heap.specs.Calls.{place_for, home_place, allot_plan, aligned_plan, moving_plan, resize_plan, IsCallocPlan, IsAlignedPlan, IsReallocPlan, ReplyInReach}
+
+-- an answer without a part
+pub answers_at_once : (p : PassView) (step : ℕ) (a : Answer) → Follows p p step 1 (Done a) (Ok a)
+answers_at_once p step a = (refl, refl)
+
+pub overflows : (c : Config) (thread count size : ℕ) → (count * size < 2 ^ 64 → ⊥) → IsCallocPlan c thread count size (Done answer.Overflow)
+overflows c thread count size most = record { overflow = λ e. refl; fits = λ lt. absurd (most lt) }
+
+pub no_alignment_plan : (c : Config) (thread align asked : ℕ) → AlignedGives asked align None → IsAlignedPlan c thread align asked (Done answer.BadAlignment)
+no_alignment_plan c thread align asked none = record { kind = None; kind_is = none; is = refl }
+
+module _ (c : Config) (thread a asked : ℕ) (kind : Kind) (kind_is : IsKindOf asked kind) where
+  pub too_large : None ≡ place_for c thread kind → IsReallocPlan c thread a asked (Done answer.TooLarge)
+  too_large at = record { kind = kind; kind_is = kind_is; is = ap (resize_plan c thread a asked kind) at }
+
+  pub is_malloc : (place : ℕ) → Some place ≡ place_for c thread kind → a ≡ 0 → IsReallocPlan c thread a asked (allot_plan c thread asked 1 kind)
+  is_malloc place at zero = record {
+    kind = kind;
+    kind_is = kind_is;
+    is = sym (ap (λ (n : ℕ). if n == 0 then allot_plan c thread asked 1 kind else moving_plan c place a asked kind (home_place c a)) zero) ∙ ap (resize_plan c thread a asked kind) at;
+  }
+
+  pub moves : (place : ℕ) (home : Option ℕ) → Some place ≡ place_for c thread kind → (a == 0) ≡ false → home ≡ home_place c a → IsReallocPlan c thread a asked (moving_plan c place a asked kind home)
+  moves place home at some is = record {
+    kind = kind;
+    kind_is = kind_is;
+    is = ap (moving_plan c place a asked kind) is
+        ∙ sym (ap (λ (b : Bool). if b then allot_plan c thread asked 1 kind else moving_plan c place a asked kind (home_place c a)) some)
+        ∙ ap (resize_plan c thread a asked kind) at;
+  }
+
+-- the block of a reply
+pub reply_in_reach : (call : Call) (reply : Reply) → Reaches call reply → ReplyInReach reply
+reply_in_reach call (Given a usable) r = r.given a usable refl
+reply_in_reach call (Overwritten a at found) r = tt
+reply_in_reach call Exhausted r = tt
+reply_in_reach call NoSpace r = tt
+reply_in_reach call PagesFailed r = tt
+reply_in_reach call Freed r = tt
+reply_in_reach call NoSlot r = tt
+reply_in_reach call Unused r = tt
+reply_in_reach call DoubleFree r = tt
+reply_in_reach call (WrongSize block stated) r = tt
+reply_in_reach call (Canary kept found) r = tt
+reply_in_reach call (Usable size) r = tt
+reply_in_reach call (Bytes runs) r = tt
+reply_in_reach call Filled r = tt
+reply_in_reach call (Trap a) r = tt
+reply_in_reach call NotLive r = tt

@@ -1,0 +1,13 @@
+pub mod Origins
+pub mod ClassRegions
+pub mod LargeRegions
+pub mod Entering
+pub mod Placing
+pub mod Reaching
+pub mod Asking
+pub mod Maps
+pub mod Splitting
+pub mod Founding
+pub mod Closing
+pub mod Answering
+pub mod Blocks

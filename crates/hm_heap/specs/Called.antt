@@ -1,0 +1,46 @@
+-- What one call of a region tells its turn.
+use Rattle.std.specs.Prelude.{◌≡◌, ◌≤◌, List, [], ◌∷◌, ◌++◌, Result, MatchResult, Option, MatchOption}
+use Rattle.hm_outside.specs.declared.memory.NoMemory.{NoMemory}
+use Rattle.hm_model.specs.declared.entry.Call.{Call}
+use Rattle.hm_model.specs.declared.entry.Entry.{Entry}
+use Rattle.hm_model.specs.declared.entry.Reply.{Reply}
+use Rattle.hm_model.specs.declared.entry.Who.{Who}
+use Rattle.hm_model.specs.Entries.{calls_of}
+use Rattle.hm_turn.specs.Histories.{StartsWith}
+use Rattle.hm_turn.specs.Knowledge.{Knowledge, with_lost}
+use Rattle.hm_heap.specs.Accepted.{IsAccepted}
+use Rattle.hm_heap.specs.Lawful.{IsLawful}
+use Rattle.hm_heap.specs.Origins.{origin_in}
+use Rattle.hm_heap.specs.Requests.{IsReply}
+
+pub record IsEntryOf (who : Who) (call : Call) (reply : Reply) (e : Entry) : Type 0 where
+  pub who_is : e.who ≡ who
+  pub call_is : e.call ≡ call
+  pub reply_is : e.reply ≡ reply
+
+-- the history ends with the call and its reply, which is one more entry of the caller's
+pub record Makes (who : Who) (call : Call) (reply : Reply) (before after : Knowledge) : Type 0 where
+  pub entry : Entry
+  pub is : IsEntryOf who call reply entry
+  pub kind : IsReply (origin_in before.origin) call reply
+  pub earlier : List Entry
+  pub seen : after.seen ≡ earlier ++ entry ∷ []
+  pub mine : after.mine ≡ before.mine ++ entry ∷ []
+
+-- memory lacked: there is no entry, and the call was no free of a live block with its own size and canary
+pub record Lacks (call : Call) (before after : Knowledge) : Type 0 where
+  pub mine : after.mine ≡ before.mine
+  pub not_accepted : IsAccepted (origin_in before.origin) after.seen call → ⊥
+
+-- the history is lawful and goes on from what was seen. Where the call was replied to, it ends with the call
+pub record Called (who : Who) (call : Call) (result : Result Reply NoMemory) (before after : Knowledge) : Type 0 where
+  pub same : after ≡ record before { seen = after.seen; mine = after.mine; lost = after.lost }
+  pub lost : before.lost ≤ after.lost
+  pub begins : StartsWith after.seen before.seen
+  pub lawful : IsLawful (origin_in before.origin) after.seen
+  pub own : calls_of after.seen before.caller ≡ after.mine
+  pub made : MatchResult result (λ reply. Makes who call reply before after) (λ _. Lacks call before after)
+
+-- a call that may find the turn held: then one more step of this turn found it so, and nothing else changed
+abbrev pub Tried : Who → Call → Option (Result Reply NoMemory) → Knowledge → Knowledge → Type 0
+Tried who call tried before after = MatchOption tried (after ≡ with_lost before) (λ result. Called who call result before after)

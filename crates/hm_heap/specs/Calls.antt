@@ -1,0 +1,156 @@
+-- The plan of each call of a heap: its refusals in their order, its parts, and its answer.
+use Rattle.std.specs.Prelude.{◌≡◌, ◌+◌, ◌-◌, ◌*◌, ◌%◌, ◌^◌, ◌<◌, ◌≤◌, ◌==◌, nat_lt, min, ◌&&◌, ℕ, Bool, false, if◌then◌else◌, List, Option, Some, None, ⊤}
+use Rattle.hm_model.specs.declared.answer.Answer.{Answer}
+use Rattle.hm_model.specs.declared.answer.Answer.TheVariants as answer
+use Rattle.hm_model.specs.declared.entry.Call.{Call}
+use Rattle.hm_model.specs.declared.entry.Call.TheVariants.{Allot, GiveBack, Measure, Fetch, Fill}
+use Rattle.hm_model.specs.declared.entry.Reply.{Reply}
+use Rattle.hm_model.specs.declared.entry.Reply.TheVariants.{Given, Freed, Usable, Bytes, Filled}
+use Rattle.hm_sizes.specs.declared.class.Kind.{Kind}
+use Rattle.hm_sizes.specs.declared.class.Kind.TheVariants.{Small, Large, TooLarge}
+use Rattle.hm_sizes.specs.declared.config.Config.{Config}
+use Rattle.hm_sizes.specs.declared.home.Home.{Home}
+use Rattle.hm_sizes.specs.declared.home.Home.TheVariants.{Class, Large as LargeHome, Outside}
+use Rattle.hm_sizes.specs.Aligned.{AlignedGives}
+use Rattle.hm_sizes.specs.Classes.{class_count}
+use Rattle.hm_sizes.specs.Homes.{region_count, home_of}
+use Rattle.hm_sizes.specs.Sizes.{IsKindOf}
+use Rattle.hm_heap.specs.Plans.{Plan, Done, Part}
+use Rattle.hm_heap.specs.Requests.{IsInReach}
+
+-- ---- where the parts are made
+-- thread T asks for its small blocks in arena (T - 1) mod arenas
+abbrev pub class_place : Config → ℕ → ℕ → ℕ
+class_place c thread class = (thread - 1) % c.arenas * class_count + class
+
+abbrev pub large_place : Config → ℕ
+large_place c = region_count c
+
+-- where a block of this kind is asked for; one that is too large is asked for nowhere
+abbrev pub place_for : Config → ℕ → Kind → Option ℕ
+place_for c thread (Small class) = Some (class_place c thread class.0)
+place_for c thread (Large size) = Some (large_place c)
+place_for c thread TooLarge = None
+
+-- where the region of an address stands
+abbrev pub place_of_home : Config → Home → Option ℕ
+place_of_home c (Class region) = Some region.0
+place_of_home c LargeHome = Some (large_place c)
+place_of_home c Outside = None
+
+abbrev pub home_place : Config → ℕ → Option ℕ
+home_place c a = place_of_home c (home_of c a)
+
+-- ---- calls of one part
+abbrev pub replied : Reply → Plan
+replied reply = Done (answer.Reply reply)
+
+-- one part in the region of an address
+abbrev pub at_home : Option ℕ → Call → Plan
+at_home None call = Done answer.Outside
+at_home (Some place) call = Part place call replied
+
+-- a request that goes to a block of this kind; a class region asks for no alignment
+abbrev pub allot_plan : Config → ℕ → ℕ → ℕ → Kind → Plan
+allot_plan c thread asked align TooLarge = Done answer.TooLarge
+allot_plan c thread asked align (Small class) = Part (class_place c thread class.0) (Allot asked 1) replied
+allot_plan c thread asked align (Large size) = Part (large_place c) (Allot asked align) replied
+
+pub record IsMallocPlan (c : Config) (thread asked : ℕ) (plan : Plan) : Type 0 where
+  pub kind : Kind
+  pub kind_is : IsKindOf asked kind
+  pub is : plan ≡ allot_plan c thread asked 1 kind
+
+-- of count times size, where the product is below 2 ^ 64
+pub record IsCallocPlan (c : Config) (thread count size : ℕ) (plan : Plan) : Type 0 where
+  pub overflow : 2 ^ 64 ≤ count * size → plan ≡ Done answer.Overflow
+  pub fits : count * size < 2 ^ 64 → IsMallocPlan c thread (count * size) plan
+
+abbrev pub aligned_plan : Config → ℕ → ℕ → ℕ → Option Kind → Plan
+aligned_plan c thread asked align None = Done answer.BadAlignment
+aligned_plan c thread asked align (Some kind) = allot_plan c thread asked align kind
+
+pub record IsAlignedPlan (c : Config) (thread align asked : ℕ) (plan : Plan) : Type 0 where
+  pub kind : Option Kind
+  pub kind_is : AlignedGives asked align kind
+  pub is : plan ≡ aligned_plan c thread asked align kind
+
+-- a free, with a stated size or none
+abbrev pub free_plan : Config → ℕ → Option ℕ → Plan
+free_plan c a stated = if a == 0 then Done answer.Nothing else at_home (home_place c a) (GiveBack a stated)
+
+abbrev pub usable_plan : Config → ℕ → Plan
+usable_plan c a = if a == 0 then Done (answer.Reply (Usable 0)) else at_home (home_place c a) (Measure a)
+
+abbrev pub read_plan : Config → ℕ → ℕ → Plan
+read_plan c a len = at_home (home_place c a) (Fetch a len)
+
+abbrev pub write_plan : Config → ℕ → List (ℕ × ℕ) → Plan
+write_plan c a runs = at_home (home_place c a) (Fill a runs)
+
+-- ---- moving a block from home to place: each step takes what the one before replied
+-- the old block was given back, or not
+abbrev pub freed : ℕ → ℕ → Reply → Plan
+freed new usable Freed = Done (answer.Reply (Given new usable))
+freed new usable reply = Done (answer.HalfMoved new usable reply)
+
+abbrev pub freeing : ℕ → ℕ → ℕ → ℕ → Plan
+freeing home a new usable = Part home (GiveBack a None) (freed new usable)
+
+-- the new block was filled, or not
+abbrev pub filled : ℕ → ℕ → ℕ → ℕ → Reply → Plan
+filled home a new usable Filled = freeing home a new usable
+filled home a new usable reply = Done (answer.HalfMoved new usable reply)
+
+-- the old block's bytes were fetched, or not
+abbrev pub fetched : ℕ → ℕ → ℕ → ℕ → ℕ → Reply → Plan
+fetched home place a new usable (Bytes runs) = Part place (Fill new runs) (filled home a new usable)
+fetched home place a new usable reply = Done (answer.HalfMoved new usable reply)
+
+-- so many bytes are copied
+abbrev pub copying : ℕ → ℕ → ℕ → ℕ → ℕ → ℕ → Plan
+copying home place a new usable count =
+    if count == 0 then freeing home a new usable else Part home (Fetch a count) (fetched home place a new usable)
+
+-- the new block was given, or not
+abbrev pub allotted : ℕ → ℕ → ℕ → ℕ → Reply → Plan
+allotted home place a count (Given new usable) = copying home place a new usable count
+allotted home place a count reply = Done (answer.Reply reply)
+
+-- the old block was measured, or not: it stays where it serves, and else the lesser of its usable size and the new asked
+-- size is copied
+abbrev pub measured : ℕ → ℕ → ℕ → ℕ → (ℕ → Bool) → Reply → Plan
+measured home place a asked keeps (Usable old) =
+    if keeps old then Done (answer.Kept a old) else Part place (Allot asked 1) (allotted home place a (min old asked))
+measured home place a asked keeps reply = Done (answer.Reply reply)
+
+-- a block at home with so many usable bytes serves the new kind as it is: the class, or the large size, is the same
+abbrev pub keeps : Config → ℕ → Kind → ℕ → Bool
+keeps c home (Small class) old = nat_lt home (region_count c) && ((home % class_count) == class.0)
+keeps c home (Large size) old = (home == large_place c) && (size == old)
+keeps c home TooLarge old = false
+
+abbrev pub moving_plan : Config → ℕ → ℕ → ℕ → Kind → Option ℕ → Plan
+moving_plan c place a asked kind None = Done answer.Outside
+moving_plan c place a asked kind (Some home) = Part home (Measure a) (measured home place a asked (keeps c home kind))
+
+abbrev pub resize_plan : Config → ℕ → ℕ → ℕ → Kind → Option ℕ → Plan
+resize_plan c thread a asked kind None = Done answer.TooLarge
+resize_plan c thread a asked kind (Some place) =
+    if a == 0 then allot_plan c thread asked 1 kind else moving_plan c place a asked kind (home_place c a)
+
+pub record IsReallocPlan (c : Config) (thread a asked : ℕ) (plan : Plan) : Type 0 where
+  pub kind : Kind
+  pub kind_is : IsKindOf asked kind
+  pub is : plan ≡ resize_plan c thread a asked kind (place_for c thread kind)
+
+-- ---- where the block of an answer lies
+abbrev pub ReplyInReach : Reply → Type 0
+ReplyInReach (Given a usable) = IsInReach a
+ReplyInReach reply = ⊤
+
+abbrev pub AnswerInReach : Answer → Type 0
+AnswerInReach (answer.Reply reply) = ReplyInReach reply
+AnswerInReach (answer.Kept a usable) = IsInReach a
+AnswerInReach (answer.HalfMoved a usable cause) = IsInReach a
+AnswerInReach other = ⊤

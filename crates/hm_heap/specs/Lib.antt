@@ -1,0 +1,14 @@
+pub mod Origins
+pub mod Lawful
+pub mod Accepted
+pub mod Requests
+pub mod Regions
+pub mod Called
+pub mod Passes
+pub mod Parts
+pub mod Plans
+pub mod Calls
+pub mod Founds
+pub mod Loops
+pub mod Closes
+pub mod Laws

@@ -1,0 +1,29 @@
+-- One part of a call of a heap: a call of the region at one place, under its turn.
+use Rattle.std.specs.Prelude.{◌≡◌, ◌<◌, ℕ, List, length, slice_index_or, slice_set, Option, Result}
+use Rattle.hm_outside.specs.declared.memory.NoMemory.{NoMemory}
+use Rattle.hm_model.specs.declared.entry.Call.{Call}
+use Rattle.hm_model.specs.declared.entry.Reply.{Reply}
+use Rattle.hm_model.specs.declared.entry.Who.{Who}
+use Rattle.hm_turn.specs.Known.{Known}
+use Rattle.hm_heap.specs.Called.{Called, Tried}
+use Rattle.hm_heap.specs.Passes.{PassView}
+
+-- who makes this part of a step
+abbrev pub who_of : PassView → ℕ → ℕ → Who
+who_of p step part = record { caller = p.caller; round = p.round; thread = p.thread; step = step; part = part }
+
+-- the turn at this place made the call; every other turn is as before
+pub record HasPart (p q : PassView) (place : ℕ) (who : Who) (call : Call) (result : Result Reply NoMemory) : Type 0 where
+  pub inside : place < length p.turns
+  pub turn : Known
+  pub turns_are : q.turns ≡ slice_set p.turns place turn
+  pub called : (t : Known) → (turn.lock ≡ (slice_index_or p.turns place t).lock)
+      × Called who call result (slice_index_or p.turns place t).knows turn.knows
+
+-- the same, where the turn may have been held
+pub record HasTried (p q : PassView) (place : ℕ) (who : Who) (call : Call) (made : Option (Result Reply NoMemory)) : Type 0 where
+  pub inside : place < length p.turns
+  pub turn : Known
+  pub turns_are : q.turns ≡ slice_set p.turns place turn
+  pub tried : (t : Known) → (turn.lock ≡ (slice_index_or p.turns place t).lock)
+      × Tried who call made (slice_index_or p.turns place t).knows turn.knows

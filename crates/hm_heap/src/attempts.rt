@@ -1,0 +1,100 @@
+//! The calls of a heap that wait for nobody.
+ghost use Rattle.std.specs.Prelude.{◌≡◌, ◌<◌, ◌^◌, None, length, IfOk};
+ghost use Rattle.hm_heap.specs.Requests.{call_of, Asks, AsksOfKind};
+ghost use Rattle.hm_heap.specs.Passes.{AreOf, region_at};
+ghost use Rattle.hm_heap.specs.Plans.{Part, Tries, ServesTry};
+ghost use Rattle.hm_heap.specs.Calls.{replied, allot_plan, IsMallocPlan, free_plan, AnswerInReach};
+
+use crate::heap::Heap;
+use crate::homes::{class_place, home_place, large_place};
+use crate::pass::Pass;
+use crate::request::Request;
+use hm_model::Answer;
+use hm_outside::{Gate, NoMemory, Pages};
+use hm_sizes::{Kind, class_of};
+
+impl<'g, P: Pages, G: Gate> Heap<'g, P, G> {
+    // The only part of a call, if the region's turn is free.
+    #[tactic(auto, using(crate::proofs::Answering::reply_in_reach))]
+    fn try_reply_of(
+        &self,
+        pass: &mut Pass,
+        place: usize,
+        step: u32,
+        request: Request,
+    ) -> Result<Answer, NoMemory>
+        requires of { AreOf self.now.locks pass.old.turns }
+        requires place { place < length self.now.locks }
+        requires asks { Asks (region_at self.now.config place) (call_of request) }
+        ensures same { pass.new ≡ record pass.old { turns = pass.new.turns } }
+        ensures of { AreOf self.now.locks pass.new.turns }
+        ensures answer { Tries pass.old pass.new step (Part place (call_of request.entry) replied) result }
+        ensures reach { IfOk result AnswerInReach }
+    {
+        match self.try_make(pass, place, step, 1, request) {
+            Some(Ok(reply)) => Ok(Answer::Reply(reply)),
+            Some(Err(none)) => Err(none),
+            None => Ok(Answer::Busy),
+        }
+    }
+
+    // A block of this kind, if the turn of its region is free.
+    fn try_allot(
+        &self,
+        pass: &mut Pass,
+        step: u32,
+        asked: u64,
+        kind: Kind,
+    ) -> Result<Answer, NoMemory>
+        requires of { AreOf self.now.locks pass.old.turns }
+        requires kind { AsksOfKind asked 1 kind }
+        ensures same { pass.new ≡ record pass.old { turns = pass.new.turns } }
+        ensures of { AreOf self.now.locks pass.new.turns }
+        ensures answer { Tries pass.old pass.new step (allot_plan self.now.config pass.old.thread asked 1 kind) result }
+        ensures reach { IfOk result AnswerInReach }
+    {
+        let request = Request::Allot { asked, align: 1 };
+        match kind {
+            Kind::TooLarge => Ok(Answer::TooLarge),
+            Kind::Small(class) => {
+                let place = class_place(&self.config, pass.thread, class);
+                self.try_reply_of(pass, place, step, request)
+            }
+            Kind::Large(_size) => {
+                let place = large_place(&self.config);
+                self.try_reply_of(pass, place, step, request)
+            }
+        }
+    }
+
+    /// As `malloc`, but it waits for nobody: the answer is `Busy` where its one step found the turn of the
+    /// region held.
+    pub fn try_malloc(&self, pass: &mut Pass, step: u32, asked: u64) -> Result<Answer, NoMemory>
+        requires of { AreOf self.now.locks pass.old.turns }
+        ensures same { pass.new ≡ record pass.old { turns = pass.new.turns } }
+        ensures of { AreOf self.now.locks pass.new.turns }
+        ensures answer { ServesTry (IsMallocPlan self.now.config pass.old.thread asked) pass.old pass.new step result }
+        ensures reach { IfOk result AnswerInReach }
+    {
+        self.try_allot(pass, step, asked, class_of(asked))
+    }
+
+    /// As `free`, but it waits for nobody.
+    pub fn try_free(&self, pass: &mut Pass, step: u32, addr: u64) -> Result<Answer, NoMemory>
+        requires of { AreOf self.now.locks pass.old.turns }
+        ensures same { pass.new ≡ record pass.old { turns = pass.new.turns } }
+        ensures of { AreOf self.now.locks pass.new.turns }
+        ensures answer { Tries pass.old pass.new step (free_plan self.now.config addr None) result }
+    {
+        if addr == 0 {
+            return Ok(Answer::Nothing);
+        }
+        match home_place(&self.config, addr) {
+            None => Ok(Answer::Outside),
+            Some(place) => {
+                let request = Request::GiveBack { addr, stated: None };
+                self.try_reply_of(pass, place, step, request)
+            }
+        }
+    }
+}

@@ -1,0 +1,44 @@
+//! Where the regions stand that serve a call.
+ghost use Rattle.std.specs.Prelude.{◌≡◌, ◌+◌, ◌<◌, ◌≤◌, IfSome};
+ghost use Rattle.hm_sizes.specs.Classes.{class_count};
+ghost use Rattle.hm_sizes.specs.Configs.{IsValid};
+ghost use Rattle.hm_sizes.specs.Homes.{region_count};
+ghost use Rattle.hm_heap.specs.Requests.{IsInReach};
+ghost use Rattle.hm_heap.specs.Calls.{class_place, large_place, home_place};
+
+use crate::heap::CLASSES;
+use hm_sizes::{ClassId, Config, Home, home_of};
+
+/// The place of the region of a class in the arena of a thread.
+pub(crate) fn class_place(config: &Config, thread: u32, class: ClassId) -> usize
+    requires valid { IsValid config.now }
+    requires thread { 1 ≤ thread }
+    requires class { class.0 < class_count }
+    ensures place { result ≡ class_place config.now thread class.0 }
+    ensures below { result < region_count config.now }
+{
+    let arena = (thread - 1) % config.arenas;
+    (arena * CLASSES + u32::from(class.0)) as usize
+}
+
+/// The place of the large region.
+pub(crate) fn large_place(config: &Config) -> usize
+    requires { config.now.arenas ≤ 4 }
+    ensures { result ≡ large_place config.now }
+{
+    (config.arenas * CLASSES) as usize
+}
+
+/// The place of the region to which an address belongs.
+pub(crate) fn home_place(config: &Config, addr: u64) -> Option<usize>
+    requires { IsValid config.now }
+    ensures place { result ≡ home_place config.now addr }
+    ensures below { IfSome result (λ place. place < region_count config.now + 1) }
+    ensures reach { IfSome result (λ place. IsInReach addr) }
+{
+    match home_of(config, addr) {
+        Home::Class(region) => Some(region.0 as usize),
+        Home::Large => Some(large_place(config)),
+        Home::Outside => None,
+    }
+}

@@ -1,0 +1,34 @@
+//! Laws of lawful histories, whatever the region. Each function does nothing of its own: its contract is the
+//! law.
+ghost use Rattle.hm_heap.specs.Laws.{BlocksApart, BlocksDelayed, BlocksZeroed, HomesOfBlocks, RegionsApart, SlotsDelayed, SlotsZeroed};
+
+use hm_sizes::home_laws;
+
+/// The home of each address of a live block is the block's region.
+pub fn homes_of_blocks()
+    ensures { HomesOfBlocks }
+{
+    home_laws();
+}
+
+/// No two live blocks share an address, in one region or across regions.
+pub fn apart_blocks()
+    ensures blocks { BlocksApart }
+    ensures regions { RegionsApart }
+{
+    home_laws();
+    homes_of_blocks();
+}
+
+/// All bytes of a given block are zero: of a slot the usable ones, where they are told.
+pub fn zeroed_blocks()
+    ensures slots { SlotsZeroed }
+    ensures blocks { BlocksZeroed }
+{}
+
+/// A freed slot, or the range of a freed block below 32 MiB, is given again only after a stated number of
+/// further frees.
+pub fn delayed_blocks()
+    ensures slots { SlotsDelayed }
+    ensures blocks { BlocksDelayed }
+{}
