@@ -20,7 +20,8 @@ mod trace_fault;
 mod words;
 mod writing;
 
-use hm_outside::{NoGate, PlainMaker, StdinSource, StdoutSink};
+use hm_frames::FrameMaker;
+use hm_outside::{NoGate, StdinSource, StdoutSink};
 use run::replay;
 use std::env;
 use std::io::ErrorKind;
@@ -57,7 +58,7 @@ fn main(rt: HostRuntime) -> ExitCode {
                 &words,
                 &mut source,
                 &mut sink,
-                &mut PlainMaker,
+                &mut FrameMaker,
                 &NoGate,
             );
             ExitCode::from(run.status)

@@ -2,6 +2,7 @@
 ghost use Rattle.std.specs.Prelude.{None};
 
 use crate::run::{Run, replay};
+use hm_frames::FrameMaker;
 use hm_outside::{
     FailingMaker, NoGate, NoMemory, PageMaker, PlainMaker, PlainPages, RegionId, Source,
     SourceFault, VecSink, VecSource,
@@ -228,17 +229,34 @@ fn statuses_and_output(rt: HostRuntime) -> Result<(), Fail> {
     Ok(())
 }
 
+// Runs the steps of one thread. What is written is in the sink.
+fn run_steps<R: Wait + Threads, M: PageMaker>(
+    rt: &R,
+    alloc: Global,
+    steps: &str,
+    sink: &mut VecSink,
+    maker: &mut M,
+) -> Result<u8, Fail> {
+    let text = format!(in alloc; "hmtrace 1\nround\nthread 1\n{steps}end\n")?;
+    let bytes = Vec::from_slice(alloc, text.as_bytes())?;
+    let mut source = source(alloc, bytes, 65_536, 0)?;
+    let run = run_over(rt, alloc, "run", &mut source, sink, maker)?;
+    Ok(run.status)
+}
+
+// Pages in raw memory and plain ones give the same bytes.
 #[test]
 fn scripts(rt: HostRuntime) -> Result<(), Fail> {
     let alloc = rt.alloc();
     for (steps, output, status) in SCRIPTS {
-        let text = format!(in alloc; "hmtrace 1\nround\nthread 1\n{steps}end\n")?;
-        let bytes = Vec::from_slice(alloc, text.as_bytes())?;
-        let mut source = source(alloc, bytes, 65_536, 0)?;
-        let mut sink = VecSink::build(alloc, 999, 999, Vec::new(alloc))?;
-        let run = run_over(&rt, alloc, "run", &mut source, &mut sink, &mut PlainMaker)?;
-        assert_eq!(rt; run.status, status, "{steps}");
-        assert_eq!(rt; sink.held.as_slice(), output.as_bytes(), "{steps}");
+        let mut plain = VecSink::build(alloc, 999, 999, Vec::new(alloc))?;
+        let over_plain = run_steps(&rt, alloc, steps, &mut plain, &mut PlainMaker)?;
+        assert_eq!(rt; over_plain, status, "{steps}");
+        assert_eq!(rt; plain.held.as_slice(), output.as_bytes(), "{steps}");
+        let mut raw = VecSink::build(alloc, 999, 999, Vec::new(alloc))?;
+        let over_raw = run_steps(&rt, alloc, steps, &mut raw, &mut FrameMaker)?;
+        assert_eq!(rt; over_raw, status, "{steps}");
+        assert_eq!(rt; raw.held.as_slice(), output.as_bytes(), "{steps}");
     }
     Ok(())
 }
