@@ -31,11 +31,7 @@ enum Ask {
 
 /// The address of a block, with an offset.
 fn at(blocks: &[u64], block: usize, offset: u64) -> u64 {
-    blocks
-        .get(block)
-        .copied()
-        .unwrap_or(0)
-        .wrapping_add(offset)
+    blocks.get(block).copied().unwrap_or(0).wrapping_add(offset)
 }
 
 /// Makes one call. A read is of one byte, and a write of up to 1,000 bytes 65.
@@ -294,7 +290,10 @@ fn both_ask<R: Threads + Wait + Sync, P: Pages>(
     gate: &Holding,
     first: Pass,
     second: Pass,
-) -> (Result<Answer, NoMemory>, (Result<Answer, NoMemory>, Result<Answer, NoMemory>))
+) -> (
+    Result<Answer, NoMemory>,
+    (Result<Answer, NoMemory>, Result<Answer, NoMemory>),
+)
     requires { AreOf heap.now.locks first.turns × AreOf heap.now.locks second.turns }
 {
     join(
