@@ -1,5 +1,5 @@
 -- Which plan a call of a heap follows.
-use Rattle.std.proofs.Common.{◌≡◌, ◌==◌, ◌*◌, ◌^◌, ◌<◌, ℕ, Bool, true, false, if◌then◌else◌, Option, Some, None, Ok, refl, sym, ◌∙◌, ap}
+use Rattle.std.proofs.Common.{◌≡◌, ◌==◌, ◌*◌, ◌^◌, ◌<◌, ℕ, Bool, false, if◌then◌else◌, Option, Some, None, Ok, refl, sym, ◌∙◌, ap}
 use Rattle.hm_model.specs.declared.answer.Answer.{Answer}
 use Rattle.hm_model.specs.declared.answer.Answer.TheVariants as answer
 use Rattle.hm_sizes.specs.declared.class.Kind.{Kind}
@@ -10,9 +10,9 @@ use Rattle.hm_model.specs.declared.entry.Call.{Call}
 use Rattle.hm_model.specs.declared.entry.Reply.{Reply}
 use Rattle.hm_model.specs.declared.entry.Reply.TheVariants.{Given, Overwritten, Exhausted, NoSpace, PagesFailed, Freed, NoSlot, Unused, DoubleFree, WrongSize, Canary, Usable, Bytes, Filled, Trap, NotLive}
 use Rattle.hm_heap.specs.Passes.{PassView}
-use Rattle.hm_heap.specs.Plans.{Plan, Done, Follows}
+use Rattle.hm_heap.specs.Plans.{Done, Follows}
 use Rattle.hm_heap.specs.Requests.{Reaches}
-use Rattle.hm_heap.specs.Calls.{place_for, home_place, allot_plan, aligned_plan, moving_plan, resize_plan, IsCallocPlan, IsAlignedPlan, IsReallocPlan, ReplyInReach}
+use Rattle.hm_heap.specs.Calls.{place_for, home_place, allot_plan, moving_plan, resize_plan, IsCallocPlan, IsAlignedPlan, IsReallocPlan, ReplyInReach}
 
 -- an answer without a part
 pub answers_at_once : (p : PassView) (step : ℕ) (a : Answer) → Follows p p step 1 (Done a) (Ok a)

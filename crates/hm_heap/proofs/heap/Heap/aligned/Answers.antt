@@ -1,4 +1,4 @@
-use Rattle.std.proofs.Common.{◌≡◌, subst}
+use Rattle.std.proofs.Common.{subst}
 use Rattle.hm_model.specs.declared.answer.Answer.TheVariants.{BadAlignment}
 use Rattle.hm_sizes.specs.Aligned.{AlignedGives}
 use Rattle.hm_heap.specs.Plans.{Done}

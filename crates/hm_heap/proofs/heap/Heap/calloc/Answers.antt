@@ -1,4 +1,3 @@
-use Rattle.std.proofs.Common.{◌≡◌}
 use Rattle.hm_model.specs.declared.answer.Answer.TheVariants.{Overflow}
 use Rattle.hm_heap.specs.Plans.{Done}
 use Rattle.hm_heap.proofs.Answering.{answers_at_once, overflows}
