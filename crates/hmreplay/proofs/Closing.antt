@@ -12,7 +12,7 @@ use Rattle.hm_class_rules.specs.Rules.{Terms, IsLegal, state}
 use Rattle.hm_class.specs.Region.{Region, IsRegion, HoldsSlabs, terms as region_terms}
 use Rattle.hm_report.specs.declared.results.StepResult.{StepResult}
 use Rattle.hm_trace.specs.Views.{StepView}
-use Rattle.hmreplay.specs.declared.closed.History.{History}
+use Rattle.hm_heap.specs.declared.close.History.{History}
 use Rattle.hmreplay.specs.FirstRegion.{config, shape, terms, IsFirstRegion}
 use Rattle.hmreplay.specs.Histories.{AreClosed, HasClosed}
 use Rattle.hmreplay.specs.Scripts.{Settings, Runs}

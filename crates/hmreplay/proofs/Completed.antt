@@ -10,7 +10,7 @@ use Rattle.hm_trace.specs.Views.{ScriptView}
 use Rattle.hm_report.specs.declared.results.Results.{Results}
 use Rattle.hm_report.specs.Findings.{has_finding}
 use Rattle.hm_report.specs.Text.{report_text}
-use Rattle.hmreplay.specs.declared.closed.Closed.{Closed}
+use Rattle.hm_heap.specs.declared.close.Closed.{Closed}
 use Rattle.hmreplay.specs.declared.refusal.Refusal.{Refusal}
 use Rattle.hmreplay.specs.declared.refusal.Refusal.TheVariants.{Usage, NotBuilt, ReadFault, TooLong}
 use Rattle.hmreplay.specs.Built.{is_built}

@@ -3,7 +3,7 @@ use Rattle.std.proofs.Common.{◌≡◌, ◌⊎◌, ℕ, ◌<◌, ◌≤◌, Boo
 use Rattle.hm_outside.specs.declared.pages.Pages as pages
 use Rattle.hm_outside.specs.PageRuns.{PageRuns}
 use Rattle.hm_report.specs.Findings.{has_finding}
-use Rattle.hmreplay.specs.declared.closed.Closed.{Closed}
+use Rattle.hm_heap.specs.declared.close.Closed.{Closed}
 use Rattle.hmreplay.specs.declared.refusal.Refusal.{Refusal}
 use Rattle.hmreplay.specs.declared.refusal.Refusal.TheVariants.{Usage, NotBuilt, ReadFault, TooLong}
 use Rattle.hmreplay.specs.Endings.{Ends, TextEnds, IsRefused, status_of, status_after}

@@ -15,7 +15,7 @@ use Rattle.hm_trace.specs.Faults.{text_fault}
 use Rattle.hm_trace.specs.Spelling.{spelling}
 use Rattle.hm_trace.specs.Traces.{IsTrace}
 use Rattle.hm_trace.specs.Views.{ScriptView}
-use Rattle.hmreplay.specs.declared.closed.Closed.{Closed}
+use Rattle.hm_heap.specs.declared.close.Closed.{Closed}
 use Rattle.hmreplay.specs.declared.refusal.Refusal.{Refusal}
 use Rattle.hmreplay.specs.declared.refusal.Refusal.TheVariants.{Usage, NotBuilt, ReadFault, TooLong}
 use Rattle.hmreplay.specs.Words.{AreRun}

@@ -7,8 +7,8 @@ use Rattle.hm_class_rules.specs.Drawn.{IsDrawn}
 use Rattle.hm_class.specs.Region.{Region, HoldsSlabs, region_shape}
 use Rattle.hm_report.specs.declared.results.StepResult.{StepResult}
 use Rattle.hm_trace.specs.Views.{StepView}
-use Rattle.hmreplay.specs.declared.closed.History.{History}
-use Rattle.hmreplay.specs.declared.closed.Closed.{Closed}
+use Rattle.hm_heap.specs.declared.close.History.{History}
+use Rattle.hm_heap.specs.declared.close.Closed.{Closed}
 use Rattle.hmreplay.specs.FirstRegion.{shape, terms}
 use Rattle.hmreplay.specs.Scripts.{Settings, Runs}
 

@@ -8,9 +8,9 @@ ghost use Rattle.hmreplay.specs.Built.{is_built_step};
 ghost use Rattle.hmreplay.specs.FirstRegion.{IsFirstRegion};
 ghost use Rattle.hmreplay.specs.Histories.{Closes, IsClosedAs};
 
-use crate::closed::{Closed, History};
 use crate::script::run_steps;
 use hm_class::ClassHeap;
+use hm_heap::{Closed, History};
 use hm_outside::{List, NoMemory, PageMaker, Pages, RegionId};
 use hm_report::StepResult;
 use hm_sizes::{ClassId, Config};

@@ -6,7 +6,7 @@ ghost use Rattle.hm_outside.specs.Causes.{Rose};
 ghost use Rattle.hm_trace.specs.Spelling.{spelling};
 ghost use Rattle.hm_trace.specs.Traces.{IsTrace};
 ghost use Rattle.hm_trace.specs.Views.{ScriptView};
-ghost use Rattle.hmreplay.specs.declared.closed.Closed.{Closed};
+ghost use Rattle.hm_heap.specs.declared.close.Closed.{Closed};
 ghost use Rattle.hmreplay.specs.Built.{is_built};
 ghost use Rattle.hmreplay.specs.Endings.{Ends};
 ghost use Rattle.hmreplay.specs.Streams.{IsTakenPast};

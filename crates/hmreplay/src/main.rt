@@ -4,7 +4,6 @@
 #![tactic(auto)]
 
 mod built;
-mod closed;
 mod heap;
 mod laws;
 mod names;

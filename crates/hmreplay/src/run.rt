@@ -8,13 +8,13 @@ ghost use Rattle.hmreplay.specs.Endings.{Ends, TextEnds, IsRun, status_of, line_
 ghost use Rattle.hmreplay.specs.Streams.{IsTakenWithin, IsWritten};
 
 use crate::built::{is_built, script_of};
-use crate::closed::Closed;
 use crate::heap::run_region;
 use crate::reading::{ReadStop, read_all};
 use crate::refusal::Refusal;
 use crate::trace_fault::line_of_fault;
 use crate::words::are_run;
 use crate::writing::finish;
+use hm_heap::Closed;
 use hm_outside::{Gate, List, NoMemory, PageMaker, Sink, Source};
 use hm_report::{Results, has_finding, report};
 use hm_trace::{ReadRefusal, Trace, TraceFault, read_trace};
