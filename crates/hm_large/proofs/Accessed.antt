@@ -1,19 +1,19 @@
 -- Which addresses are in the bytes of blocks, and the first that is not.
-use Rattle.std.proofs.Common.{◌≡◌, ◌≢◌, ◌⊎◌, inl, inr, ⊎_elim, ℕ, zero, suc, ◌+◌, ◌-◌, ◌<◌, ◌≤◌, ◌==◌, ◌&&◌, Bool, true, false, cond, List, [], ◌∷◌, length, take, drop, get_or, Option, Some, None, is_some, unwrap_or, sym, ◌∙◌, ap, subst, refl, arith, true≢false}
+use Rattle.std.proofs.Common.{◌≡◌, ◌≢◌, ◌⊎◌, inl, inr, ⊎_elim, ℕ, zero, suc, ◌+◌, ◌-◌, ◌<◌, ◌≤◌, ◌==◌, ◌&&◌, Bool, true, false, cond, List, [], ◌∷◌, length, take, drop, get_or, Option, Some, None, is_some, unwrap_or, sym, ◌∙◌, ap, subst, refl, arith, true≢false, option_map}
 use Rattle.std.specs.Prelude.{slice_get, nat_le, nat_lt}
 use Rattle.std.specs.Option.{IsSome}
-use Rattle.std.specs.Ordering.{nat_cmp}
-use Rattle.std.specs.BTreeMap as tree
+use Rattle.std.specs.FinMap as map
 use Rattle.std.proofs.lemmas.Bool.{cases_lt, cases_Bool, and_parts, and_from, and_right, le-leb, lt-ltb, leb-true, ltb-true, le-ltb}
 use Rattle.std.proofs.lemmas.List.{drop_more}
 use Rattle.hm_model.specs.Maps.{at, keys, times, removed}
 use Rattle.hm_model.proofs.Lists.{same_eq, other_eq, eq_same}
 use Rattle.hm_sizes.specs.declared.config.Config.{Config}
-use Rattle.hm_large.specs.declared.store.KeptBlock.{KeptBlock}
+use Rattle.hm_region_table.specs.declared.entry.Block.{Block as KeptBlock}
 use Rattle.hm_large.specs.declared.store.Store.{Store}
 use Rattle.hm_large.specs.Blocks.{Block, Blocks, covers, covered, byte_at, first_trap, bytes_read}
 use Rattle.hm_large.specs.State.{State}
 use Rattle.hm_large.specs.Laws.{IsPlaced, ArePlaced, IsSound}
+use Rattle.hm_large.specs.BlockTable.{live_size}
 use Rattle.hm_large.specs.Kept.{kept_of, kept_or, kept_at, Shows, AreGuarded}
 use Rattle.hm_large.specs.Stored.{HeldByNone, IsLeft}
 use Rattle.hm_large.proofs.BlockLists.{at_covered, covers_own, placed_at, how_many_removed, at_removed}
@@ -183,32 +183,42 @@ pub two_covered : (a b q : ℕ) (x y : Block) (m : Blocks) → at a m ≡ Some x
 two_covered a b q x y m e f ne first second once =
     omega (arith, how_many_removed (covers q) a x m e once, ap weight first, at_covered q b y (removed a m) (at_removed b a m ne ∙ f) second)
 
+-- the table has the size of each live block
+live_is : (c : Config) (n : ℕ) (s : State) (k : Store) (a : ℕ) → Shows c n s k → live_size (map.get k.blocks.blocks a) ≡ option_map (λ (b : Block). b.size) (at a s.live)
+live_is c n s k a h = ap live_size (h.blocks a) ∙ by_kind (at a s.live) (at a s.held)
+  where
+    by_kind : (o held : Option Block) → live_size (kept_or o held) ≡ option_map (λ (b : Block). b.size) o
+    by_kind (Some x) held = refl
+    by_kind None (Some y) = refl
+    by_kind None None = refl
+
+live_at : (c : Config) (n : ℕ) (s : State) (k : Store) (a : ℕ) (x : Block) → Shows c n s k → at a s.live ≡ Some x → live_size (map.get k.blocks.blocks a) ≡ Some x.size
+live_at c n s k a x h e = live_is c n s k a h ∙ ap (option_map (λ (b : Block). b.size)) e
+
 -- a block of which a byte is there is the last that begins there
-pub last_has : (c : Config) (n : ℕ) (s : State) (k : Store) (q start : ℕ) (b : KeptBlock) → IsSound c s → Shows c n s k → tree.get nat_cmp k.blocks start ≡ Some b → start ≤ q
-    → ((p : ℕ) → p ≤ q → IsSome (tree.get nat_cmp k.blocks p) → p ≤ start) → Finds s.live q → (x : Block) × (at start s.live ≡ Some x) × (b ≡ kept_of false x) × (q < start + x.size)
-last_has c n s k q start b sound h is le last f =
-    ⊎_elim same (λ lt. absurd (below lt)) (cases_le f.a start (last f.a f.low (subst IsSome (sym (kept_live c n s k f.a f.x h f.there)) refl)))
+pub last_has : (c : Config) (n : ℕ) (s : State) (k : Store) (q start size : ℕ) → IsSound c s → Shows c n s k → live_size (map.get k.blocks.blocks start) ≡ Some size → start ≤ q
+    → ((p : ℕ) → p ≤ q → IsSome (live_size (map.get k.blocks.blocks p)) → p ≤ start) → Finds s.live q → (x : Block) × (at start s.live ≡ Some x) × (size ≡ x.size) × (q < start + x.size)
+last_has c n s k q start size sound h is le last f =
+    ⊎_elim same (λ lt. absurd (below lt)) (cases_le f.a start (last f.a f.low (subst IsSome (sym (live_at c n s k f.a f.x h f.there)) refl)))
   where
     cases_le : (a b : ℕ) → a ≤ b → (a ≡ b) ⊎ (a < b)
     cases_le a b le = ⊎_elim (λ lt. inr lt) (λ ge. inl (omega arith)) (cases_lt a b)
 
-    same : f.a ≡ start → (x : Block) × (at start s.live ≡ Some x) × (b ≡ kept_of false x) × (q < start + x.size)
+    same : f.a ≡ start → (x : Block) × (at start s.live ≡ Some x) × (size ≡ x.size) × (q < start + x.size)
     same e =
         let there : at start s.live ≡ Some f.x = subst (λ (k : ℕ). at k s.live ≡ Some f.x) e f.there in
-        (f.x, there, same_block c n s k start f.x b h there is, omega (arith, e, f.high))
+        (f.x, there, some_same size f.x.size (sym is ∙ live_at c n s k start f.x h there), omega (arith, e, f.high))
 
     covers_start : f.a < start → covers start (f.a, f.x) ≡ true
     covers_start lt = spans_from f.a f.x.size f.x.guard start (omega arith) (omega (arith, f.high))
 
     below : f.a < start → ⊥
-    below lt = by_kind (at start s.live) (at start s.held) refl refl
+    below lt = by_live (at start s.live) refl
       where
-        by_kind : (live held : Option Block) → at start s.live ≡ live → at start s.held ≡ held → ⊥
-        by_kind (Some y) held e g =
+        by_live : (live : Option Block) → at start s.live ≡ live → ⊥
+        by_live (Some y) e =
             omega (arith, two_covered f.a start start f.x y s.live f.there e (λ same. (let no : ⊥ = omega (arith, same) in no)) (covers_start lt) (covers_own c (start, y) (placed_at c start y s.live sound.live e)) (live_once c s f.a sound), sound.once start)
-        by_kind None (Some y) e g =
-            omega (arith, at_covered start f.a f.x s.live f.there (covers_start lt), at_covered start start y s.held g (covers_own c (start, y) (placed_at c start y s.held sound.held g)), sound.once start)
-        by_kind None None e g = none_some b (sym (h.blocks start ∙ (ap (λ (o : Option Block). kept_or o (at start s.held)) e ∙ ap (kept_or None) g)) ∙ is)
+        by_live None e = none_some size (sym (live_is c n s k start h ∙ ap (option_map (λ (b : Block). b.size)) e) ∙ is)
 
 -- where the table has nothing that begins there, there is no byte
 pub no_byte : (c : Config) (s : State) (q : ℕ) → IsSound c s → (Finds s.live q → ⊥) → byte_at s.live q ≡ None
@@ -218,32 +228,21 @@ no_byte c s q sound none = by_byte (byte_at s.live q) refl
     by_byte None e = e
     by_byte (Some b) e = absurd (none (byte_found c s.live q b sound.live (λ k. omega (arith, sound.once k)) e))
 
-pub nothing_begun : (c : Config) (n : ℕ) (s : State) (k : Store) (q : ℕ) → Shows c n s k → ((p : ℕ) → p ≤ q → tree.get nat_cmp k.blocks p ≡ None) → Finds s.live q → ⊥
-nothing_begun c n s k q h none f = none_some (kept_of false f.x) (sym (none f.a f.low) ∙ kept_live c n s k f.a f.x h f.there)
+pub nothing_begun : (c : Config) (n : ℕ) (s : State) (k : Store) (q : ℕ) → Shows c n s k → ((p : ℕ) → p ≤ q → live_size (map.get k.blocks.blocks p) ≡ None) → Finds s.live q → ⊥
+nothing_begun c n s k q h none f = none_some f.x.size (sym (none f.a f.low) ∙ live_at c n s k f.a f.x h f.there)
 
--- what is kept and not in quarantine is live
-live_from : (s : State) (a : ℕ) (b : KeptBlock) → kept_at s a ≡ Some b → b.held ≡ false → (x : Block) × (at a s.live ≡ Some x) × (b ≡ kept_of false x)
-live_from s a b is live = by_kind (at a s.live) (at a s.held) refl refl
-  where
-    by_kind : (o h : Option Block) → at a s.live ≡ o → at a s.held ≡ h → (x : Block) × (at a s.live ≡ Some x) × (b ≡ kept_of false x)
-    by_kind (Some x) h e f = (x, e, sym (some_same (kept_of false x) b (sym (ap (λ (o : Option Block). kept_or o (at a s.held)) e) ∙ is)))
-    by_kind None (Some y) e f =
-        let same : kept_of true y ≡ b = some_same (kept_of true y) b (sym (ap (λ (o : Option Block). kept_or o (at a s.held)) e ∙ ap (kept_or None) f) ∙ is) in
-        absurd (true≢false (ap (λ (z : KeptBlock). z.held) same ∙ live))
-    by_kind None None e f = absurd (none_some b (sym (ap (λ (o : Option Block). kept_or o (at a s.held)) e ∙ ap (kept_or None) f) ∙ is))
+-- what has a size in the table is live
+live_from : (size : ℕ) (o : Option Block) → option_map (λ (b : Block). b.size) o ≡ Some size → (x : Block) × (o ≡ Some x) × (size ≡ x.size)
+live_from size None is = absurd (none_some size is)
+live_from size (Some x) is = (x, refl, sym (some_same x.size size is))
 
-pub left_from : (c : Config) (n : ℕ) (s : State) (k : Store) (q start : ℕ) (b : KeptBlock) (left : ℕ) → IsSound c s → Shows c n s k → tree.get nat_cmp k.blocks start ≡ Some b → start ≤ q
-    → ((p : ℕ) → p ≤ q → IsSome (tree.get nat_cmp k.blocks p) → p ≤ start) → b.held ≡ false → left ≡ b.size - (q - start) → IsLeft s.live q left
-left_from c n s k q start b zero sound h is le last live e =
-    no_byte c s q sound (λ f. (let l = last_has c n s k q start b sound h is le last f in omega (arith, e, ap (λ (z : KeptBlock). z.size) l.2, l.3)))
-left_from c n s k q start b (suc left) sound h is le last live e =
-    let l = live_from s start b (sym (h.blocks start) ∙ is) live in
-    (start, l.0, l.1, le, omega (arith, e, ap (λ (z : KeptBlock). z.size) l.2))
-
-pub left_in_quarantine : (c : Config) (n : ℕ) (s : State) (k : Store) (q start : ℕ) (b : KeptBlock) → IsSound c s → Shows c n s k → tree.get nat_cmp k.blocks start ≡ Some b → start ≤ q
-    → ((p : ℕ) → p ≤ q → IsSome (tree.get nat_cmp k.blocks p) → p ≤ start) → b.held ≡ true → byte_at s.live q ≡ None
-left_in_quarantine c n s k q start b sound h is le last held =
-    no_byte c s q sound (λ f. (let l = last_has c n s k q start b sound h is le last f in true≢false (sym held ∙ ap (λ (z : KeptBlock). z.held) l.2)))
+pub left_from : (c : Config) (n : ℕ) (s : State) (k : Store) (q start size left : ℕ) → IsSound c s → Shows c n s k → live_size (map.get k.blocks.blocks start) ≡ Some size → start ≤ q
+    → ((p : ℕ) → p ≤ q → IsSome (live_size (map.get k.blocks.blocks p)) → p ≤ start) → left ≡ size - (q - start) → IsLeft s.live q left
+left_from c n s k q start size zero sound h is le last e =
+    no_byte c s q sound (λ f. (let l = last_has c n s k q start size sound h is le last f in omega (arith, e, l.2, l.3)))
+left_from c n s k q start size (suc left) sound h is le last e =
+    let l = live_from size (at start s.live) (sym (live_is c n s k start h) ∙ is) in
+    (start, l.0, l.1, le, omega (arith, e, l.2))
 
 -- ---- the first address that is not accessible
 guard_at : (a : ℕ) (x : Block) (m : Blocks) → AreGuarded m → at a m ≡ Some x → 1 ≤ x.guard

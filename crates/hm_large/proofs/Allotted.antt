@@ -1,7 +1,6 @@
 -- What an attempt at allotting leaves.
 use Rattle.std.proofs.Common.{◌≡◌, ℕ, zero, suc, ◌+◌, ◌-◌, ◌*◌, ◌^◌, ◌<◌, ◌≤◌, false, cond, ◌∷◌, Option, Some, None, sym, ◌∙◌, ap, subst, refl, arith}
-use Rattle.std.specs.Ordering.{nat_cmp}
-use Rattle.std.specs.BTreeMap as tree
+use Rattle.std.specs.FinMap as map
 use Rattle.std.proofs.lemmas.Nat.{mod_below}
 use Rattle.hm_choice.specs.Stream.{Words, next_word, after_word, before_word}
 use Rattle.hm_choice.proofs.Places.{comes_again}
@@ -10,7 +9,8 @@ use Rattle.hm_outside.specs.declared.pages.Pages as pages
 use Rattle.hm_space.specs.Space.{FreeSpace, IsFreeRange, TakesRange}
 use Rattle.hm_sizes.specs.declared.config.Config.{Config}
 use Rattle.hm_sizes.specs.Configs.{IsValid}
-use Rattle.hm_large.specs.declared.store.KeptBlock.{KeptBlock}
+use Rattle.hm_region_table.specs.Table.{Table}
+use Rattle.hm_region_table.specs.declared.entry.Block.{Block as KeptBlock}
 use Rattle.hm_large.specs.declared.store.Store.{Store}
 use Rattle.hm_large.specs.declared.allot.Outcome.{Outcome}
 use Rattle.hm_large.specs.Blocks.{Block, new_block, size_for, guard_of}
@@ -19,10 +19,11 @@ use Rattle.hm_large.specs.Rules.{IsCandidate, IsLeastCandidate}
 use Rattle.hm_large.specs.Laws.{IsSound}
 use Rattle.hm_large.specs.Draws.{stream_after}
 use Rattle.hm_large.specs.Kept.{kept_or, kept_at, Shows}
-use Rattle.hm_large.specs.Stored.{Allots, Ends}
+use Rattle.hm_large.specs.BlockTable.{Updates}
+use Rattle.hm_large.specs.Stored.{SameStore, Allots, Ends}
 use Rattle.hm_large.proofs.Places.{candidate_fit}
 use Rattle.hm_large.proofs.Tables.{tree_test, not_live, not_held}
-use Rattle.hm_large.proofs.Shown.{SameStore, Gives, shows_same, shows_given}
+use Rattle.hm_large.proofs.Shown.{Gives, shows_same, shows_given}
 
 -- ---- words
 pub place_below : (n words : ℕ) → (stream_after n words).place < 2 ^ 68
@@ -69,37 +70,36 @@ candidate_free c n s k align size guard a h candidate =
     (candidate_fit c s k.space align size guard (size + 2 * (4096 * guard)) h.space refl a (a - 4096 * guard) back candidate).free
 
 -- ---- the store once a word is drawn
-pub shows_drawn : (c : Config) (n : ℕ) (s : State) (k d : Store) (space : FreeSpace) → d ≡ record k { space = space; words = after_word k.words } → space.ranges ≡ k.space.ranges → space.out ≡ k.space.out
+pub shows_drawn : (c : Config) (n : ℕ) (s : State) (k r d : Store) → d ≡ record r { words = after_word r.words } → SameStore k r → r.words ≡ k.words
     → Shows c n s k → Shows c n (record s { words = suc s.words }) d
-shows_drawn c n s k d space e ranges out h =
+shows_drawn c n s k r d e same words h =
     subst (Shows c n (record s { words = suc s.words })) (sym e)
-    (shows_same c n s k (record k { space = space; words = after_word k.words }) (suc s.words) h
-    (record { blocks = λ a. refl; ranges = ranges; out = out; quarantine = refl; owed_same = refl })
-    (ap after_word h.words))
+    (shows_same c n s k (record r { words = after_word r.words }) (suc s.words) h
+    (record { blocks = same.blocks; ranges = same.ranges; out = same.out; quarantine = same.quarantine; owed_same = same.owed_same })
+    (ap after_word (words ∙ h.words)))
 
 -- the table is another, with the same at each address
 pub shows_table : (c : Config) (n : ℕ) (s : State) (k new : Store) → Shows c n s k → SameStore k new → new.words ≡ k.words → Shows c n s new
 shows_table c n s k new h same words = shows_same c n s k new s.words h same (words ∙ h.words)
 
 -- the place that was found in it is the lowest candidate
-pub found_least : (c : Config) (n : ℕ) (s : State) (k d : Store) (space : FreeSpace) (align size guard a : ℕ) → d ≡ record k { space = space; words = after_word k.words } → space.ranges ≡ k.space.ranges
-    → space.out ≡ k.space.out → ((c : Config) (n : ℕ) (s : State) → Shows c n s d → IsLeastCandidate c s align size guard a) → Shows c n s k → IsLeastCandidate c s align size guard a
-found_least c n s k d space align size guard a e ranges out found h =
-    same_least c s (suc s.words) align size guard a (found c n (record s { words = suc s.words }) (shows_drawn c n s k d space e ranges out h))
+pub found_least : (c : Config) (n : ℕ) (s : State) (k r d : Store) (align size guard a : ℕ) → d ≡ record r { words = after_word r.words } → SameStore k r → r.words ≡ k.words
+    → ((c : Config) (n : ℕ) (s : State) → Shows c n s d → IsLeastCandidate c s align size guard a) → Shows c n s k → IsLeastCandidate c s align size guard a
+found_least c n s k r d align size guard a e same words found h =
+    same_least c s (suc s.words) align size guard a (found c n (record s { words = suc s.words }) (shows_drawn c n s k r d e same words h))
 
-module _ {P : Type 0} (meaning : pages.Ghosts P) (c : Config) (n : ℕ) (s : State) (asked align : ℕ) (k d : Store) (space : FreeSpace) (old now : P) (size word guard : ℕ) where
+module _ {P : Type 0} (meaning : pages.Ghosts P) (c : Config) (n : ℕ) (s : State) (asked align : ℕ) (k r : Store) (old now : P) (size word guard : ℕ) where
   -- what an attempt has of the word, once it is known how it ends
-  pub allots_from : (o : Outcome) (new : Store) → Shows c n s k → size ≡ size_for asked → word ≡ next_word k.words → guard ≡ guard_of size word → Ends meaning c n s asked align new old now guard o
+  pub allots_from : (o : Outcome) (new : Store) → Shows c n s k → size ≡ size_for asked → r.words ≡ k.words → word ≡ next_word r.words → guard ≡ guard_of size word → Ends meaning c n s asked align new old now guard o
       → Allots meaning c n s asked align new old now (record { word = word; guard = guard; outcome = o })
-  allots_from o new h e drawn by ends = record { word = drawn ∙ ap next_word h.words; guard = by ∙ ap (λ z. guard_of z word) e; ends = ends }
+  allots_from o new h e words drawn by ends = record { word = drawn ∙ ap next_word (words ∙ h.words); guard = by ∙ ap (λ z. guard_of z word) e; ends = ends }
 
 -- the table, the free ranges and the count once a block was put in
-pub gives_from : (d new : Store) (blocks : tree.BTreeMap ℕ KeptBlock) (a size guard : ℕ) → tree.Updates nat_cmp d.blocks blocks a (Some (record { size = size; guard = guard; held = false; failed = false }))
+pub gives_from : (d new : Store) (blocks : Table) (a asked size guard : ℕ) → Updates d.blocks blocks a (Some (record { asked = asked; size = size; guard = guard; held = false; failed = false }))
     → new.blocks ≡ blocks → TakesRange d.space new.space (a - 4096 * guard) (size + 2 * (4096 * guard)) → new.space.out ≡ d.space.out + 1 → new.quarantine ≡ d.quarantine → new.owed ≡ d.owed + 1
-    → Gives d new a size guard
-gives_from d new blocks a size guard put same takes out quarantine owed = record {
-  blocks = λ q. ap (λ (m : tree.BTreeMap ℕ KeptBlock). tree.get nat_cmp m q) same
-      ∙ (put.0 q ∙ ap (λ t. cond t (Some (record { size = size; guard = guard; held = false; failed = false })) (tree.get nat_cmp d.blocks q)) (tree_test a q));
+    → Gives d new a asked size guard
+gives_from d new blocks a asked size guard put same takes out quarantine owed = record {
+  blocks = λ q. ap (λ (m : Table). map.get m.blocks q) same ∙ put q;
   space = takes;
   out = out;
   quarantine = quarantine;
@@ -108,6 +108,6 @@ gives_from d new blocks a size guard put same takes out quarantine owed = record
 
 -- the store with a block that was put in
 pub shows_new : (c : Config) (n : ℕ) (s : State) (d new : Store) (align asked size guard a words : ℕ) → size ≡ size_for asked → IsCandidate c s align (size_for asked) guard a → Shows c n (record s { words = words }) d
-    → Gives d new a size guard → new.words ≡ d.words → Shows c n (record s { live = (a, new_block asked guard) ∷ s.live; words = words }) new
+    → Gives d new a asked size guard → new.words ≡ d.words → Shows c n (record s { live = (a, new_block asked guard) ∷ s.live; words = words }) new
 shows_new c n s d new align asked size guard a words e k h gives same =
-    shows_given c n (record s { words = words }) d new a words (new_block asked guard) refl (omega (arith, k.from)) k.free h (subst (λ (z : ℕ). Gives d new a z guard) e gives) (same ∙ h.words)
+    shows_given c n (record s { words = words }) d new a words (new_block asked guard) refl (omega (arith, k.from)) k.free h (subst (λ (z : ℕ). Gives d new a asked z guard) e gives) (same ∙ h.words)

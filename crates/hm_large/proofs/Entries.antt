@@ -20,7 +20,7 @@ use Rattle.hm_outside.specs.PageRuns.{PageRuns, IsRun}
 use Rattle.hm_quarantine.specs.LookingBack.{released}
 use Rattle.hm_sizes.specs.declared.config.Config.{Config}
 use Rattle.hm_sizes.specs.Configs.{IsValid}
-use Rattle.hm_large.specs.declared.store.KeptBlock.{KeptBlock}
+use Rattle.hm_region_table.specs.declared.entry.Block.{Block as KeptBlock}
 use Rattle.hm_large.specs.declared.store.Store.{Store}
 use Rattle.hm_large.specs.declared.allot.Attempt.{Attempt}
 use Rattle.hm_large.specs.declared.allot.Outcome.{Outcome}

@@ -3,6 +3,7 @@ pub mod Legal
 pub mod Delay
 pub mod Places
 pub mod Tables
+pub mod BlockTables
 pub mod Shown
 pub mod Allotted
 pub mod Released

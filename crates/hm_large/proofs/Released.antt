@@ -1,7 +1,6 @@
 -- The store once a block was taken back.
 use Rattle.std.proofs.Common.{◌≡◌, ◌⊎◌, inl, inr, ⊎_elim, ℕ, suc, ◌+◌, ◌-◌, ◌*◌, ◌<◌, ◌≤◌, ◌↔◌, ◌==◌, Bool, true, false, cond, not, List, [], ◌∷◌, length, Option, Some, None, is_some, sym, ◌∙◌, ap, subst, refl, arith, true≢false}
-use Rattle.std.specs.Ordering.{nat_cmp}
-use Rattle.std.specs.BTreeMap as tree
+use Rattle.std.specs.FinMap as map
 use Rattle.std.specs.Bool.{MatchBool}
 use Rattle.std.specs.Option.{IfSome}
 use Rattle.std.proofs.lemmas.Bool.{cases_eq, cases_Bool}
@@ -18,7 +17,7 @@ use Rattle.hm_space.specs.Ranges.{IsWithin}
 use Rattle.hm_space.specs.Space.{FreeSpace, IsFree, GivesRange}
 use Rattle.hm_sizes.specs.declared.config.Config.{Config}
 use Rattle.hm_sizes.specs.Configs.{IsValid}
-use Rattle.hm_large.specs.declared.store.KeptBlock.{KeptBlock}
+use Rattle.hm_region_table.specs.declared.entry.Block.{Block as KeptBlock}
 use Rattle.hm_large.specs.declared.store.Store.{Store}
 use Rattle.hm_large.specs.Blocks.{Block, Blocks, is_quarantined, covers, covered, owed, is_owed}
 use Rattle.hm_large.specs.State.{State, takes_back, releases, free_of, array_length, ring_length}
@@ -26,12 +25,12 @@ use Rattle.hm_large.specs.Rules.{taken, ReleasesFrom}
 use Rattle.hm_large.specs.Laws.{IsPlaced, IsSound}
 use Rattle.hm_large.specs.Draws.{word_after}
 use Rattle.hm_large.specs.Kept.{kept_of, kept_or, kept_at, IsOpen, Shows}
+use Rattle.hm_large.specs.BlockTable.{Updates}
 use Rattle.hm_large.specs.Stored.{GoesBack, GaveBack, Frees}
 use Rattle.hm_large.proofs.BlockLists.{how_many_removed, at_covered, at_removed, at_removed_same, length_removed, placed_at}
 use Rattle.hm_large.proofs.Legal.{live_once, held_once, sound_takes_back}
 use Rattle.hm_large.proofs.Delay.{apart_keys}
 use Rattle.hm_large.proofs.Places.{FreeIsOpen, in_space_from, within_spans, spans_within}
-use Rattle.hm_large.proofs.Tables.{tree_test}
 
 abbrev weight : Bool → ℕ
 weight b = cond b 1 0
@@ -75,7 +74,7 @@ open_back c s after old new a x placed less once free gives q = (λ f. to ((give
 
 -- ---- the table, the free ranges and the counts
 pub record ShowsTable (c : Config) (s : State) (k : Store) : Type 0 where
-  pub blocks_are : (a : ℕ) → tree.get nat_cmp k.blocks a ≡ kept_at s a
+  pub blocks_are : (a : ℕ) → map.get k.blocks.blocks a ≡ kept_at s a
   pub space_is : FreeIsOpen c s k.space
   pub out_is : k.space.out ≡ length s.live + length s.held
   pub owed_are : k.owed ≡ owed s.live
@@ -135,7 +134,7 @@ owed_less n m false e = omega arith
 
 module _ (c : Config) (n : ℕ) (s : State) (k new : Store) (a : ℕ) (x : Block) where
   -- a greater block has left
-  pub table_left : IsSound c s → at a s.live ≡ Some x → Shows c n s k → ((q : ℕ) → tree.get nat_cmp new.blocks q ≡ cond (a == q) None (tree.get nat_cmp k.blocks q))
+  pub table_left : IsSound c s → at a s.live ≡ Some x → Shows c n s k → ((q : ℕ) → map.get new.blocks.blocks q ≡ cond (a == q) None (map.get k.blocks.blocks q))
       → GaveBack k.space new.space a (kept_of false x) → new.owed ≡ k.owed - cond x.failed 0 1 → ShowsTable c (record s { live = removed a s.live }) new
   table_left h e shows blocks gave less = record {
     blocks_are = λ q. blocks q ∙ (ap (λ o. cond (a == q) None o) (shows.blocks q) ∙ sym (kept_without_live c s a q x h e));
@@ -145,7 +144,7 @@ module _ (c : Config) (n : ℕ) (s : State) (k new : Store) (a : ℕ) (x : Block
   }
 
   -- another is in quarantine
-  pub table_held : (frees : List Free) → IsSound c s → at a s.live ≡ Some x → Shows c n s k → ((q : ℕ) → tree.get nat_cmp new.blocks q ≡ cond (a == q) (Some (kept_of true x)) (tree.get nat_cmp k.blocks q))
+  pub table_held : (frees : List Free) → IsSound c s → at a s.live ≡ Some x → Shows c n s k → ((q : ℕ) → map.get new.blocks.blocks q ≡ cond (a == q) (Some (kept_of true x)) (map.get k.blocks.blocks q))
       → new.space ≡ k.space → new.owed ≡ k.owed - cond x.failed 0 1 → ShowsTable c (record s { live = removed a s.live; held = (a, x) ∷ s.held; frees = frees }) new
   table_held frees h e shows blocks same less = record {
     blocks_are = λ q. blocks q ∙ (ap (λ o. cond (a == q) (Some (kept_of true x)) o) (shows.blocks q) ∙ sym (kept_held c s a q x));
@@ -159,7 +158,7 @@ module _ (c : Config) (n : ℕ) (s : State) (k new : Store) (a : ℕ) (x : Block
 
 -- what the quarantine let go has left
 pub table_released : (c : Config) (s : State) (k new : Store) (b : ℕ) (y : Block) → IsSound c s → at b s.held ≡ Some y → ShowsTable c s k
-    → ((q : ℕ) → tree.get nat_cmp new.blocks q ≡ cond (b == q) None (tree.get nat_cmp k.blocks q)) → GaveBack k.space new.space b (kept_of true y) → new.owed ≡ k.owed
+    → ((q : ℕ) → map.get new.blocks.blocks q ≡ cond (b == q) None (map.get k.blocks.blocks q)) → GaveBack k.space new.space b (kept_of true y) → new.owed ≡ k.owed
     → ShowsTable c (record s { held = removed b s.held }) new
 table_released c s k new b y h e shows blocks gave same = record {
   blocks_are = λ q. blocks q ∙ (ap (λ o. cond (b == q) None o) (shows.blocks_are q) ∙ sym (kept_without_held c s b q y h e));
@@ -211,10 +210,10 @@ module _ (c : Config) (n : ℕ) (s : State) (k : Store) (a word : ℕ) (x : Bloc
 abbrev nothing : Option ℕ
 nothing = None
 
-pub kept_live : (c : Config) (n : ℕ) (s : State) (k : Store) (a : ℕ) (x : Block) → Shows c n s k → at a s.live ≡ Some x → tree.get nat_cmp k.blocks a ≡ Some (kept_of false x)
+pub kept_live : (c : Config) (n : ℕ) (s : State) (k : Store) (a : ℕ) (x : Block) → Shows c n s k → at a s.live ≡ Some x → map.get k.blocks.blocks a ≡ Some (kept_of false x)
 kept_live c n s k a x h e = h.blocks a ∙ ap (λ (o : Option Block). kept_or o (at a s.held)) e
 
-pub kept_held_at : (c : Config) (s : State) (k : Store) (a : ℕ) (y : Block) → IsSound c s → ShowsTable c s k → at a s.held ≡ Some y → tree.get nat_cmp k.blocks a ≡ Some (kept_of true y)
+pub kept_held_at : (c : Config) (s : State) (k : Store) (a : ℕ) (y : Block) → IsSound c s → ShowsTable c s k → at a s.held ≡ Some y → map.get k.blocks.blocks a ≡ Some (kept_of true y)
 kept_held_at c s k a y sound h e = h.blocks_are a ∙ (ap (λ (o : Option Block). kept_or o (at a s.held)) (no_live (at a s.live) refl) ∙ ap (kept_or None) e)
   where
     no_live : (o : Option Block) → at a s.live ≡ o → at a s.live ≡ None
@@ -225,18 +224,18 @@ some_same : {X : Type 0} (x y : X) → Some x ≡ Some y → x ≡ y
 some_same x y e = cc
 
 -- the block that is kept is that of the state
-pub same_block : (c : Config) (n : ℕ) (s : State) (k : Store) (a : ℕ) (x : Block) (b : KeptBlock) → Shows c n s k → at a s.live ≡ Some x → tree.get nat_cmp k.blocks a ≡ Some b → b ≡ kept_of false x
+pub same_block : (c : Config) (n : ℕ) (s : State) (k : Store) (a : ℕ) (x : Block) (b : KeptBlock) → Shows c n s k → at a s.live ≡ Some x → map.get k.blocks.blocks a ≡ Some b → b ≡ kept_of false x
 same_block c n s k a x b h e is = some_same b (kept_of false x) (sym is ∙ kept_live c n s k a x h e)
 
 pub owed_some : (c : Config) (s : State) (a : ℕ) (x : Block) → IsSound c s → at a s.live ≡ Some x → x.failed ≡ false → 1 ≤ owed s.live
 owed_some c s a x sound e fresh = omega (arith, how_many_removed is_owed a x s.live e (live_once c s a sound), ap (λ f. weight (not f)) fresh)
 
-pub live_goes_back : (c : Config) (n : ℕ) (s : State) (k : Store) (a : ℕ) (x : Block) → IsValid c → IsSound c s → Shows c n s k → at a s.live ≡ Some x → IfSome (tree.get nat_cmp k.blocks a) (GoesBack k.space a)
+pub live_goes_back : (c : Config) (n : ℕ) (s : State) (k : Store) (a : ℕ) (x : Block) → IsValid c → IsSound c s → Shows c n s k → at a s.live ≡ Some x → IfSome (map.get k.blocks.blocks a) (GoesBack k.space a)
 live_goes_back c n s k a x valid sound h e =
     subst (λ o. IfSome o (GoesBack k.space a)) (sym (kept_live c n s k a x h e))
     (goes_back c s k.space a x false valid (placed_at c a x s.live sound.live e) h.space (omega (arith, h.out, length_removed a x s.live e (live_once c s a sound))) (λ q covers_q. omega (arith, at_covered q a x s.live e covers_q)))
 
-pub held_goes_back : (c : Config) (s : State) (k : Store) (b : ℕ) (y : Block) → IsValid c → IsSound c s → ShowsTable c s k → at b s.held ≡ Some y → IfSome (tree.get nat_cmp k.blocks b) (GoesBack k.space b)
+pub held_goes_back : (c : Config) (s : State) (k : Store) (b : ℕ) (y : Block) → IsValid c → IsSound c s → ShowsTable c s k → at b s.held ≡ Some y → IfSome (map.get k.blocks.blocks b) (GoesBack k.space b)
 held_goes_back c s k b y valid sound h e =
     subst (λ o. IfSome o (GoesBack k.space b)) (sym (kept_held_at c s k b y sound h e))
     (goes_back c s k.space b y true valid (placed_at c b y s.held sound.held e) h.space_is (omega (arith, h.out_is, length_removed b y s.held e (held_once c s b sound))) (λ q covers_q. omega (arith, at_covered q b y s.held e covers_q)))
@@ -315,7 +314,7 @@ module _ (c : Config) (n : ℕ) (s : State) (k new : Store) (a : ℕ) (x : Block
 
 -- the store with a block in quarantine, before that lets anything go
 pub record Holds (old new : Store) (a : ℕ) (x : Block) (word place : ℕ) : Type 0 where
-  pub blocks_are : (q : ℕ) → tree.get nat_cmp new.blocks q ≡ cond (a == q) (Some (kept_of true x)) (tree.get nat_cmp old.blocks q)
+  pub blocks_are : (q : ℕ) → map.get new.blocks.blocks q ≡ cond (a == q) (Some (kept_of true x)) (map.get old.blocks.blocks q)
   pub space_same : new.space ≡ old.space
   pub owed_less : new.owed ≡ old.owed - cond x.failed 0 1
   pub quarantine_same : new.quarantine ≡ old.quarantine
@@ -326,10 +325,9 @@ pub record Holds (old new : Store) (a : ℕ) (x : Block) (word place : ℕ) : Ty
 
 pub holds_from : (old u new : Store) (a : ℕ) (both : ℕ × ℕ) (x : Block) (b : KeptBlock) (words : Words) → u ≡ record old { owed = old.owed - cond b.failed 0 1 } → b ≡ kept_of false x
     → both ≡ (next_word u.words, drawn array_length (next_word u.words)) → both.1 < array_length → words ≡ after_word u.words
-    → tree.Updates nat_cmp u.blocks new.blocks a (Some (record b { held = true })) → new ≡ record u { blocks = new.blocks; words = words } → Holds old new a x both.0 both.1
+    → Updates u.blocks new.blocks a (Some (record b { held = true })) → new ≡ record u { blocks = new.blocks; words = words } → Holds old new a x both.0 both.1
 holds_from old u new a both x b words uncounted is drawn_both below took put others = record {
-  blocks_are = λ q. put.0 q ∙ (ap (λ t. cond t (Some (record b { held = true })) (tree.get nat_cmp u.blocks q)) (tree_test a q)
-      ∙ (ap (λ (k : KeptBlock). cond (a == q) (Some (record k { held = true })) (tree.get nat_cmp u.blocks q)) is ∙ ap (λ (k : Store). cond (a == q) (Some (kept_of true x)) (tree.get nat_cmp k.blocks q)) uncounted));
+  blocks_are = λ q. put q ∙ (ap (λ (k : KeptBlock). cond (a == q) (Some (record k { held = true })) (map.get u.blocks.blocks q)) is ∙ ap (λ (k : Store). cond (a == q) (Some (kept_of true x)) (map.get k.blocks.blocks q)) uncounted);
   space_same = ap (λ (k : Store). k.space) others ∙ ap (λ (k : Store). k.space) uncounted;
   owed_less = ap (λ (k : Store). k.owed) others ∙ (ap (λ (k : Store). k.owed) uncounted ∙ ap (λ (k : KeptBlock). old.owed - cond k.failed 0 1) is);
   quarantine_same = ap (λ (k : Store). k.quarantine) others ∙ ap (λ (k : Store). k.quarantine) uncounted;
@@ -380,7 +378,7 @@ module _ (c : Config) (n : ℕ) (s : State) (old held_store : Store) (a word pla
   -- a block leaves
   pub frees_some : (quarantine : Kept) (left : ℕ) (new : Store) → IsSound c s → at a s.live ≡ Some x → is_quarantined x ≡ true → Shows c n s old → Holds old held_store a x word place
       → Some left ≡ let_go held_store.quarantine a place → quarantine ≡ kept_with held_store.quarantine a place
-      → tree.UpdatesBy nat_cmp (nat_cmp left) held_store.blocks new.blocks None → IfSome (tree.get nat_cmp held_store.blocks left) (GaveBack held_store.space new.space left)
+      → Updates held_store.blocks new.blocks left None → IfSome (map.get held_store.blocks.blocks left) (GaveBack held_store.space new.space left)
       → new.quarantine ≡ quarantine → new.words ≡ held_store.words → new.owed ≡ held_store.owed → Frees c n s a x new (record { released = Some left; word = Some word })
   frees_some quarantine left new sound e small h k is keeps gone gave same_quarantine same_words same_owed =
       let after = record s { live = removed a s.live; held = (a, x) ∷ s.held; frees = free_of a word ∷ s.frees } in
@@ -388,6 +386,6 @@ module _ (c : Config) (n : ℕ) (s : State) (old held_store : Store) (a word pla
       let y = left_held left sound e h k is in
       let ok = holds_sound sound e small in
       let back : GaveBack held_store.space new.space left (kept_of true y.0) = subst (λ o. IfSome o (GaveBack held_store.space new.space left)) (kept_held_at c after held_store left y.0 ok t y.1) gave in
-      let table = table_released c after held_store new left y.0 ok y.1 t (λ q. gone.0 q ∙ ap (λ v. cond v None (tree.get nat_cmp held_store.blocks q)) (tree_test left q)) back same_owed in
+      let table = table_released c after held_store new left y.0 ok y.1 t gone back same_owed in
       frees_held c n s old new a x word place (Some left) sound e small h k.word_is k.place_is k.place_below (is ∙ ap (λ (z : Kept). let_go z a place) k.quarantine_same)
       table (same_quarantine ∙ (keeps ∙ ap (λ (z : Kept). kept_with z a place) k.quarantine_same)) (same_words ∙ k.words_are)

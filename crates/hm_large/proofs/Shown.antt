@@ -1,7 +1,6 @@
 -- The store after a change says what the state after it says.
 use Rattle.std.proofs.Common.{◌≡◌, ⊎_elim, ℕ, ◌+◌, ◌-◌, ◌*◌, ◌≤◌, ◌↔◌, ◌==◌, Bool, true, false, cond, not, List, [], ◌∷◌, ◌||◌, Option, Some, None, option_map, sym, ◌∙◌, ap, subst, refl, arith}
-use Rattle.std.specs.Ordering.{nat_cmp}
-use Rattle.std.specs.BTreeMap as tree
+use Rattle.std.specs.FinMap as map
 use Rattle.std.proofs.lemmas.Bool.{cases_eq, cases_Bool}
 use Rattle.hm_model.specs.Maps.{at, keys, times}
 use Rattle.hm_model.proofs.Lists.{same_eq, other_eq}
@@ -15,18 +14,11 @@ use Rattle.hm_large.specs.Rules.{in_space, taken}
 use Rattle.hm_large.specs.Laws.{IsSound}
 use Rattle.hm_large.specs.Draws.{stream_after}
 use Rattle.hm_large.specs.Kept.{kept_of, kept_or, kept_at, IsOpen, Shows}
+use Rattle.hm_large.specs.Stored.{SameStore}
 use Rattle.hm_large.proofs.Places.{FreeIsOpen, within_spans, spans_within}
 use Rattle.hm_large.proofs.Tables.{at_marked}
 use Rattle.hm_large.proofs.BlockLists.{how_many_same, length_same}
 use Rattle.hm_large.proofs.Legal.{live_once}
-
--- the store is another only in its words and its room
-pub record SameStore (old new : Store) : Type 0 where
-  pub blocks : (a : ℕ) → tree.get nat_cmp new.blocks a ≡ tree.get nat_cmp old.blocks a
-  pub ranges : new.space.ranges ≡ old.space.ranges
-  pub out : new.space.out ≡ old.space.out
-  pub quarantine : new.quarantine ≡ old.quarantine
-  pub owed_same : new.owed ≡ old.owed
 
 pub shows_same : (c : Config) (n : ℕ) (s : State) (k new : Store) (words : ℕ) → Shows c n s k → SameStore k new → new.words ≡ stream_after n words → Shows c n (record s { words = words }) new
 shows_same c n s k new words h same drawn = record {
@@ -46,8 +38,8 @@ pub shows_faults : (c : Config) (n : ℕ) (s : State) (k : Store) (faults : ℕ)
 shows_faults c n s k faults h = record { blocks = h.blocks; space = h.space; out = h.out; quarantine = h.quarantine; words = h.words; owed_is = h.owed_is; held_are = h.held_are; places = h.places; new = h.new }
 
 -- what the store is once a block was put in
-pub record Gives (old new : Store) (a size guard : ℕ) : Type 0 where
-  pub blocks : (q : ℕ) → tree.get nat_cmp new.blocks q ≡ cond (a == q) (Some (record { size = size; guard = guard; held = false; failed = false })) (tree.get nat_cmp old.blocks q)
+pub record Gives (old new : Store) (a asked size guard : ℕ) : Type 0 where
+  pub blocks : (q : ℕ) → map.get new.blocks.blocks q ≡ cond (a == q) (Some (record { asked = asked; size = size; guard = guard; held = false; failed = false })) (map.get old.blocks.blocks q)
   pub space : (q : ℕ) → IsFree new.space q ↔ (IsFree old.space q × (IsWithin (a - 4096 * guard) (size + 2 * (4096 * guard)) q → ⊥))
   pub out : new.space.out ≡ old.space.out + 1
   pub quarantine : new.quarantine ≡ old.quarantine
@@ -71,9 +63,9 @@ open_given c s old new a words x low clear free takes q = (λ f. to ((takes q).0
     from o = ((free q).1 (o.0, omega (arith, o.1)), λ w. (let e = within_spans a x.size x.guard (a - 4096 * x.guard) (x.size + 2 * (4096 * x.guard)) q refl back w in omega (arith, ap weight e, o.1)))
 
 pub shows_given : (c : Config) (n : ℕ) (s : State) (k new : Store) (a words : ℕ) (x : Block) → x.failed ≡ false → 4096 * x.guard ≤ a → ((q : ℕ) → spans a x.size x.guard q ≡ true → taken s q ≡ 0)
-    → Shows c n s k → Gives k new a x.size x.guard → new.words ≡ stream_after n words → Shows c n (record s { live = (a, x) ∷ s.live; words = words }) new
+    → Shows c n s k → Gives k new a x.asked x.size x.guard → new.words ≡ stream_after n words → Shows c n (record s { live = (a, x) ∷ s.live; words = words }) new
 shows_given c n s k new a words x fresh low clear h gives drawn = record {
-  blocks = λ q. gives.blocks q ∙ (ap (λ o. cond (a == q) (Some (record { size = x.size; guard = x.guard; held = false; failed = false })) o) (h.blocks q) ∙ (ap (λ f. cond (a == q) (Some (record { size = x.size; guard = x.guard; held = false; failed = f })) (kept_at s q)) (sym fresh) ∙ pushed (a == q) q));
+  blocks = λ q. gives.blocks q ∙ (ap (λ o. cond (a == q) (Some (record { asked = x.asked; size = x.size; guard = x.guard; held = false; failed = false })) o) (h.blocks q) ∙ (ap (λ f. cond (a == q) (Some (record { asked = x.asked; size = x.size; guard = x.guard; held = false; failed = f })) (kept_at s q)) (sym fresh) ∙ pushed (a == q) q));
   space = open_given c s k.space new.space a words x low clear h.space gives.space;
   out = omega (arith, gives.out, h.out);
   quarantine = gives.quarantine ∙ h.quarantine;
@@ -141,7 +133,7 @@ kept_marked s a q x e = ap (λ (o : Option Block). kept_or o (at q s.held)) (at_
     there ne = unmarked (other_eq q a (λ e. ne (sym e))) (at q s.live) ∙ sym (ap (λ t. cond t (Some (record (kept_of false x) { failed = true })) (kept_at s q)) (other_eq a q ne))
 
 pub shows_marked : (c : Config) (n : ℕ) (s : State) (k new : Store) (a : ℕ) (x : Block) → IsSound c s → at a s.live ≡ Some x → Shows c n s k
-    → ((q : ℕ) → tree.get nat_cmp new.blocks q ≡ cond (a == q) (Some (record (kept_of false x) { failed = true })) (tree.get nat_cmp k.blocks q))
+    → ((q : ℕ) → map.get new.blocks.blocks q ≡ cond (a == q) (Some (record (kept_of false x) { failed = true })) (map.get k.blocks.blocks q))
     → new.space ≡ k.space → new.quarantine ≡ k.quarantine → new.words ≡ k.words → new.owed + cond x.failed 0 1 ≡ k.owed → Shows c n (record s { live = marked a s.live }) new
 shows_marked c n s k new a x sound e h blocks space quarantine words less = record {
   blocks = λ q. blocks q ∙ (ap (λ o. cond (a == q) (Some (record (kept_of false x) { failed = true })) o) (h.blocks q) ∙ sym (kept_marked s a q x e));

@@ -1,7 +1,6 @@
 -- What the large region keeps between two calls.
 use Rattle.std.specs.Prelude.{◌≡◌, ℕ, ◌+◌, ◌≤◌, ◌↔◌, Bool, true, false, IsTrue, List, [], ◌∷◌, length, Option, Some, None, ⊤}
-use Rattle.std.specs.Ordering.{nat_cmp}
-use Rattle.std.specs.BTreeMap as tree
+use Rattle.std.specs.FinMap as map
 use Rattle.hm_model.specs.declared.entry.Entry.{Entry}
 use Rattle.hm_model.specs.Maps.{at, keys}
 use Rattle.hm_outside.specs.declared.pages.Pages as pages
@@ -10,7 +9,7 @@ use Rattle.hm_quarantine.specs.LookingBack.{ArePlaces, kept_after}
 use Rattle.hm_sizes.specs.declared.config.Config.{Config}
 use Rattle.hm_sizes.specs.Configs.{IsValid}
 use Rattle.hm_space.specs.Space.{IsFree}
-use Rattle.hm_large.specs.declared.store.KeptBlock.{KeptBlock}
+use Rattle.hm_region_table.specs.declared.entry.Block.{Block as KeptBlock}
 use Rattle.hm_large.specs.declared.store.Store.{Store}
 use Rattle.hm_large.specs.Blocks.{Block, Blocks, owed}
 use Rattle.hm_large.specs.State.{State, array_length, ring_length}
@@ -20,7 +19,7 @@ use Rattle.hm_large.specs.Region.{HoldsBlocks}
 
 -- what is kept of a block
 abbrev pub kept_of : Bool → Block → KeptBlock
-kept_of held b = record { size = b.size; guard = b.guard; held = held; failed = b.failed }
+kept_of held b = record { asked = b.asked; size = b.size; guard = b.guard; held = held; failed = b.failed }
 
 abbrev pub kept_or : Option Block → Option Block → Option KeptBlock
 kept_or (Some b) held = Some (kept_of false b)
@@ -42,7 +41,7 @@ AreGuarded (e ∷ blocks) = (1 ≤ e.1.guard) × AreGuarded blocks
 
 -- the table, the free ranges, the quarantine and the stream say what the state says
 pub record Shows (c : Config) (number : ℕ) (s : State) (k : Store) : Type 0 where
-  pub blocks : (a : ℕ) → tree.get nat_cmp k.blocks a ≡ kept_at s a
+  pub blocks : (a : ℕ) → map.get k.blocks.blocks a ≡ kept_at s a
   pub space : (q : ℕ) → IsFree k.space q ↔ IsOpen c s q
   pub out : k.space.out ≡ length s.live + length s.held
   pub quarantine : k.quarantine ≡ kept_after array_length ring_length s.frees

@@ -9,7 +9,7 @@ use Rattle.hm_quarantine.specs.LookingBack.{released}
 use Rattle.hm_space.specs.Space.{FreeSpace, MeetsNoFree, GivesRange}
 use Rattle.hm_sizes.specs.Configs.{IsValid}
 use Rattle.hm_sizes.specs.declared.config.Config.{Config}
-use Rattle.hm_large.specs.declared.store.KeptBlock.{KeptBlock}
+use Rattle.hm_region_table.specs.declared.entry.Block.{Block as KeptBlock}
 use Rattle.hm_large.specs.declared.store.Store.{Store}
 use Rattle.hm_model.specs.declared.entry.Reply.{Reply}
 use Rattle.hm_model.specs.declared.entry.Reply.TheVariants as reply
@@ -30,6 +30,14 @@ use Rattle.hm_large.specs.Draws.{word_after}
 use Rattle.hm_large.specs.Laws.{IsSound}
 use Rattle.hm_large.specs.Region.{HoldsBlocks}
 use Rattle.hm_large.specs.Kept.{kept_of, Shows}
+
+-- the store is another only in its words and its room
+pub record SameStore (old new : Store) : Type 0 where
+  pub blocks : (a : ℕ) → map.get new.blocks.blocks a ≡ map.get old.blocks.blocks a
+  pub ranges : new.space.ranges ≡ old.space.ranges
+  pub out : new.space.out ≡ old.space.out
+  pub quarantine : new.quarantine ≡ old.quarantine
+  pub owed_same : new.owed ≡ old.owed
 
 -- how many words were drawn once this one was
 abbrev pub words_with : Option ℕ → ℕ → ℕ

@@ -1,7 +1,5 @@
 //! Reading and writing the bytes of live blocks through the pages.
-ghost use Rattle.std.specs.Prelude.{◌≡◌, ◌+◌, ◌<◌, ◌≤◌, ◌^◌, ℕ, true, false, ◌↔◌, IsTrue, IfOk, IfSome, IfNone, IsSome, MatchOption, Some, None, length, replicate};
-ghost use Rattle.std.specs.Ordering.{nat_cmp};
-ghost use Rattle.std.specs.BTreeMap as tree;
+ghost use Rattle.std.specs.Prelude.{◌≡◌, ◌+◌, ◌<◌, ◌≤◌, ◌^◌, ℕ, true, false, ◌↔◌, IsTrue, IfOk, IfSome, MatchOption, Some, length, replicate};
 ghost use Rattle.hm_model.specs.Replies.{IsWithin};
 ghost use Rattle.hm_model.specs.Runs.{expand, total};
 ghost use Rattle.hm_outside.specs.PageRuns.{InNone, IsHeld, Reads, Writes};
@@ -12,30 +10,18 @@ ghost use Rattle.hm_large.specs.Laws.{IsSound};
 ghost use Rattle.hm_large.specs.Kept.{Shows, AreGuarded};
 ghost use Rattle.hm_large.specs.Stored.{HeldByNone, IsLeft};
 
-use crate::store::{KeptBlock, Store};
+use crate::store::Store;
 use hm_model::Runs;
 use hm_outside::{NoMemory, Pages};
 use std::alloc::Global;
-use std::collections::BTreeMap;
-
-// The last block that begins at the address or below it.
-fn last_begun(blocks: &BTreeMap<u64, KeptBlock>, addr: u64) -> Option<(u64, KeptBlock)>
-    ensures below { IfSome result (λ e. e.0 ≤ addr) }
-    ensures there { IfSome result (λ e. tree.get nat_cmp blocks.now e.0 ≡ Some e.1) }
-    ensures last { IfSome result (λ e. (q : ℕ) → q ≤ addr → IsSome (tree.get nat_cmp blocks.now q) → q ≤ e.0) }
-    ensures none { IfNone result ((q : ℕ) → q ≤ addr → tree.get nat_cmp blocks.now q ≡ None) }
-{
-    let (start, block) = blocks.range(..=addr).next_back()?;
-    Some((*start, *block))
-}
 
 // How many bytes a live block has from the address on: 0 where the address is in none.
 fn live_left(store: &Store, addr: u64) -> u64
     ensures { (c : Config) (number : ℕ) (s : State) → IsSound c s → Shows c number s store.now → IsLeft s.live addr result }
 {
-    match last_begun(&store.blocks, addr) {
-        Some((start, block)) if !block.held => block.size.saturating_sub(addr - start),
-        _ => 0,
+    match store.blocks.last_live(addr) {
+        Some((start, size)) => size.saturating_sub(addr - start),
+        None => 0,
     }
 }
 

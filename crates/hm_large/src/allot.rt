@@ -2,8 +2,6 @@
 //! accessible.
 ghost use Rattle.std.specs.Prelude.{◌≡◌, ◌+◌, ◌-◌, ◌*◌, ◌%◌, ◌^◌, ◌<◌, ◌≤◌, ℕ, IsTrue, false, IfOk, OnOk, OnErr, Some, None};
 ghost use Rattle.std.specs.FinMap as map;
-ghost use Rattle.std.specs.Ordering.{nat_cmp};
-ghost use Rattle.std.specs.BTreeMap as tree;
 ghost use Rattle.hm_choice.specs.Stream.{next_word, after_word};
 ghost use Rattle.hm_outside.specs.PageRuns.{MeetsNone, zeros};
 ghost use Rattle.hm_outside.specs.Causes.{HasRefusalCause};
@@ -12,14 +10,16 @@ ghost use Rattle.hm_sizes.specs.declared.config.Config.{Config};
 ghost use Rattle.hm_large.specs.Blocks.{size_for, guard_of};
 ghost use Rattle.hm_large.specs.State.{State};
 ghost use Rattle.hm_large.specs.Rules.{IsAlignment};
+ghost use Rattle.hm_large.specs.BlockTable.{Updates};
 ghost use Rattle.hm_large.specs.Kept.{Shows};
-ghost use Rattle.hm_large.specs.Stored.{Allots, Declines, Stands};
-ghost use Rattle.hm_large.specs.declared.store.KeptBlock.{KeptBlock};
+ghost use Rattle.hm_large.specs.Stored.{SameStore, Allots, Declines, Stands};
+ghost use Rattle.hm_region_table.specs.declared.entry.Block.{Block as KeptBlock};
 
-use crate::store::{KeptBlock, PAGE, Store, span};
+use crate::block_table::BlockTable;
+use crate::store::{PAGE, Store, span};
 use hm_outside::{NoMemory, PageRefusal, Pages};
+use hm_region_table::Block as KeptBlock;
 use hm_sizes::{large_size, raised};
-use std::collections::BTreeMap;
 
 /// What came of allotting.
 #[derive(Clone, Copy, Debug, Drop)]
@@ -49,6 +49,17 @@ pub fn size_of_block(asked: u64) -> u64
     large_size(raised(asked))
 }
 
+// Makes room for one more block and its range.
+fn reserve(store: &mut Store) -> Result<(), NoMemory>
+    ensures same { SameStore store.old store.new }
+    ensures words { store.new.words ≡ store.old.words }
+    ensures ranges { OnOk result (store.new.space.out + 2 ≤ store.new.space.spare) }
+    ensures block { OnOk result (1 ≤ store.new.blocks.spare) }
+{
+    store.space.reserve_two()?;
+    store.blocks.reserve_one()
+}
+
 // Draws the pages of a guard.
 fn draw_guard(store: &mut Store, size: u64) -> (u32, u64)
     requires { size ≤ 2 ^ 30 }
@@ -64,20 +75,22 @@ fn draw_guard(store: &mut Store, size: u64) -> (u32, u64)
 
 // Puts a block into the table and makes its pages accessible. Where that fails the table stays as it was.
 fn open<P: Pages>(
-    blocks: &mut BTreeMap<u64, KeptBlock>,
+    blocks: &mut BlockTable,
     pages: &mut P,
     addr: u64,
     block: KeptBlock,
 ) -> Result<(), PageRefusal>
-    requires fresh { tree.get nat_cmp blocks.old addr ≡ None }
+    requires fresh { map.get blocks.old.blocks addr ≡ None }
+    requires room { 1 ≤ blocks.old.spare }
+    requires live { block.held ≡ false }
     requires aligned { addr % 4096 ≡ 0 }
     requires whole { block.size % 4096 ≡ 0 }
     requires some { 1 ≤ block.size }
     requires most { block.size ≤ 2 ^ 30 }
     requires below { addr + block.size ≤ 2 ^ 47 }
     requires apart { IsTrue (P.told pages.old) → MeetsNone (P.runs pages.old) addr block.size }
-    ensures put { OnOk result (tree.Updates nat_cmp blocks.old blocks.new addr (Some block)) }
-    ensures stays { OnErr result ((a : ℕ) → tree.get nat_cmp blocks.new a ≡ tree.get nat_cmp blocks.old a) }
+    ensures put { OnOk result (Updates blocks.old blocks.new addr (Some block)) }
+    ensures stays { OnErr result ((a : ℕ) → map.get blocks.new.blocks a ≡ map.get blocks.old.blocks a) }
     ensures told { P.told pages.new ≡ P.told pages.old }
     ensures made { OnOk result (IsTrue (P.told pages.old) → P.runs pages.new ≡ map.insert (P.runs pages.old) addr (zeros block.size)) }
     ensures unchanged { OnErr result (IsTrue (P.told pages.old) → P.runs pages.new ≡ P.runs pages.old) }
@@ -88,7 +101,7 @@ fn open<P: Pages>(
     }
     let opened = pages.make_accessible(addr, (block.size / PAGE) as u32);
     if opened.is_err() {
-        let _block = blocks.remove(&addr);
+        let _block = blocks.remove(addr);
     }
     opened
 }
@@ -131,7 +144,7 @@ pub fn allot<P: Pages>(
     ensures declines { OnErr result ((c : Config) (number : ℕ) (s : State) → Shows c number s store.old
         → Declines P.Pages c number s store.new pages.old pages.new) }
 {
-    store.space.reserve_two()?;
+    reserve(store)?;
     let size = size_of_block(asked);
     let (word, guard) = draw_guard(store, size);
     let Some(addr) = store.fit(size, guard, align) else {
@@ -142,6 +155,7 @@ pub fn allot<P: Pages>(
         });
     };
     let block = KeptBlock {
+        asked,
         size,
         guard,
         held: false,

@@ -6,8 +6,9 @@ ghost use Rattle.hm_large.specs.State.{State};
 ghost use Rattle.hm_large.specs.Kept.{Shows, kept_of};
 ghost use Rattle.hm_large.specs.Stored.{Judges, refused_reply};
 
-use crate::store::{KeptBlock, Store};
+use crate::store::Store;
 use hm_model::Reply;
+use hm_region_table::Block as KeptBlock;
 use hm_sizes::block_size;
 
 /// Why a block is not taken back.
@@ -40,7 +41,7 @@ pub enum Verdict {
 pub fn live_block(store: &Store, addr: u64) -> Option<KeptBlock>
     ensures { (c : Config) (number : ℕ) (s : State) → Shows c number s store.now → result ≡ option_map (kept_of false) (at addr s.live) }
 {
-    let block = *store.blocks.get(&addr)?;
+    let block = store.blocks.get(addr)?;
     if block.held { None } else { Some(block) }
 }
 

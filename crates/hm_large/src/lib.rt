@@ -5,6 +5,7 @@
 
 mod access;
 mod allot;
+mod block_table;
 mod heap;
 #[cfg(test)]
 mod heap_tests;

@@ -1,18 +1,19 @@
 //! Taking a large block back: one below 32 MiB goes into quarantine, and what leaves that gives its range
 //! back; a greater one gives its range back at once.
 ghost use Rattle.std.specs.Prelude.{◌≡◌, ◌+◌, ◌-◌, ◌*◌, ◌<◌, ◌≤◌, ℕ, true, false, if◌then◌else◌, IfSome, IsSome, Some, None};
-ghost use Rattle.std.specs.Ordering.{nat_cmp};
-ghost use Rattle.std.specs.BTreeMap as tree;
+ghost use Rattle.std.specs.FinMap as map;
 ghost use Rattle.hm_model.specs.Maps.{at};
 ghost use Rattle.hm_sizes.specs.declared.config.Config.{Config};
 ghost use Rattle.hm_large.specs.Blocks.{Block, marked};
 ghost use Rattle.hm_large.specs.State.{State};
 ghost use Rattle.hm_large.specs.Laws.{IsSound};
+ghost use Rattle.hm_large.specs.BlockTable.{Updates, live_size};
 ghost use Rattle.hm_large.specs.Kept.{Shows};
 ghost use Rattle.hm_large.specs.Stored.{GoesBack, GaveBack, StandsLive, Frees};
-ghost use Rattle.hm_large.specs.declared.store.KeptBlock.{KeptBlock};
+ghost use Rattle.hm_region_table.specs.declared.entry.Block.{Block as KeptBlock};
 
-use crate::store::{ARRAY_LENGTH, KeptBlock, PAGE, Store, span};
+use crate::store::{ARRAY_LENGTH, PAGE, Store, span};
+use hm_region_table::Block as KeptBlock;
 
 // A freed block below this size stays in quarantine.
 const QUARANTINED_BELOW: u64 = 1 << 25;
@@ -26,14 +27,14 @@ pub struct Freeing {
 
 // Takes a block out of the table, and puts its range, with its guards, back among those that are free.
 fn put_back(store: &mut Store, addr: u64)
-    requires { IfSome (tree.get nat_cmp store.old.blocks addr) (GoesBack store.old.space addr) }
-    ensures blocks { tree.UpdatesBy nat_cmp (nat_cmp addr) store.old.blocks store.new.blocks None }
-    ensures space { IfSome (tree.get nat_cmp store.old.blocks addr) (GaveBack store.old.space store.new.space addr) }
+    requires { IfSome (map.get store.old.blocks.blocks addr) (GoesBack store.old.space addr) }
+    ensures blocks { Updates store.old.blocks store.new.blocks addr None }
+    ensures space { IfSome (map.get store.old.blocks.blocks addr) (GaveBack store.old.space store.new.space addr) }
     ensures quarantine { store.new.quarantine ≡ store.old.quarantine }
     ensures words { store.new.words ≡ store.old.words }
     ensures owed { store.new.owed ≡ store.old.owed }
 {
-    if let Some(block) = store.blocks.remove(&addr) {
+    if let Some(block) = store.blocks.remove(addr) {
         store
             .space
             .put_back(addr - PAGE * block.guard, span(block.size, block.guard));
@@ -53,11 +54,12 @@ fn uncount(store: &mut Store, failed: bool)
 
 // Changes what the table has of a block. It takes no memory, since the block stands there.
 fn replace(store: &mut Store, addr: u64, block: KeptBlock)
-    requires { IsSome (tree.get nat_cmp store.old.blocks addr) }
-    ensures blocks { tree.Updates nat_cmp store.old.blocks store.new.blocks addr (Some block) }
+    requires there { IsSome (map.get store.old.blocks.blocks addr) }
+    requires same { block.held ≡ false → live_size (map.get store.old.blocks.blocks addr) ≡ Some block.size }
+    ensures blocks { Updates store.old.blocks store.new.blocks addr (Some block) }
     ensures others { store.new ≡ record store.old { blocks = store.new.blocks } }
 {
-    let _before = store.blocks.insert(addr, block);
+    store.blocks.replace(addr, block);
 }
 
 /// Takes a live block back, its pages being dropped already.

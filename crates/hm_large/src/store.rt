@@ -7,13 +7,13 @@ ghost use Rattle.hm_large.specs.State.{State, start};
 ghost use Rattle.hm_large.specs.Rules.{IsCandidate, IsLeastCandidate};
 ghost use Rattle.hm_large.specs.Kept.{Shows};
 
+use crate::block_table::BlockTable;
 use hm_choice::Stream;
 use hm_outside::NoMemory;
 use hm_quarantine::Quarantine;
 use hm_sizes::Config;
 use hm_space::Space;
 use std::alloc::Global;
-use std::collections::BTreeMap;
 
 /// The bytes of a page.
 pub const PAGE: u64 = 4096;
@@ -29,22 +29,10 @@ pub const ARRAY_LENGTH: u32 = 256;
 
 const RING_LENGTH: u32 = 1024;
 
-/// What is kept of a block that is live or in quarantine.
-#[derive(Clone, Copy, Debug, Drop)]
-pub struct KeptBlock {
-    pub size: u64,
-    /// The pages of its guard on each side.
-    pub guard: u64,
-    /// Whether it is in quarantine.
-    pub held: bool,
-    /// Whether a page failed as it was to be taken back.
-    pub failed: bool,
-}
-
 /// The blocks, the free ranges, the quarantine and the words of a large region.
 #[derive(Drop)]
 pub struct Store {
-    pub blocks: BTreeMap<u64, KeptBlock>,
+    pub blocks: BlockTable,
     pub space: Space,
     pub quarantine: Quarantine,
     pub words: Stream,
@@ -67,10 +55,11 @@ impl Store {
         requires { IsValid config.now }
         ensures { IfOk result (Shows config.now seed start) }
     {
+        let blocks = BlockTable::build(alloc)?;
         let space = Space::build(alloc, SPACE_START, config.large_space)?;
         let quarantine = Quarantine::build(alloc, ARRAY_LENGTH, RING_LENGTH)?;
         Ok(Store {
-            blocks: BTreeMap::new(alloc),
+            blocks,
             space,
             quarantine,
             words: Stream::start(seed, STREAM),

@@ -1,47 +1,46 @@
 use Rattle.std.proofs.Common.{ℕ, suc, Err, ◌∙◌, ap, subst, refl}
 use Rattle.std.specs.FinMap as map
-use Rattle.std.specs.BTreeMap as tree
-use Rattle.std.specs.Ordering.{nat_cmp}
 use Rattle.hm_outside.specs.PageRuns.{zeros}
 use Rattle.hm_outside.specs.declared.pages.PageRefusal.{PageRefusal}
 use Rattle.hm_large.specs.declared.allot.Outcome.TheVariants as outcome
 use Rattle.hm_large.specs.declared.store.Store.{Store}
 use Rattle.hm_large.specs.Rules.{IsCandidate, IsLeastCandidate}
+use Rattle.hm_large.specs.Stored.{SameStore}
 use Rattle.hm_large.proofs.Legal.{page_aligned}
 use Rattle.hm_large.proofs.Tables.{meets_none}
-use Rattle.hm_large.proofs.Shown.{SameStore, shows_same}
+use Rattle.hm_large.proofs.Shown.{shows_same}
 use Rattle.hm_large.proofs.Allotted.{word_back, same_none, fresh_key, candidate_below, candidate_free, shows_drawn, shows_table, found_least, allots_from, gives_from, shows_new}
 use Rattle.hm_large.proofs.allot.allot.Goals as goal
 
 pub open-requires-clause-fresh : goal.open-requires-clause-fresh
 open-requires-clause-fresh g c κs within =
     let t = c.requires.stands in
-    let shows = shows_drawn t.config t.number t.s c.args.store.now c.draw_guard-word.new.store c.reserve_two.new.self c.draw_guard-word.ensures.store c.in_ok-reserve_two.ensures.ranges c.in_ok-reserve_two.ensures.out t.shows in
-    let least = found_least t.config t.number t.s c.args.store.now c.draw_guard-word.new.store c.reserve_two.new.self c.args.align c.size_of_block-size.result c.draw_guard-word.result.1 c.in-Some.addr c.draw_guard-word.ensures.store c.in_ok-reserve_two.ensures.ranges c.in_ok-reserve_two.ensures.out c.in-Some.ensures.fits t.shows in
+    let shows = shows_drawn t.config t.number t.s c.args.store.now c.reserve.new.store c.draw_guard-word.new.store c.draw_guard-word.ensures.store c.reserve.ensures.same c.reserve.ensures.words t.shows in
+    let least = found_least t.config t.number t.s c.args.store.now c.reserve.new.store c.draw_guard-word.new.store c.args.align c.size_of_block-size.result c.draw_guard-word.result.1 c.in-Some.addr c.draw_guard-word.ensures.store c.reserve.ensures.same c.reserve.ensures.words c.in-Some.ensures.fits t.shows in
     shows.blocks c.in-Some.addr ∙ fresh_key t.config t.s c.args.align c.size_of_block-size.result c.draw_guard-word.result.1 c.in-Some.addr c.size_of_block-size.ensures.some t.sound least.fits
 
 pub open-requires-clause-aligned : goal.open-requires-clause-aligned
 open-requires-clause-aligned g c κs within =
     let t = c.requires.stands in
-    let least = found_least t.config t.number t.s c.args.store.now c.draw_guard-word.new.store c.reserve_two.new.self c.args.align c.size_of_block-size.result c.draw_guard-word.result.1 c.in-Some.addr c.draw_guard-word.ensures.store c.in_ok-reserve_two.ensures.ranges c.in_ok-reserve_two.ensures.out c.in-Some.ensures.fits t.shows in
+    let least = found_least t.config t.number t.s c.args.store.now c.reserve.new.store c.draw_guard-word.new.store c.args.align c.size_of_block-size.result c.draw_guard-word.result.1 c.in-Some.addr c.draw_guard-word.ensures.store c.reserve.ensures.same c.reserve.ensures.words c.in-Some.ensures.fits t.shows in
     page_aligned c.args.align c.in-Some.addr c.requires.align least.fits.aligned
 
 pub open-requires-clause-below : goal.open-requires-clause-below
 open-requires-clause-below g c κs within =
     let t = c.requires.stands in
-    let least = found_least t.config t.number t.s c.args.store.now c.draw_guard-word.new.store c.reserve_two.new.self c.args.align c.size_of_block-size.result c.draw_guard-word.result.1 c.in-Some.addr c.draw_guard-word.ensures.store c.in_ok-reserve_two.ensures.ranges c.in_ok-reserve_two.ensures.out c.in-Some.ensures.fits t.shows in
+    let least = found_least t.config t.number t.s c.args.store.now c.reserve.new.store c.draw_guard-word.new.store c.args.align c.size_of_block-size.result c.draw_guard-word.result.1 c.in-Some.addr c.draw_guard-word.ensures.store c.reserve.ensures.same c.reserve.ensures.words c.in-Some.ensures.fits t.shows in
     candidate_below t.config t.s c.args.align c.size_of_block-size.result c.draw_guard-word.result.1 c.in-Some.addr t.valid least.fits
 
 pub open-requires-clause-apart : goal.open-requires-clause-apart
 open-requires-clause-apart g c κs within =
     λ told. let t = c.requires.stands in
-    let least = found_least t.config t.number t.s c.args.store.now c.draw_guard-word.new.store c.reserve_two.new.self c.args.align c.size_of_block-size.result c.draw_guard-word.result.1 c.in-Some.addr c.draw_guard-word.ensures.store c.in_ok-reserve_two.ensures.ranges c.in_ok-reserve_two.ensures.out c.in-Some.ensures.fits t.shows in
+    let least = found_least t.config t.number t.s c.args.store.now c.reserve.new.store c.draw_guard-word.new.store c.args.align c.size_of_block-size.result c.draw_guard-word.result.1 c.in-Some.addr c.draw_guard-word.ensures.store c.reserve.ensures.same c.reserve.ensures.words c.in-Some.ensures.fits t.shows in
     meets_none t.config t.s c.args.align c.size_of_block-size.result c.draw_guard-word.result.1 c.in-Some.addr (g.P.Pages.runs c.args.pages.now) c.size_of_block-size.ensures.some t.sound least.fits (t.holds told)
 
 pub take_range-requires-clause-free : goal.take_range-requires-clause-free
 take_range-requires-clause-free g c =
     let t = c.requires.stands in
-    let shows = shows_drawn t.config t.number t.s c.args.store.now c.draw_guard-word.new.store c.reserve_two.new.self c.draw_guard-word.ensures.store c.in_ok-reserve_two.ensures.ranges c.in_ok-reserve_two.ensures.out t.shows in
+    let shows = shows_drawn t.config t.number t.s c.args.store.now c.reserve.new.store c.draw_guard-word.new.store c.draw_guard-word.ensures.store c.reserve.ensures.same c.reserve.ensures.words t.shows in
     let found = c.in-Some.ensures.fits t.config t.number (record t.s { words = suc t.s.words }) shows in
     candidate_free t.config t.number (record t.s { words = suc t.s.words }) c.draw_guard-word.new.store c.args.align c.size_of_block-size.result c.draw_guard-word.result.1 c.in-Some.addr shows found.fits
 
@@ -49,22 +48,22 @@ pub returns-in_default-clause-allots : goal.returns-in_default-clause-allots
 returns-in_default-clause-allots g c =
     λ config n s shows. let size = c.size_of_block-size.result in
     let guard = c.draw_guard-word.result.1 in
-    let drawn = shows_drawn config n s c.args.store.now c.draw_guard-word.new.store c.reserve_two.new.self c.draw_guard-word.ensures.store c.in_ok-reserve_two.ensures.ranges c.in_ok-reserve_two.ensures.out shows in
+    let drawn = shows_drawn config n s c.args.store.now c.reserve.new.store c.draw_guard-word.new.store c.draw_guard-word.ensures.store c.reserve.ensures.same c.reserve.ensures.words shows in
     let none : (a : ℕ) → IsCandidate config s c.args.align size guard a → ⊥ = same_none config s (suc s.words) c.args.align size guard (c.in_default.ensures.fits config n (record s { words = suc s.words }) drawn) in
-    allots_from g.P.Pages config n s c.args.asked c.args.align c.args.store.now c.draw_guard-word.new.store c.reserve_two.new.self c.args.pages.now c.args.pages.now size c.draw_guard-word.result.0 guard outcome.NoSpace c.draw_guard-word.new.store shows c.size_of_block-size.ensures.value c.draw_guard-word.ensures.word c.draw_guard-word.ensures.guard
+    allots_from g.P.Pages config n s c.args.asked c.args.align c.args.store.now c.reserve.new.store c.args.pages.now c.args.pages.now size c.draw_guard-word.result.0 guard outcome.NoSpace c.draw_guard-word.new.store shows c.size_of_block-size.ensures.value c.reserve.ensures.words c.draw_guard-word.ensures.word c.draw_guard-word.ensures.guard
     (subst (λ (z : ℕ). (a : ℕ) → IsCandidate config s c.args.align z guard a → ⊥) c.size_of_block-size.ensures.value none, drawn, (λ told. refl), refl)
 
 pub returns-in-Ok-clause-allots : goal.returns-in-Ok-clause-allots
 returns-in-Ok-clause-allots g c =
     λ config n s shows. let size = c.size_of_block-size.result in
     let guard = c.draw_guard-word.result.1 in
-    let drawn = shows_drawn config n s c.args.store.now c.draw_guard-word.new.store c.reserve_two.new.self c.draw_guard-word.ensures.store c.in_ok-reserve_two.ensures.ranges c.in_ok-reserve_two.ensures.out shows in
-    let least = found_least config n s c.args.store.now c.draw_guard-word.new.store c.reserve_two.new.self c.args.align size guard c.in-Some.addr c.draw_guard-word.ensures.store c.in_ok-reserve_two.ensures.ranges c.in_ok-reserve_two.ensures.out c.in-Some.ensures.fits shows in
-    allots_from g.P.Pages config n s c.args.asked c.args.align c.args.store.now c.draw_guard-word.new.store c.reserve_two.new.self c.args.pages.now c.open.new.pages size c.draw_guard-word.result.0 guard (outcome.Given c.in-Some.addr) c.take_range.new.store shows c.size_of_block-size.ensures.value c.draw_guard-word.ensures.word c.draw_guard-word.ensures.guard (
+    let drawn = shows_drawn config n s c.args.store.now c.reserve.new.store c.draw_guard-word.new.store c.draw_guard-word.ensures.store c.reserve.ensures.same c.reserve.ensures.words shows in
+    let least = found_least config n s c.args.store.now c.reserve.new.store c.draw_guard-word.new.store c.args.align size guard c.in-Some.addr c.draw_guard-word.ensures.store c.reserve.ensures.same c.reserve.ensures.words c.in-Some.ensures.fits shows in
+    allots_from g.P.Pages config n s c.args.asked c.args.align c.args.store.now c.reserve.new.store c.args.pages.now c.open.new.pages size c.draw_guard-word.result.0 guard (outcome.Given c.in-Some.addr) c.take_range.new.store shows c.size_of_block-size.ensures.value c.reserve.ensures.words c.draw_guard-word.ensures.word c.draw_guard-word.ensures.guard (
       subst (λ (z : ℕ). IsLeastCandidate config s c.args.align z guard c.in-Some.addr) c.size_of_block-size.ensures.value least,
       shows_new config n s c.draw_guard-word.new.store c.take_range.new.store c.args.align c.args.asked size guard c.in-Some.addr (suc s.words) c.size_of_block-size.ensures.value
           (subst (λ (z : ℕ). IsCandidate config s c.args.align z guard c.in-Some.addr) c.size_of_block-size.ensures.value least.fits) drawn
-          (gives_from c.draw_guard-word.new.store c.take_range.new.store c.open.new.blocks c.in-Some.addr size guard c.in-Ok.ensures.put c.take_range.ensures.blocks c.take_range.ensures.taken c.take_range.ensures.out c.take_range.ensures.quarantine c.take_range.ensures.owed)
+          (gives_from c.draw_guard-word.new.store c.take_range.new.store c.open.new.blocks c.in-Some.addr c.args.asked size guard c.in-Ok.ensures.put c.take_range.ensures.blocks c.take_range.ensures.taken c.take_range.ensures.out c.take_range.ensures.quarantine c.take_range.ensures.owed)
           c.take_range.ensures.words,
       (λ told. c.in-Ok.ensures.made told ∙ ap (λ (z : ℕ). map.insert (g.P.Pages.runs c.args.pages.now) c.in-Some.addr (zeros z)) c.size_of_block-size.ensures.value),
       c.in-Ok.ensures.cause.later,
@@ -75,11 +74,11 @@ returns-in-Err-Failed-clause-allots g c =
     λ config n s shows. let size = c.size_of_block-size.result in
     let guard = c.draw_guard-word.result.1 in
     let d = c.draw_guard-word.new.store in
-    let drawn = shows_drawn config n s c.args.store.now c.draw_guard-word.new.store c.reserve_two.new.self c.draw_guard-word.ensures.store c.in_ok-reserve_two.ensures.ranges c.in_ok-reserve_two.ensures.out shows in
-    let least = found_least config n s c.args.store.now c.draw_guard-word.new.store c.reserve_two.new.self c.args.align size guard c.in-Some.addr c.draw_guard-word.ensures.store c.in_ok-reserve_two.ensures.ranges c.in_ok-reserve_two.ensures.out c.in-Some.ensures.fits shows in
+    let drawn = shows_drawn config n s c.args.store.now c.reserve.new.store c.draw_guard-word.new.store c.draw_guard-word.ensures.store c.reserve.ensures.same c.reserve.ensures.words shows in
+    let least = found_least config n s c.args.store.now c.reserve.new.store c.draw_guard-word.new.store c.args.align size guard c.in-Some.addr c.draw_guard-word.ensures.store c.reserve.ensures.same c.reserve.ensures.words c.in-Some.ensures.fits shows in
     let new : Store = record d { blocks = c.open.new.blocks } in
     let same : SameStore d new = record { blocks = c.in-Err-Failed.ensures.stays; ranges = refl; out = refl; quarantine = refl; owed_same = refl } in
-    allots_from g.P.Pages config n s c.args.asked c.args.align c.args.store.now c.draw_guard-word.new.store c.reserve_two.new.self c.args.pages.now c.open.new.pages size c.draw_guard-word.result.0 guard outcome.PagesFailed new shows c.size_of_block-size.ensures.value c.draw_guard-word.ensures.word c.draw_guard-word.ensures.guard
+    allots_from g.P.Pages config n s c.args.asked c.args.align c.args.store.now c.reserve.new.store c.args.pages.now c.open.new.pages size c.draw_guard-word.result.0 guard outcome.PagesFailed new shows c.size_of_block-size.ensures.value c.reserve.ensures.words c.draw_guard-word.ensures.word c.draw_guard-word.ensures.guard
     (subst (λ (z : ℕ). (a : ℕ) × IsCandidate config s c.args.align z guard a) c.size_of_block-size.ensures.value (c.in-Some.addr, least.fits), shows_table config n (record s { words = suc s.words }) d new drawn same refl, c.in-Err-Failed.ensures.unchanged, c.in-Err-Failed.ensures.cause.failed (ap (λ (r : PageRefusal). Err r) c.in-Err-Failed.field-0-is))
 
 pub returns-in-Err-NoMemory-clause-declines : goal.returns-in-Err-NoMemory-clause-declines
@@ -89,14 +88,14 @@ returns-in-Err-NoMemory-clause-declines g c =
     let e = c.draw_guard-word.ensures.store in
     let new : Store = record d { blocks = c.open.new.blocks; words = c.back.new.self } in
     let same : SameStore old new = record {
-      blocks = λ a. c.in-Err-NoMemory.ensures.stays a ∙ ap (λ (k : Store). tree.get nat_cmp k.blocks a) e;
-      ranges = ap (λ (k : Store). k.space.ranges) e ∙ c.in_ok-reserve_two.ensures.ranges;
-      out = ap (λ (k : Store). k.space.out) e ∙ c.in_ok-reserve_two.ensures.out;
-      quarantine = ap (λ (k : Store). k.quarantine) e;
-      owed_same = ap (λ (k : Store). k.owed) e;
+      blocks = λ a. c.in-Err-NoMemory.ensures.stays a ∙ ap (λ (k : Store). map.get k.blocks.blocks a) e ∙ c.reserve.ensures.same.blocks a;
+      ranges = ap (λ (k : Store). k.space.ranges) e ∙ c.reserve.ensures.same.ranges;
+      out = ap (λ (k : Store). k.space.out) e ∙ c.reserve.ensures.same.out;
+      quarantine = ap (λ (k : Store). k.quarantine) e ∙ c.reserve.ensures.same.quarantine;
+      owed_same = ap (λ (k : Store). k.owed) e ∙ c.reserve.ensures.same.owed_same;
     } in
     record {
-      shows = shows_same config n s old new s.words shows same (word_back n s.words old.words d.words c.back.new.self shows.words (ap (λ (k : Store). k.words) e) c.back.ensures);
+      shows = shows_same config n s old new s.words shows same (word_back n s.words c.reserve.new.store.words d.words c.back.new.self (c.reserve.ensures.words ∙ shows.words) (ap (λ (k : Store). k.words) e) c.back.ensures);
       runs_are = c.in-Err-NoMemory.ensures.unchanged;
       count = c.in-Err-NoMemory.ensures.cause.no_memory (ap (λ (r : PageRefusal). Err r) c.in-Err-NoMemory.field-0-is);
     }

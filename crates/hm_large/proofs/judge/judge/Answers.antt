@@ -1,7 +1,7 @@
 use Rattle.std.proofs.Common.{◌≡◌, ℕ, ◌==◌, Bool, true, false, cond, option_map, Option, Some, None, sym, ◌∙◌, ap, refl}
 use Rattle.std.proofs.lemmas.Bool.{eq-eqb, ne_eqb}
 use Rattle.hm_sizes.specs.Sizes.{block_size}
-use Rattle.hm_large.specs.declared.store.KeptBlock.{KeptBlock}
+use Rattle.hm_region_table.specs.declared.entry.Block.{Block as KeptBlock}
 use Rattle.hm_large.specs.Blocks.{Block}
 use Rattle.hm_large.specs.Kept.{kept_of}
 use Rattle.hm_large.specs.Rules.{wrong_size}

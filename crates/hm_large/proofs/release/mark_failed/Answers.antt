@@ -1,10 +1,8 @@
 use Rattle.std.proofs.Common.{◌≡◌, ◌==◌, ◌+◌, true, false, cond, Some, sym, ◌∙◌, ap, subst, arith}
-use Rattle.std.specs.Ordering.{nat_cmp}
-use Rattle.std.specs.BTreeMap as tree
-use Rattle.hm_large.specs.declared.store.KeptBlock.{KeptBlock}
+use Rattle.std.specs.FinMap as map
+use Rattle.hm_region_table.specs.declared.entry.Block.{Block as KeptBlock}
 use Rattle.hm_large.specs.declared.store.Store.{Store}
 use Rattle.hm_large.specs.Kept.{kept_of}
-use Rattle.hm_large.proofs.Tables.{tree_test}
 use Rattle.hm_large.proofs.Shown.{shows_marked}
 use Rattle.hm_large.proofs.Released.{kept_live, same_block, owed_some}
 use Rattle.hm_large.proofs.release.mark_failed.Goals as goal
@@ -26,8 +24,7 @@ returns-clause-shows c =
     let u = c.uncount.new.store in
     let is : c.args.block ≡ kept_of false x = same_block config n s old a x c.args.block shows live (kept_live t.config t.number t.s old a t.block t.shows t.live ∙ ap Some (sym t.is)) in
     shows_marked config n s old c.replace.new.store a x sound live shows
-    (λ q. c.replace.ensures.blocks.0 q ∙ (ap (λ v. cond v (Some (record c.args.block { failed = true })) (tree.get nat_cmp u.blocks q)) (tree_test a q)
-    ∙ (ap (λ (b : KeptBlock). cond (a == q) (Some (record b { failed = true })) (tree.get nat_cmp u.blocks q)) is ∙ ap (λ (k : Store). cond (a == q) (Some (record (kept_of false x) { failed = true })) (tree.get nat_cmp k.blocks q)) c.uncount.ensures.others)))
+    (λ q. c.replace.ensures.blocks q ∙ (ap (λ (b : KeptBlock). cond (a == q) (Some (record b { failed = true })) (map.get u.blocks.blocks q)) is ∙ ap (λ (k : Store). cond (a == q) (Some (record (kept_of false x) { failed = true })) (map.get k.blocks.blocks q)) c.uncount.ensures.others))
     (ap (λ (k : Store). k.space) c.replace.ensures.others ∙ ap (λ (k : Store). k.space) c.uncount.ensures.others)
     (ap (λ (k : Store). k.quarantine) c.replace.ensures.others ∙ ap (λ (k : Store). k.quarantine) c.uncount.ensures.others)
     (ap (λ (k : Store). k.words) c.replace.ensures.others ∙ ap (λ (k : Store). k.words) c.uncount.ensures.others)

@@ -1,17 +1,15 @@
 use Rattle.std.proofs.Common.{◌≡◌, ◌+◌, ◌-◌, ◌==◌, ℕ, Bool, true, false, cond, length, Some, None, sym, ◌∙◌, ap, subst, arith}
 use Rattle.std.specs.Option.{IfSome}
-use Rattle.std.specs.Ordering.{nat_cmp}
-use Rattle.std.specs.BTreeMap as tree
+use Rattle.std.specs.FinMap as map
 use Rattle.std.proofs.lemmas.Bool.{le-ltb, lt-ltb}
 use Rattle.hm_quarantine.specs.LookingBack.{kept_after}
 use Rattle.hm_quarantine.specs.Quarantine.{Kept, IsArrayPlace}
 use Rattle.hm_quarantine.proofs.Passes.{length_array}
-use Rattle.hm_large.specs.declared.store.KeptBlock.{KeptBlock}
+use Rattle.hm_region_table.specs.declared.entry.Block.{Block as KeptBlock}
 use Rattle.hm_large.specs.declared.store.Store.{Store}
 use Rattle.hm_large.specs.Blocks.{is_quarantined}
 use Rattle.hm_large.specs.Kept.{kept_of}
 use Rattle.hm_large.specs.Stored.{GoesBack, GaveBack}
-use Rattle.hm_large.proofs.Tables.{tree_test}
 use Rattle.hm_large.proofs.Released.{table_left, frees_left, kept_live, same_block, owed_some, live_goes_back, held_goes_back, holds_from, holds_table, holds_sound, held_state, left_held, frees_none, frees_some}
 use Rattle.hm_large.proofs.release.release.Goals as goal
 
@@ -24,7 +22,7 @@ uncount-requires c =
 pub put_back-requires : goal.put_back-requires
 put_back-requires c =
     let t = c.requires in
-    subst (λ (k : Store). IfSome (tree.get nat_cmp k.blocks c.args.addr) (GoesBack k.space c.args.addr)) (sym c.uncount.ensures.others)
+    subst (λ (k : Store). IfSome (map.get k.blocks.blocks c.args.addr) (GoesBack k.space c.args.addr)) (sym c.uncount.ensures.others)
     (live_goes_back t.config t.number t.s c.args.store.now c.args.addr t.block t.valid t.sound t.shows t.live)
 
 pub returns-then-block-ge-QUARANTINED_BELOW-clause-frees : goal.returns-then-block-ge-QUARANTINED_BELOW-clause-frees
@@ -38,9 +36,9 @@ returns-then-block-ge-QUARANTINED_BELOW-clause-frees c =
     let great : is_quarantined x ≡ false = le-ltb x.size 33554432 (omega (arith, ap (λ (b : KeptBlock). b.size) is, c.if-block-ge-QUARANTINED_BELOW.true)) in
     let gave : GaveBack old.space new.space a (kept_of false x) =
     subst (λ o. IfSome o (GaveBack old.space new.space a)) (kept_live config n s old a x shows live)
-    (subst (λ (k : Store). IfSome (tree.get nat_cmp k.blocks a) (GaveBack k.space new.space a)) c.uncount.ensures.others c.put_back.ensures.space) in
+    (subst (λ (k : Store). IfSome (map.get k.blocks.blocks a) (GaveBack k.space new.space a)) c.uncount.ensures.others c.put_back.ensures.space) in
     let table = table_left config n s old new a x sound live shows
-    (λ q. c.put_back.ensures.blocks.0 q ∙ (ap (λ (v : Bool). cond v None (tree.get nat_cmp u.blocks q)) (tree_test a q) ∙ ap (λ (k : Store). cond (a == q) None (tree.get nat_cmp k.blocks q)) c.uncount.ensures.others))
+    (λ q. c.put_back.ensures.blocks q ∙ ap (λ (k : Store). cond (a == q) None (map.get k.blocks.blocks q)) c.uncount.ensures.others)
     gave
     (c.put_back.ensures.owed ∙ (ap (λ (k : Store). k.owed) c.uncount.ensures.others ∙ ap (λ (b : KeptBlock). old.owed - cond b.failed 0 1) is)) in
     frees_left config n s old new a x sound live great shows table (c.put_back.ensures.quarantine ∙ ap (λ (k : Store). k.quarantine) c.uncount.ensures.others) (c.put_back.ensures.words ∙ ap (λ (k : Store). k.words) c.uncount.ensures.others)

@@ -1,6 +1,6 @@
 use Rattle.std.proofs.Common.{◌≡◌, ◌≤◌, ℕ, false, nat_cmp, is_gt, is_lt, arith}
 use Rattle.std.proofs.lemmas.Bool.Decides.{nat_tests}
-use Rattle.hm_large.proofs.access.last_begun.Goals as goal
+use Rattle.hm_large.proofs.block_table.last_begun.Goals as goal
 
 not_greater : (a b : ℕ) → a ≤ b → is_gt (nat_cmp a b) ≡ false
 not_greater a b le = grind (arith, nat_tests)

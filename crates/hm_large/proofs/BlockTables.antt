@@ -1,0 +1,82 @@
+-- The table of blocks after a change, address by address, and the starts of the live ones.
+use Rattle.std.proofs.Common.{◌≡◌, ⊎_elim, ℕ, ◌==◌, Bool, true, false, cond, List, [], Option, Some, None, sym, ◌∙◌, ap, subst, refl}
+use Rattle.std.specs.Ordering.{nat_cmp}
+use Rattle.std.specs.BTreeMap as tree
+use Rattle.std.specs.Map.{lookup}
+use Rattle.std.specs.FinMap as map
+use Rattle.std.specs.FinMap.{get-empty, get-insert, get-remove}
+use Rattle.std.proofs.lemmas.Bool.{cases_eq}
+use Rattle.std.proofs.lemmas.Cmp.{nat_cmp_total}
+use Rattle.hm_model.proofs.Lists.{same_eq, other_eq}
+use Rattle.hm_region_table.specs.declared.entry.Block.{Block as KeptBlock}
+use Rattle.hm_region_table.specs.Table.{Blocks, Table}
+use Rattle.hm_large.specs.BlockTable.{live_size, AreLive, Updates}
+use Rattle.hm_large.proofs.Tables.{map_test}
+
+-- ---- the table
+pub nothing_there : (t : Table) → t.blocks ≡ map.empty → (q : ℕ) → map.get t.blocks q ≡ None
+nothing_there t e q = ap (λ (m : Blocks). map.get m q) e ∙ get-empty nat_cmp q
+
+pub inserted : (old new : Table) (a : ℕ) (b : KeptBlock) → new.blocks ≡ map.insert old.blocks a b → Updates old new a (Some b)
+inserted old new a b e q =
+    ap (λ (m : Blocks). map.get m q) e ∙ (get-insert nat_cmp_total old.blocks a b q ∙ ap (λ (t : Bool). cond t (Some b) (map.get old.blocks q)) (map_test q a))
+
+pub taken_out : (old new : Table) (a : ℕ) → new.blocks ≡ map.remove old.blocks a → Updates old new a None
+taken_out old new a e q =
+    ap (λ (m : Blocks). map.get m q) e ∙ (get-remove nat_cmp_total old.blocks a q ∙ ap (λ (t : Bool). cond t None (map.get old.blocks q)) (map_test q a))
+
+-- two changes at one address
+pub again : (old mid new : Table) (a : ℕ) (x y : Option KeptBlock) → Updates old mid a x → Updates mid new a y → Updates old new a y
+again old mid new a x y f g q = g q ∙ (ap (cond (a == q) y) (f q) ∙ shadowed (a == q))
+  where
+    shadowed : (t : Bool) → cond t y (cond t x (map.get old.blocks q)) ≡ cond t y (map.get old.blocks q)
+    shadowed true = refl
+    shadowed false = refl
+
+-- a change that leaves what was there
+pub stays : (old new : Table) (a : ℕ) (x : Option KeptBlock) → Updates old new a x → map.get old.blocks a ≡ x → (q : ℕ) → map.get new.blocks q ≡ map.get old.blocks q
+stays old new a x f e q = f q ∙ ⊎_elim here there (cases_eq a q)
+  where
+    here : a ≡ q → cond (a == q) x (map.get old.blocks q) ≡ map.get old.blocks q
+    here same = ap (λ (t : Bool). cond t x (map.get old.blocks q)) (same_eq a q same) ∙ (sym e ∙ ap (map.get old.blocks) same)
+
+    there : (a ≡ q → ⊥) → cond (a == q) x (map.get old.blocks q) ≡ map.get old.blocks q
+    there ne = ap (λ (t : Bool). cond t x (map.get old.blocks q)) (other_eq a q ne)
+
+-- what is at the address then
+pub at_updated : (old new : Table) (a : ℕ) (x : Option KeptBlock) → Updates old new a x → map.get new.blocks a ≡ x
+at_updated old new a x f = f a ∙ ap (λ (t : Bool). cond t x (map.get old.blocks a)) (same_eq a a refl)
+
+-- ---- the starts of the live blocks
+abbrev sizes : tree.BTreeMap ℕ ℕ → ℕ → Option ℕ
+sizes live q = tree.get nat_cmp live q
+
+pub live_changed : (old new : Table) (live after : tree.BTreeMap ℕ ℕ) (a : ℕ) (x : Option KeptBlock) → AreLive old.blocks live → Updates old new a x
+    → ((q : ℕ) → sizes after q ≡ cond (a == q) (live_size x) (sizes live q)) → AreLive new.blocks after
+live_changed old new live after a x h f g q =
+    g q ∙ (ap (cond (a == q) (live_size x)) (h q) ∙ (moved (a == q) ∙ sym (ap live_size (f q))))
+  where
+    moved : (t : Bool) → cond t (live_size x) (live_size (map.get old.blocks q)) ≡ live_size (cond t x (map.get old.blocks q))
+    moved true = refl
+    moved false = refl
+
+pub none_live : (t : Table) (live : tree.BTreeMap ℕ ℕ) → t.blocks ≡ map.empty → live.entries ≡ [] → AreLive t.blocks live
+none_live t live e f q =
+    ap (λ (es : List (ℕ × ℕ)). lookup (tree.is_at (nat_cmp q)) es) f ∙ sym (ap live_size (nothing_there t e q))
+
+-- a block that stays live and as large
+pub live_kept : (old new : Table) (live : tree.BTreeMap ℕ ℕ) (a : ℕ) (x : Option KeptBlock) → AreLive old.blocks live → Updates old new a x → live_size (map.get old.blocks a) ≡ live_size x → AreLive new.blocks live
+live_kept old new live a x h f e = live_changed old new live live a x h f (λ q. ⊎_elim (here q) (there q) (cases_eq a q))
+  where
+    here : (q : ℕ) → a ≡ q → sizes live q ≡ cond (a == q) (live_size x) (sizes live q)
+    here q same = ap (sizes live) (sym same) ∙ (h a ∙ (e ∙ sym (ap (λ (t : Bool). cond t (live_size x) (sizes live q)) (same_eq a q same))))
+
+    there : (q : ℕ) → (a ≡ q → ⊥) → sizes live q ≡ cond (a == q) (live_size x) (sizes live q)
+    there q ne = sym (ap (λ (t : Bool). cond t (live_size x) (sizes live q)) (other_eq a q ne))
+
+-- ---- a state that is live or in quarantine
+pub live_of : (b : KeptBlock) (size : ℕ) → b.held ≡ false → b.size ≡ size → live_size (Some b) ≡ Some size
+live_of b size live e = ap (λ (t : Bool). cond t None (Some b.size)) live ∙ ap Some e
+
+pub held_of : (b : KeptBlock) → b.held ≡ true → live_size (Some b) ≡ None
+held_of b held = ap (λ (t : Bool). cond t None (Some b.size)) held

@@ -1,0 +1,130 @@
+//! The region's blocks by their addresses, and beside them the starts of the live ones in order: the block
+//! that has an address is found in logarithmic time.
+ghost use Rattle.std.specs.Prelude.{◌≡◌, ◌≤◌, ℕ, false, IfOk, OnOk, OnErr, IfSome, IfNone, IsSome, Some, None};
+ghost use Rattle.std.specs.Ordering.{nat_cmp};
+ghost use Rattle.std.specs.BTreeMap as tree;
+ghost use Rattle.std.specs.FinMap as map;
+ghost use Rattle.hm_region_table.specs.declared.entry.Block.{Block as KeptBlock};
+ghost use Rattle.hm_large.specs.BlockTable.{Updates, live_size};
+
+use hm_outside::NoMemory;
+use hm_region_table::{Block, RegionTable};
+use std::alloc::Global;
+use std::collections::BTreeMap;
+use std::marker::Model;
+
+/// Contracts see the table alone.
+#[derive(Drop)]
+pub struct BlockTable {
+    table: RegionTable,
+    /// The size of each live block, by its start.
+    live: BTreeMap<u64, u64>,
+}
+
+impl Model for BlockTable {
+    ghost use Rattle.hm_region_table.specs.Table.{Table, table_code};
+    ghost use Rattle.hm_region_table.specs.contracts.entry.Block as block;
+    ghost use Rattle.hm_large.specs.BlockTable.{AreLive};
+
+    ghost Value = { Table };
+
+    ghost coded = { table_code block.the_row.coded };
+
+    ghost view = { λ t. t.table };
+
+    ghost invariant = { λ t. AreLive t.table.blocks t.live };
+}
+
+// The last of these that begins at the address or below it.
+fn last_begun(live: &BTreeMap<u64, u64>, addr: u64) -> Option<(u64, u64)>
+    ensures below { IfSome result (λ e. e.0 ≤ addr) }
+    ensures there { IfSome result (λ e. tree.get nat_cmp live.now e.0 ≡ Some e.1) }
+    ensures last { IfSome result (λ e. (q : ℕ) → q ≤ addr → IsSome (tree.get nat_cmp live.now q) → q ≤ e.0) }
+    ensures none { IfNone result ((q : ℕ) → q ≤ addr → tree.get nat_cmp live.now q ≡ None) }
+{
+    let (start, size) = live.range(..=addr).next_back()?;
+    Some((*start, *size))
+}
+
+// Changes what the table has at a key that is there. It takes no memory.
+fn exchange(table: &mut RegionTable, addr: u64, block: Block)
+    requires { IsSome (map.get table.old.blocks addr) }
+    ensures { Updates table.old table.new addr (Some block) }
+{
+    let _before = table.remove(addr);
+    table.insert(addr, block);
+}
+
+impl BlockTable {
+    /// A table with no blocks.
+    pub fn build(alloc: Global) -> Result<BlockTable, NoMemory>
+        ensures { IfOk result (λ t. (a : ℕ) → map.get t.blocks a ≡ None) }
+    {
+        let table = RegionTable::build(alloc)?;
+        Ok(BlockTable {
+            table,
+            live: BTreeMap::new(alloc),
+        })
+    }
+
+    /// Makes room in the table for one more block.
+    pub fn reserve_one(&mut self) -> Result<(), NoMemory>
+        ensures blocks { self.new.blocks ≡ self.old.blocks }
+        ensures room { OnOk result (1 ≤ self.new.spare) }
+    {
+        self.table.reserve_one()
+    }
+
+    /// The block that begins at the address.
+    pub fn get(&self, addr: u64) -> Option<Block>
+        ensures { result ≡ map.get self.now.blocks addr }
+    {
+        self.table.get(addr)
+    }
+
+    /// Adds a live block where none begins. Where there is no memory for its start the table stays.
+    pub fn insert(&mut self, addr: u64, block: Block) -> Result<(), NoMemory>
+        requires fresh { map.get self.old.blocks addr ≡ None }
+        requires room { 1 ≤ self.old.spare }
+        requires live { block.held ≡ false }
+        ensures put { OnOk result (Updates self.old self.new addr (Some block)) }
+        ensures stays { OnErr result (self.new ≡ self.old) }
+    {
+        self.live.insert(addr, block.size)?;
+        self.table.insert(addr, block);
+        Ok(())
+    }
+
+    /// Changes what is kept of a block, which stays live and as large or goes into quarantine. It takes no
+    /// memory.
+    pub fn replace(&mut self, addr: u64, block: Block)
+        requires there { IsSome (map.get self.old.blocks addr) }
+        requires same { block.held ≡ false → live_size (map.get self.old.blocks addr) ≡ Some block.size }
+        ensures { Updates self.old self.new addr (Some block) }
+    {
+        exchange(&mut self.table, addr, block);
+        if block.held {
+            let _size = self.live.remove(&addr);
+        }
+    }
+
+    /// Takes out the block that begins at the address. It takes no memory.
+    pub fn remove(&mut self, addr: u64) -> Option<Block>
+        ensures value { result ≡ map.get self.old.blocks addr }
+        ensures blocks { Updates self.old self.new addr None }
+    {
+        let _size = self.live.remove(&addr);
+        self.table.remove(addr)
+    }
+
+    /// The last live block that begins at the address or below it, and its size.
+    pub fn last_live(&self, addr: u64) -> Option<(u64, u64)>
+        ensures below { IfSome result (λ e. e.0 ≤ addr) }
+        ensures there { IfSome result (λ e. live_size (map.get self.now.blocks e.0) ≡ Some e.1) }
+        ensures last { IfSome result (λ e. (q : ℕ) → q ≤ addr
+            → IsSome (live_size (map.get self.now.blocks q)) → q ≤ e.0) }
+        ensures none { IfNone result ((q : ℕ) → q ≤ addr → live_size (map.get self.now.blocks q) ≡ None) }
+    {
+        last_begun(&self.live, addr)
+    }
+}
