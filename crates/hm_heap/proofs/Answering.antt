@@ -28,13 +28,6 @@ module _ (c : Config) (thread a asked : ℕ) (kind : Kind) (kind_is : IsKindOf a
   pub too_large : None ≡ place_for c thread kind → IsReallocPlan c thread a asked (Done answer.TooLarge)
   too_large at = record { kind = kind; kind_is = kind_is; is = ap (resize_plan c thread a asked kind) at }
 
-  pub is_malloc : (place : ℕ) → Some place ≡ place_for c thread kind → a ≡ 0 → IsReallocPlan c thread a asked (allot_plan c thread asked 1 kind)
-  is_malloc place at zero = record {
-    kind = kind;
-    kind_is = kind_is;
-    is = sym (ap (λ (n : ℕ). if n == 0 then allot_plan c thread asked 1 kind else moving_plan c place a asked kind (home_place c a)) zero) ∙ ap (resize_plan c thread a asked kind) at;
-  }
-
   pub moves : (place : ℕ) (home : Option ℕ) → Some place ≡ place_for c thread kind → (a == 0) ≡ false → home ≡ home_place c a → IsReallocPlan c thread a asked (moving_plan c place a asked kind home)
   moves place home at some is = record {
     kind = kind;

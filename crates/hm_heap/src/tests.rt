@@ -5,7 +5,7 @@ ghost use Rattle.hm_heap.specs.Passes.{AreOf};
 
 use crate::{Heap, Pass};
 use hm_model::{Answer, Reply, Runs};
-use hm_outside::{Gate, NoGate, NoMemory, Pages, PlainMaker, RegionId};
+use hm_outside::{Gate, NoGate, NoMemory, PageMaker, Pages, PlainMaker, PlainPages, RegionId};
 use hm_sizes::Config;
 use std::alloc::Global;
 use std::sync::Wait;
@@ -321,5 +321,40 @@ fn a_region_is_busy_by_itself(rt: HostRuntime) -> Result<(), Fail> {
     assert!(rt; shown(&given?) == (1, 8));
     assert!(rt; shown(&held?) == (22, 0));
     assert!(rt; shown(&free?) == (1, 4088));
+    Ok(())
+}
+
+/// A maker that notes the regions for which it was asked.
+#[derive(Drop)]
+struct NotingMaker {
+    asked: Vec<u32>,
+}
+
+impl PageMaker for NotingMaker {
+    type P = PlainPages;
+
+    fn make(&mut self, alloc: Global, region: RegionId) -> Result<PlainPages, NoMemory> {
+        self.asked.push(region.0)?;
+        let mut maker = PlainMaker;
+        maker.make(alloc, region)
+    }
+}
+
+#[test]
+fn each_region_has_pages_and_a_history(rt: HostRuntime) -> Result<(), Fail> {
+    let mut maker = NotingMaker {
+        asked: Vec::new(rt.alloc()),
+    };
+    let config = Config::standard();
+    let (heap, pass) = Heap::build(rt.alloc(), config, 1, &mut maker, &NoGate)?;
+    assert!(rt; pass.caller() == 0 && pass.round() == 0 && pass.thread() == 1 && pass.out() == 0);
+    assert!(rt; maker.asked.len() == 197);
+    assert!(rt;
+        (0..197u32)
+            .zip(&maker.asked)
+            .all(|(region, asked)| region == *asked)
+    );
+    let closed = heap.close(rt.alloc(), pass)?;
+    assert!(rt; closed.histories.items().len() == 197 && closed.pages.items().len() == 197);
     Ok(())
 }
