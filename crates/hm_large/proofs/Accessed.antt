@@ -8,17 +8,15 @@ use Rattle.std.proofs.lemmas.List.{drop_more}
 use Rattle.hm_model.specs.Maps.{at, keys, times, removed}
 use Rattle.hm_model.proofs.Lists.{same_eq, other_eq, eq_same}
 use Rattle.hm_sizes.specs.declared.config.Config.{Config}
-use Rattle.hm_region_table.specs.declared.entry.Block.{Block as KeptBlock}
 use Rattle.hm_large.specs.declared.store.Store.{Store}
 use Rattle.hm_large.specs.Blocks.{Block, Blocks, covers, covered, byte_at, first_trap, bytes_read}
 use Rattle.hm_large.specs.State.{State}
 use Rattle.hm_large.specs.Laws.{IsPlaced, ArePlaced, IsSound}
 use Rattle.hm_large.specs.BlockTable.{live_size}
-use Rattle.hm_large.specs.Kept.{kept_of, kept_or, kept_at, Shows, AreGuarded}
+use Rattle.hm_large.specs.Kept.{kept_or, Shows, AreGuarded}
 use Rattle.hm_large.specs.Stored.{HeldByNone, IsLeft}
 use Rattle.hm_large.proofs.BlockLists.{at_covered, covers_own, placed_at, how_many_removed, at_removed}
 use Rattle.hm_large.proofs.Legal.{live_once}
-use Rattle.hm_large.proofs.Released.{kept_live, same_block}
 use Rattle.hm_large.proofs.Places.{spans_from}
 
 abbrev weight : Bool → ℕ
