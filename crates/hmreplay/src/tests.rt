@@ -3,6 +3,7 @@ ghost use Rattle.std.specs.Prelude.{None};
 
 use crate::run::{Run, replay};
 use hm_frames::FrameMaker;
+use hm_model::Runs;
 use hm_outside::{
     FailingMaker, NoGate, NoMemory, PageMaker, PlainMaker, PlainPages, RegionId, Source,
     SourceFault, VecSink, VecSource,
@@ -395,5 +396,14 @@ fn what_is_asked(rt: HostRuntime) -> Result<(), Fail> {
     assert_eq!(rt; run.status, 0);
     assert!(rt; source.longest <= 65_536);
     assert_eq!(rt; maker.regions.as_slice(), [RegionId(7)].as_slice());
+    Ok(())
+}
+
+#[test]
+fn runs_stand_for_their_bytes(rt: HostRuntime) -> Result<(), Fail> {
+    let bytes = [0, 0, 5, 5, 5, 0];
+    let runs = Runs::of(rt.alloc(), &bytes)?;
+    assert!(rt; runs.to_vec(rt.alloc())?.as_slice() == bytes.as_slice());
+    assert!(rt; Runs::same(rt.alloc(), 7, 0)?.to_vec(rt.alloc())?.is_empty());
     Ok(())
 }
