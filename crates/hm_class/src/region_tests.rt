@@ -30,13 +30,17 @@ const WHO: Who = Who {
     part: 1,
 };
 
-/// Pages that tell nothing and lend nothing.
+/// Pages that tell nothing, and lend nothing but what lies at address 0.
 #[derive(Drop)]
-struct SilentPages;
+struct SilentPages {
+    plain: PlainPages,
+}
 
 impl Pages for SilentPages {
-    ghost use Rattle.std.specs.Prelude.{false};
+    ghost use Rattle.std.specs.Prelude.{◌≡◌, false, refl};
     ghost use Rattle.std.specs.FinMap as map;
+    ghost use Rattle.std.proofs.lemmas.Bool.{false≢true};
+    ghost use Rattle.hm_outside.specs.PlainRuns.{CanWrite, with_range};
 
     ghost told = { λ p. false };
 
@@ -44,11 +48,11 @@ impl Pages for SilentPages {
 
     ghost faults = { λ p. 0 };
 
-    ghost can_write = { λ p addr len. ⊥ };
+    ghost can_write = { λ p addr len. (addr ≡ 0) × CanWrite p.plain addr len };
 
-    ghost after_write = { λ p addr len bytes. p };
+    ghost after_write = { λ p addr len bytes. record p { plain = with_range p.plain addr len bytes } };
 
-    ghost written = { λ p addr bytes never. absurd never };
+    ghost written = { λ p addr bytes can. record { same_telling = refl; same_count = refl; over = λ tells. absurd (false≢true tells) } };
 
     fn make_accessible(&mut self, _first: u64, _pages: u32) -> Result<(), PageRefusal> {
         Ok(())
@@ -64,16 +68,22 @@ impl Pages for SilentPages {
         None
     }
 
-    fn holds(&self, _addr: u64, _len: usize) -> bool {
-        false
+    fn holds(&self, addr: u64, len: usize) -> bool {
+        addr == 0 && self.plain.holds(addr, len)
     }
 
-    fn bytes_mut(&mut self, _addr: u64, _len: usize) -> &mut [u8] {
-        unreachable!()
+    fn bytes_mut(&mut self, addr: u64, len: usize) -> &mut [u8] {
+        self.plain.bytes_mut(addr, len)
     }
 
     fn faults(&self) -> u64 {
         0
+    }
+}
+
+fn silent_pages(alloc: Global) -> SilentPages {
+    SilentPages {
+        plain: PlainPages::new(alloc),
     }
 }
 
@@ -645,7 +655,7 @@ fn bytes_that_were_written_are_read(rt: HostRuntime) -> Result<(), Fail> {
 #[test]
 fn pages_that_lend_nothing(rt: HostRuntime) -> Result<(), Fail> {
     let alloc = rt.alloc();
-    let mut region = region(alloc, 7, 1, SilentPages)?;
+    let mut region = region(alloc, 7, 1, silent_pages(alloc))?;
     let block = given(&mut region, 100)?;
     assert_eq!(rt; trap(&mut region, block)?, Some(block));
     assert!(rt; write_traps(alloc, &mut region, block)?);

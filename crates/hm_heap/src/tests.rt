@@ -3,7 +3,7 @@ ghost use Rattle.std.specs.Prelude.{◌≡◌, ◌≤◌, ◌⊎◌, ◌^◌, On
 ghost use Rattle.hm_sizes.specs.Configs.{IsValid, standard};
 ghost use Rattle.hm_heap.specs.Passes.{AreOf};
 
-use crate::{Heap, Pass};
+use crate::{Closed, Heap, Pass};
 use hm_model::{Answer, Reply, Runs};
 use hm_outside::{Gate, NoGate, NoMemory, PageMaker, Pages, PlainMaker, PlainPages, RegionId};
 use hm_sizes::Config;
@@ -231,6 +231,27 @@ fn small_regions_end(rt: HostRuntime) -> Result<(), Fail> {
     Ok(())
 }
 
+const AFTER_A_FREE: [(Ask, u8, u64); 9] = [
+    (Ask::Malloc(130000), 1, 131064),
+    (Ask::Malloc(130000), 1, 131064),
+    (Ask::Malloc(130000), 1, 131064),
+    (Ask::Free(1, 0), 7, 0),
+    (Ask::Write(1, 0, 4), 15, 0),
+    (Ask::Free(2, 0), 7, 0),
+    (Ask::Free(3, 0), 7, 0),
+    (Ask::Malloc(130000), 2, 0),
+    (Ask::Malloc(130000), 1, 131064),
+];
+
+#[test]
+fn a_write_after_a_free_is_found(rt: HostRuntime) -> Result<(), Fail> {
+    let config = Config::standard();
+    let (heap, mut pass) = Heap::build(rt.alloc(), config, 3, &mut PlainMaker, &NoGate)?;
+    let other = first_other(&rt, rt.alloc(), &heap, &mut pass, &AFTER_A_FREE)?;
+    assert!(rt; other == 0);
+    Ok(())
+}
+
 /// A gate that holds caller 1 inside its region until it is let go, or for 10,000,000 turns.
 #[derive(Drop)]
 struct Holding {
@@ -356,5 +377,31 @@ fn each_region_has_pages_and_a_history(rt: HostRuntime) -> Result<(), Fail> {
     );
     let closed = heap.close(rt.alloc(), pass)?;
     assert!(rt; closed.histories.items().len() == 197 && closed.pages.items().len() == 197);
+    Ok(())
+}
+
+/// How many entries the history of a region has.
+fn entries_of<P>(closed: &Closed<P>, region: usize) -> Option<usize> {
+    let history = closed.histories.items().get(region)?;
+    Some(history.entries.items().len())
+}
+
+#[test]
+fn passes_are_joined_and_closed(rt: HostRuntime) -> Result<(), Fail> {
+    let config = Config::standard();
+    let (heap, mut root) = Heap::build(rt.alloc(), config, 1, &mut PlainMaker, &NoGate)?;
+    let mut first = heap.split(rt.alloc(), &mut root, 1, 1)?;
+    let mut second = heap.split(rt.alloc(), &mut root, 1, 2)?;
+    let given = heap.malloc(&rt, &mut first, 1, 100)?;
+    let other = heap.malloc(&rt, &mut second, 1, 100)?;
+    heap.join(&mut root, first);
+    heap.join(&mut root, second);
+    assert!(rt; shown(&given) == (1, 104) && shown(&other) == (1, 104));
+    assert!(rt; shown(&heap.free(&rt, &mut root, 1, block_of(&given))?) == (7, 0));
+    assert_eq!(rt; (root.caller(), root.out()), (0, 0));
+    let closed = heap.close(rt.alloc(), root)?;
+    assert_eq!(rt; entries_of(&closed, 7), Some(2));
+    assert_eq!(rt; entries_of(&closed, 56), Some(1));
+    assert_eq!(rt; entries_of(&closed, 196), Some(0));
     Ok(())
 }
