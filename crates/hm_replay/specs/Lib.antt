@@ -1,0 +1,5 @@
+pub mod Names
+pub mod Uses
+pub mod Steps
+pub mod Scripts
+pub mod Gains
