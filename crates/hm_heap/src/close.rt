@@ -92,11 +92,10 @@ fn close_all<P: Pages>(
 
 impl<'g, P: Pages, G: Gate> Heap<'g, P, G> {
     /// What each region did, and its pages, once every pass that was split off is joined.
-    #[tactic(auto, using(crate::proofs::Closing::closes_heap))]
     pub fn close(self, alloc: Global, pass: Pass) -> Result<Closed<P>, NoMemory>
         requires of { AreOf self.locks pass.turns }
         requires root { (pass.caller ≡ 0) × (pass.out ≡ 0) }
-        ensures { IfOk result (λ closed. Closes P.Pages self.config self.number pass.turns closed.histories closed.pages) }
+        ensures { IfOk result (λ closed. Closes P.Pages self.entry.config self.entry.number pass.turns closed.histories closed.pages) }
     {
         let Heap { config, locks, .. } = self;
         let Pass { turns, .. } = pass;

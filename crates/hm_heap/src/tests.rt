@@ -5,11 +5,13 @@ ghost use Rattle.hm_heap.specs.Passes.{AreOf};
 
 use crate::{Heap, Pass};
 use hm_model::{Answer, Reply, Runs};
-use hm_outside::{Gate, NoGate, NoMemory, Pages, PlainMaker};
+use hm_outside::{Gate, NoGate, NoMemory, Pages, PlainMaker, RegionId};
 use hm_sizes::Config;
 use std::alloc::Global;
 use std::sync::Wait;
+use std::sync::atomic::{AtomicU64, Ordering};
 use std::test::Fail;
+use std::thread::{self, Threads, join};
 
 /// A call. The block of row k is number k, from 1; block 0 is address 0. An offset is added to its address.
 #[derive(Clone, Copy)]
@@ -230,5 +232,91 @@ fn small_regions_end(rt: HostRuntime) -> Result<(), Fail> {
     let (heap, mut pass) = Heap::build(rt.alloc(), config, 7, &mut PlainMaker, &NoGate)?;
     let other = first_other(&rt, rt.alloc(), &heap, &mut pass, &SMALL)?;
     assert!(rt; other == 0);
+    Ok(())
+}
+
+/// A gate that holds caller 1 inside its region until it is let go, or for 10,000,000 turns.
+#[derive(Drop)]
+struct Holding {
+    inside: AtomicU64,
+    let_go: AtomicU64,
+}
+
+/// Waits until a word is raised, or for 10,000,000 turns.
+fn wait_for(word: &AtomicU64) {
+    for _ in 0u32..10_000_000 {
+        if word.load(Ordering::SeqCst) > 0 {
+            return;
+        }
+        thread::yield_now();
+    }
+}
+
+impl Gate for Holding {
+    fn inside(&self, _region: RegionId, caller: u32) {
+        if caller == 1 {
+            self.inside.fetch_add(1, Ordering::SeqCst);
+            wait_for(&self.let_go);
+        }
+    }
+}
+
+/// While the first pass is held inside the region of blocks of 8 bytes, the second asks there and elsewhere.
+fn second_asks<P: Pages>(
+    heap: &Heap<P, Holding>,
+    gate: &Holding,
+    second: Pass,
+) -> (Result<Answer, NoMemory>, Result<Answer, NoMemory>)
+    requires { AreOf heap.now.locks second.turns }
+{
+    let mut second = second;
+    wait_for(&gate.inside);
+    let held = heap.try_malloc(&mut second, 1, 8);
+    let free = heap.try_malloc(&mut second, 2, 4000);
+    gate.let_go.fetch_add(1, Ordering::SeqCst);
+    (held, free)
+}
+
+fn first_asks<R: Wait, P: Pages>(
+    rt: &R,
+    heap: &Heap<P, Holding>,
+    first: Pass,
+) -> Result<Answer, NoMemory>
+    requires { AreOf heap.now.locks first.turns }
+{
+    let mut first = first;
+    heap.malloc(rt, &mut first, 1, 8)
+}
+
+fn both_ask<R: Threads + Wait + Sync, P: Pages>(
+    rt: &R,
+    heap: &Heap<P, Holding>,
+    gate: &Holding,
+    first: Pass,
+    second: Pass,
+) -> (Result<Answer, NoMemory>, (Result<Answer, NoMemory>, Result<Answer, NoMemory>))
+    requires { AreOf heap.now.locks first.turns × AreOf heap.now.locks second.turns }
+{
+    join(
+        rt,
+        || first_asks(rt, heap, first),
+        || second_asks(heap, gate, second),
+    )
+}
+
+#[test]
+fn a_region_is_busy_by_itself(rt: HostRuntime) -> Result<(), Fail> {
+    let gate = Holding {
+        inside: AtomicU64::new(0),
+        let_go: AtomicU64::new(0),
+    };
+    let config = Config::standard();
+    let (heap, mut root) = Heap::build(rt.alloc(), config, 1, &mut PlainMaker, &gate)?;
+    let first = heap.split(rt.alloc(), &mut root, 1, 1)?;
+    let second = heap.split(rt.alloc(), &mut root, 1, 5)?;
+    let (given, (held, free)) = both_ask(&rt, &heap, &gate, first, second);
+    assert!(rt; shown(&given?) == (1, 8));
+    assert!(rt; shown(&held?) == (22, 0));
+    assert!(rt; shown(&free?) == (1, 4088));
     Ok(())
 }
