@@ -204,3 +204,7 @@ serves_answer IsPlan p q step r s = follows_answer IsPlan s.plan p q step r s.is
 
 pub serves_grew : (IsPlan : Plan → Type 0) (p q : PassView) (step : ℕ) (r : Result Answer NoMemory) → Serves IsPlan p q step r → AllGrew p.turns q.turns
 serves_grew IsPlan p q step r s = follows_grew p q step 1 s.plan r s.follows
+
+pub follows_is : (plan : Plan) (p q : PassView) (step : ℕ) (r : Result Answer NoMemory) → Follows p q step 1 plan r
+    → IfOk r (λ a. Gains p.turns q.turns (Answers (λ other. other ≡ plan) (λ part. who_of p step part) a))
+follows_is plan p q step r f = follows_answer (λ other. other ≡ plan) plan p q step r refl f

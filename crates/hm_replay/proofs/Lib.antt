@@ -1,2 +1,4 @@
 pub mod Addresses
 pub mod Gaining
+pub mod Trying
+pub mod Running

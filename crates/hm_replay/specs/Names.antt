@@ -24,10 +24,11 @@ abbrev pub settled : Names → List StepView → Names → Names
 settled names steps last name = if list_any (sets_name name) steps then last name else names name
 
 -- ---- addresses by names, as they are kept
-abbrev pub address_of : List (Name × ℕ) → Names
-address_of [] name = None
-address_of (e ∷ entries) name = if is_word name (name_view e.0) then Some e.1 else address_of entries name
+-- what the names hold
+abbrev pub held : List (Name × ℕ) → Names
+held [] name = None
+held (e ∷ entries) name = if is_word name (name_view e.0) then Some e.1 else held entries name
 
--- they are addresses of blocks
+-- blocks lie there
 abbrev pub AllInReach : List (Name × ℕ) → Type 0
-AllInReach entries = (name : List ℕ) → IfSome (address_of entries name) IsInReach
+AllInReach entries = (name : List ℕ) → IfSome (held entries name) IsInReach

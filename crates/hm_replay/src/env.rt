@@ -2,7 +2,7 @@
 ghost use Rattle.std.specs.Prelude.{◌≡◌, IfSome, IfOk, OnOk};
 ghost use Rattle.hm_trace.specs.Views.{name_view};
 ghost use Rattle.hm_heap.specs.Requests.{IsInReach};
-ghost use Rattle.hm_replay.specs.Names.{no_names, with_name};
+ghost use Rattle.hm_replay.specs.Names.{no_names, held, with_name};
 
 use hm_outside::NoMemory;
 use hm_trace::Name;
@@ -17,11 +17,13 @@ pub struct Env {
 }
 
 impl Model for Env {
-    ghost use Rattle.hm_replay.specs.Names.{Names, address_of, AllInReach};
+    ghost use Rattle.std.specs.Prelude.{ℕ, List};
+    ghost use Rattle.hm_trace.specs.declared.names.Name.{Name};
+    ghost use Rattle.hm_replay.specs.Names.{AllInReach};
 
-    ghost Value = { Names };
+    ghost Value = { List (Name × ℕ) };
 
-    ghost view = { λ e. address_of e.addresses.entries };
+    ghost view = { λ e. e.addresses.entries };
 
     ghost invariant = { λ e. AllInReach e.addresses.entries };
 }
@@ -29,7 +31,7 @@ impl Model for Env {
 impl Env {
     /// No name is set.
     pub fn build(alloc: Global) -> Env
-        ensures { result ≡ no_names }
+        ensures { held result ≡ no_names }
     {
         Env {
             addresses: BTreeMap::new(alloc),
@@ -38,7 +40,7 @@ impl Env {
 
     /// The address that a name holds.
     pub(crate) fn get(&self, name: &Name) -> Option<u64>
-        ensures value { result ≡ self.now (name_view name.now) }
+        ensures value { result ≡ held self.now (name_view name.now) }
         ensures reach { IfSome result IsInReach }
     {
         self.addresses.get(name).copied()
@@ -47,7 +49,7 @@ impl Env {
     /// Sets a name to an address, or unsets it.
     pub(crate) fn set(&mut self, name: Name, given: Option<u64>) -> Result<(), NoMemory>
         requires reach { IfSome given IsInReach }
-        ensures value { OnOk result (self.new ≡ with_name self.old (name_view name) given) }
+        ensures value { OnOk result (held self.new ≡ with_name (held self.old) (name_view name) given) }
     {
         match given {
             Some(addr) => {
@@ -62,7 +64,7 @@ impl Env {
 
     /// The same names again.
     pub(crate) fn copy(&self) -> Result<Env, NoMemory>
-        ensures { IfOk result (λ env. env ≡ self.now) }
+        ensures { IfOk result (λ env. held env ≡ held self.now) }
     {
         match self.addresses.clone() {
             Ok(addresses) => Ok(Env { addresses }),

@@ -3,6 +3,7 @@ ghost use Rattle.std.specs.Prelude.{◌≡◌, IfSome, OnOk};
 ghost use Rattle.hm_trace.specs.Views.{step_view};
 ghost use Rattle.hm_heap.specs.Requests.{IsInReach};
 ghost use Rattle.hm_heap.specs.Calls.{AnswerInReach};
+ghost use Rattle.hm_replay.specs.Names.{held};
 ghost use Rattle.hm_replay.specs.Steps.{given_by, moved_by, named, SetsInReach};
 
 use crate::env::Env;
@@ -37,7 +38,7 @@ fn moved(answer: &Answer) -> Option<u64>
 /// Sets the name of a step that was answered.
 pub(crate) fn name(env: &mut Env, step: &Step, answer: &Answer) -> Result<(), NoMemory>
     requires reach { SetsInReach (step_view step.now) answer.now }
-    ensures { OnOk result (env.new ≡ named env.old (step_view step.now) answer.now) }
+    ensures { OnOk result (held env.new ≡ named (held env.old) (step_view step.now) answer.now) }
 {
     match step {
         Step::Malloc { name, .. } | Step::Calloc { name, .. } | Step::Aligned { name, .. } => {
