@@ -2,3 +2,10 @@ pub mod Addresses
 pub mod Gaining
 pub mod Trying
 pub mod Running
+pub mod Turns
+pub mod Order
+pub mod Ends
+pub mod Finishes
+pub mod Starts
+pub mod Merging
+pub mod Rounding

@@ -3,3 +3,6 @@ pub mod Uses
 pub mod Steps
 pub mod Scripts
 pub mod Gains
+pub mod Rounds
+pub mod RoundOf
+pub mod Workers

@@ -3,9 +3,12 @@
 
 mod calls;
 mod env;
+mod merge;
 mod naming;
 mod places;
+mod round;
 mod script;
 
 pub use env::Env;
+pub use round::run_round;
 pub use script::run_script;
