@@ -9,3 +9,4 @@ pub mod Finishes
 pub mod Starts
 pub mod Merging
 pub mod Rounding
+pub mod Replaying

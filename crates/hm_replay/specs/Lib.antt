@@ -6,3 +6,4 @@ pub mod Gains
 pub mod Rounds
 pub mod RoundOf
 pub mod Workers
+pub mod Replays

@@ -42,12 +42,17 @@ pub record RunsNext (c : Config) (own : ℕ → Own) (caller round : ℕ) (names
   pub this : RunsRound c own caller round names names scripts these after
   pub rest : Rest after later
 
--- the rounds from this number on, whose callers follow one another
-abbrev pub RunsRounds : Config → (ℕ → Own) → ℕ → ℕ → Names → List (List ScriptView) → List Results → Type 0
-RunsRounds c own caller round names [] results = results ≡ []
-RunsRounds c own caller round names (scripts ∷ rounds) results =
+-- the rounds from this number on, whose callers follow one another, and the names at the end
+abbrev pub RunsRounds : Config → (ℕ → Own) → ℕ → ℕ → Names → List (List ScriptView) → List Results → Names → Type 0
+RunsRounds c own caller round names [] results last = (results ≡ []) × (last ≡ names)
+RunsRounds c own caller round names (scripts ∷ rounds) results last =
     RunsNext c own caller round names scripts results
-    (λ after later. RunsRounds c own (caller + length scripts) (round + 1) after rounds later)
+    (λ after later. RunsRounds c own (caller + length scripts) (round + 1) after rounds later last)
+
+-- how many scripts there are in all
+abbrev pub script_count : List (List ScriptView) → ℕ
+script_count [] = 0
+script_count (scripts ∷ rounds) = length scripts + script_count rounds
 
 -- ---- the histories
 -- the entries of a caller over all histories

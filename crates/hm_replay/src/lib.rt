@@ -3,6 +3,7 @@
 
 mod calls;
 mod env;
+mod laws;
 mod merge;
 mod naming;
 mod places;
@@ -10,5 +11,6 @@ mod round;
 mod script;
 
 pub use env::Env;
+pub use laws::replayed_rounds;
 pub use round::run_round;
 pub use script::run_script;
