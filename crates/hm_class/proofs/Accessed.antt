@@ -15,7 +15,7 @@ use Rattle.hm_sizes.specs.declared.shape.Shape.{Shape}
 use Rattle.hm_sizes.specs.Shapes.{IsShape, slab_at, slab_of, has_bytes}
 use Rattle.hm_class_rules.specs.State.{State, Slab, is_open}
 use Rattle.hm_class_rules.specs.Bytes.{byte_at, bytes_read, first_trap, write, overlaid_slabs}
-use Rattle.hm_class_rules.specs.Laws.{bytes_of_slab}
+use Rattle.hm_class_rules.specs.Laws.{AllWhole, bytes_of_slab}
 use Rattle.hm_class.specs.Access.{is_accessible, trap_in}
 use Rattle.hm_class.specs.Kept.{Shows}
 use Rattle.hm_class.specs.Region.{HoldsSlabs}
@@ -125,19 +125,19 @@ get_none [] i e = refl
 get_none (b ∷ bs) i e = absurd (omega (arith, e))
 
 -- an address has a byte where it is accessible
-pub byte_told : (p : Shape) (uses : Uses) (s : State) (runs : PageRuns) (q : ℕ) → IsShape p → Shows p uses s → HoldsSlabs p s.opens runs → is_some (byte_at p s q) ≡ is_accessible p uses q
-byte_told p uses s runs q shape shows h = of_class (has_bytes p) refl
+pub byte_whole : (p : Shape) (uses : Uses) (s : State) (q : ℕ) → IsShape p → Shows p uses s → AllWhole (bytes_of_slab p) s.opens → is_some (byte_at p s q) ≡ is_accessible p uses q
+byte_whole p uses s q shape shows whole = of_class (has_bytes p) refl
   where
     byte : Option Slab → Option ℕ
     byte o = option_and_then (λ (b : Slab). slice_get b.bytes ((q - p.first) % p.slab)) o
 
     of_open : (o : Option Slab) → at (slab_of p q) s.opens ≡ o → has_bytes p ≡ true → is_some (option_and_then (λ (b : Slab). slice_get b.bytes ((q - p.first) % p.slab)) o) ≡ is_some o
     of_open None is own = refl
-    of_open (Some b) is own = get_some b.bytes ((q - p.first) % p.slab) (omega (arith, mod_below (q - p.first) p.slab (omega (arith, slab_some p shape)), all_bytes p s.opens runs h own (slab_of p q) b is))
+    of_open (Some b) is own = get_some b.bytes ((q - p.first) % p.slab) (omega (arith, mod_below (q - p.first) p.slab (omega (arith, slab_some p shape)), whole (slab_of p q) b is ∙ ap (λ (t : Bool). cond t p.slab 0) own))
 
     of_none : (o : Option Slab) → at (slab_of p q) s.opens ≡ o → has_bytes p ≡ false → is_some (option_and_then (λ (b : Slab). slice_get b.bytes ((q - p.first) % p.slab)) o) ≡ false
     of_none None is own = refl
-    of_none (Some b) is own = get_none b.bytes ((q - p.first) % p.slab) (h.whole (slab_of p q) b is ∙ ap (λ (t : Bool). cond t p.slab 0) own)
+    of_none (Some b) is own = get_none b.bytes ((q - p.first) % p.slab) (whole (slab_of p q) b is ∙ ap (λ (t : Bool). cond t p.slab 0) own)
 
     before : (t : Bool) → is_some (cond t None (option_and_then (λ (b : Slab). slice_get b.bytes ((q - p.first) % p.slab)) (at (slab_of p q) s.opens))) ≡ (not t && is_some (option_and_then (λ (b : Slab). slice_get b.bytes ((q - p.first) % p.slab)) (at (slab_of p q) s.opens)))
     before true = refl
@@ -158,11 +158,14 @@ byte_told p uses s runs q shape shows h = of_class (has_bytes p) refl
         ∙ none_and (nat_lt q p.first)
         ∙ sym (ap (λ (b : Bool). b && (not (nat_lt q p.first) && open_at uses (slab_of p q))) own)
 
+pub trap_whole : (p : Shape) (uses : Uses) (s : State) (a n : ℕ) → IsShape p → Shows p uses s → AllWhole (bytes_of_slab p) s.opens → first_trap p s a n ≡ trap_in p uses a n
+trap_whole p uses s a zero shape shows whole = refl
+trap_whole p uses s a (suc n) shape shows whole =
+    ap (λ (b : Bool). cond b (first_trap p s (a + 1) n) (Some a)) (byte_whole p uses s a shape shows whole)
+    ∙ ap (λ (o : Option ℕ). cond (is_accessible p uses a) o (Some a)) (trap_whole p uses s (a + 1) n shape shows whole)
+
 pub trap_told : (p : Shape) (uses : Uses) (s : State) (runs : PageRuns) (a n : ℕ) → IsShape p → Shows p uses s → HoldsSlabs p s.opens runs → first_trap p s a n ≡ trap_in p uses a n
-trap_told p uses s runs a zero shape shows h = refl
-trap_told p uses s runs a (suc n) shape shows h =
-    ap (λ (b : Bool). cond b (first_trap p s (a + 1) n) (Some a)) (byte_told p uses s runs a shape shows h)
-    ∙ ap (λ (o : Option ℕ). cond (is_accessible p uses a) o (Some a)) (trap_told p uses s runs (a + 1) n shape shows h)
+trap_told p uses s runs a n shape shows h = trap_whole p uses s a n shape shows h.whole
 
 -- it is an address of the range
 within_later : (b : Bool) (a n q : ℕ) (later : Option ℕ) → (later ≡ Some q → IsWithin (a + 1) n q) → cond b later (Some a) ≡ Some q → IsWithin a (suc n) q

@@ -40,13 +40,14 @@ use Rattle.hm_class_rules.proofs.NextEntry.{lists_are_kept, drawn_is_allowed, on
 use Rattle.hm_class_rules.proofs.Alike.{drawn_is_stepped}
 use Rattle.hm_class.specs.declared.access.Fetched.{Fetched}
 use Rattle.hm_class.specs.declared.access.Fetched.TheVariants.{Bytes, Trap}
-use Rattle.hm_class.specs.Access.{Fetches, IsFetched, Fills, RepliesTo}
+use Rattle.hm_class.specs.Access.{trap_in, Fetches, IsFetched, FetchTraps, Fills, FillTraps, RepliesTo}
+use Rattle.hm_class.specs.Calls.{ReplyTraps}
 use Rattle.hm_class.specs.declared.outcome.Outcome.{Outcome}
 use Rattle.hm_class.specs.declared.outcome.Outcome.TheVariants as outcome
 use Rattle.hm_class.specs.declared.slabs.Slot.{Slot}
 use Rattle.hm_class.specs.declared.slabs.Slabs.{Slabs}
 use Rattle.hm_class.specs.Uses.{Uses, SlabUse, canary_at, live_count}
-use Rattle.hm_class.specs.Region.{Region, IsRegion, IsTakenBack, HoldsSlabs, region_shape, terms}
+use Rattle.hm_class.specs.Region.{Region, IsRegion, IsTakenBack, HoldsSlabs, region_shape, region_state, terms}
 use Rattle.hm_class.specs.Rooms.{SameSlabs}
 use Rattle.hm_model.specs.Calls.{Adds, no_choices, entry_of, no_words}
 use Rattle.hm_model.specs.Replies.{IsClassReply, IsFetchReply}
@@ -54,6 +55,8 @@ use Rattle.hm_class.specs.Calls.{Added}
 use Rattle.hm_class.specs.Outcomes.{reply_of}
 use Rattle.hm_class.specs.Judgements.{Refusals, RefusesCanary, Accepts, Measures, other_number}
 use Rattle.hm_class.specs.Kept.{Shows, Follows, IsServed, IsKept, terms_of, cells_of}
+use Rattle.hm_class_rules.proofs.Whole.{whole_run}
+use Rattle.hm_class.proofs.Accessed.{trap_whole}
 use Rattle.hm_class.proofs.Followed.{shows_count, shows_written}
 use Rattle.hm_class.proofs.Listed.{next_undrawn, stepped_undrawn}
 use Rattle.hm_class.proofs.Permitted.{allowed_of, no_slot, unused, double_free, live_block, live_open, canary_found, told_pair}
@@ -106,6 +109,36 @@ reply_of_region meaning r old p k stream quarantine parking call given answer vi
     subst (λ (q : Region _). IsClassReply (usable (region_shape q)) call answer) view
     (subst (λ (q : Shape). IsClassReply (usable q) call answer) (shape_is meaning r p k stream quarantine parking class kept)
     (subst (λ (x : Reply). IsClassReply (usable p) call x) (sym same) reply))
+
+-- where a range traps by the slots it traps by the region's state
+pub trap_of_region : {P : Type 0} (meaning : pages.Ghosts P) (r old : Region P) (p : Shape) (k : Slabs) (stream : Words) (quarantine : Kept) (parking : List (Option ℕ)) (a len : ℕ) → r ≡ old → r.class ≡ p.class
+    → IsKept (meaning.told r.pages) (meaning.runs r.pages) (meaning.faults r.pages) r.config r.number r.arena p r.entries k stream quarantine parking
+    → trap_in p k.slabs.items a len ≡ first_trap (region_shape old) (region_state meaning.told old) a len
+trap_of_region meaning r old p k stream quarantine parking a len view class kept =
+    let t : Terms = terms_of (meaning.told r.pages) r.config p in
+    let is : p ≡ region_shape r = shape_is meaning r p k stream quarantine parking class kept in
+    sym (trap_whole p k.slabs.items (state t r.entries) a len kept.served.shape kept.follows.shows (whole_run t r.entries kept.legal))
+    ∙ ap (λ (q : Shape). first_trap q (state (terms_of (meaning.told r.pages) r.config q) r.entries) a len) is
+    ∙ ap (λ (q : Region _). first_trap (region_shape q) (region_state meaning.told q) a len) view
+
+pub fetch_traps : (found : Option ℕ) (a : ℕ) (fetched : Fetched) (r : Reply) → FetchTraps found a fetched → RepliesTo fetched r → ReplyTraps found a r
+fetch_traps found a (Bytes read) r is replies = subst (λ (x : Reply). ReplyTraps found a x) (sym replies.1) tt
+fetch_traps found a (Trap q) r is replies = subst (λ (x : Reply). ReplyTraps found a x) (sym replies) is
+
+pub fill_traps : (found : Option ℕ) (a : ℕ) (o : Outcome) → FillTraps found a o → ReplyTraps found a (reply_of o)
+fill_traps found a (outcome.Trap q) is = is
+fill_traps found a (outcome.Given addr size) is = tt
+fill_traps found a (outcome.Overwritten addr at found_byte) is = tt
+fill_traps found a outcome.Exhausted is = tt
+fill_traps found a outcome.PagesFailed is = tt
+fill_traps found a outcome.Freed is = tt
+fill_traps found a outcome.NoSlot is = tt
+fill_traps found a outcome.Unused is = tt
+fill_traps found a outcome.DoubleFree is = tt
+fill_traps found a (outcome.WrongSize block stated) is = tt
+fill_traps found a (outcome.Canary kept_one other) is = tt
+fill_traps found a (outcome.Usable size) is = tt
+fill_traps found a outcome.Filled is = tt
 
 -- the reply to a fetch
 pub fetch_reply : (a len : ℕ) (fetched : Fetched) (r : Reply) → IsFetched a len fetched → RepliesTo fetched r → IsFetchReply a len r

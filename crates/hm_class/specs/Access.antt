@@ -1,5 +1,5 @@
 -- What reading and writing a range comes to.
-use Rattle.std.specs.Prelude.{◌≡◌, ℕ, zero, suc, ◌+◌, nat_lt, Bool, IsTrue, not, ◌&&◌, if◌then◌else◌, List, length, Option, Some, None}
+use Rattle.std.specs.Prelude.{◌≡◌, ℕ, zero, suc, ◌+◌, nat_lt, Bool, IsTrue, not, ◌&&◌, if◌then◌else◌, List, length, Option, Some, None, unwrap_or, ⊤}
 use Rattle.hm_model.specs.Replies.{IsWithin}
 use Rattle.hm_model.specs.Runs.{expand}
 use Rattle.hm_model.specs.declared.entry.Reply.{Reply}
@@ -37,6 +37,15 @@ Fetches told runs p uses a len (Trap q) = IsTrue told → (s : State) → Shows 
 abbrev pub IsFetched : ℕ → ℕ → Fetched → Type 0
 IsFetched a len (Bytes read) = length read.items ≡ len
 IsFetched a len (Trap q) = IsWithin a len q
+
+-- a trap is at the address that was found, or at the range's own where none was
+abbrev pub FetchTraps : Option ℕ → ℕ → Fetched → Type 0
+FetchTraps found a (Trap q) = q ≡ unwrap_or found a
+FetchTraps found a (Bytes read) = ⊤
+
+abbrev pub FillTraps : Option ℕ → ℕ → Outcome → Type 0
+FillTraps found a (outcome.Trap q) = q ≡ unwrap_or found a
+FillTraps found a other = ⊤
 
 -- writing changes the bytes of the state, or nothing and names the first address that is not accessible
 abbrev pub Fills : Bool → PageRuns → PageRuns → Shape → Uses → ℕ → List ℕ → Outcome → Type 0

@@ -1,18 +1,29 @@
 -- What the calls of a class region change.
-use Rattle.std.specs.Prelude.{◌≡◌, ℕ, []}
+use Rattle.std.specs.Prelude.{◌≡◌, ℕ, Bool, [], Option, unwrap_or, ⊤}
 use Rattle.hm_outside.specs.declared.pages.Pages as pages
 use Rattle.hm_model.specs.Calls.{Adds}
 use Rattle.hm_model.specs.declared.entry.Who.{Who}
 use Rattle.hm_model.specs.declared.entry.Call.{Call}
 use Rattle.hm_model.specs.declared.entry.Reply.{Reply}
+use Rattle.hm_model.specs.declared.entry.Reply.TheVariants.{Trap}
 use Rattle.hm_sizes.specs.declared.class.ClassId.{ClassId}
 use Rattle.hm_sizes.specs.declared.config.Config.{Config}
-use Rattle.hm_class.specs.Region.{Region}
+use Rattle.hm_class_rules.specs.Bytes.{first_trap}
+use Rattle.hm_class.specs.Region.{Region, region_shape, region_state}
+
+-- a trap is at the address that was found, or else at this one
+abbrev pub ReplyTraps : Option ℕ → ℕ → Reply → Type 0
+ReplyTraps found addr (Trap q) = q ≡ unwrap_or found addr
+ReplyTraps found addr reply = ⊤
 
 module _ {P : Type 0} where
   -- exactly the entry of this call was added, with the counts of the pages at the call's start and end
   abbrev pub Added : pages.Ghosts P → Region P → Region P → Who → Call → Reply → Type 0
   Added meaning old new who call reply = Adds who call reply (meaning.faults old.pages) (meaning.faults new.pages) old.entries new.entries
+
+  -- a trap is at the first address of the range that is not accessible, or at its own where all are and the pages do not lend them
+  abbrev pub TrapsIn : (P → Bool) → Region P → ℕ → ℕ → Reply → Type 0
+  TrapsIn told r addr len reply = ReplyTraps (first_trap (region_shape r) (region_state told r) addr len) addr reply
 
   -- nothing has happened yet
   pub record IsBuilt (config : Config) (number arena : ℕ) (class : ClassId) (pages : P) (new : Region P) : Type 0 where

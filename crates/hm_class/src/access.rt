@@ -4,7 +4,7 @@ ghost use Rattle.hm_model.specs.Replies.{IsFillReply};
 ghost use Rattle.hm_sizes.specs.Shapes.{IsShape, slab_at, slab_of};
 ghost use Rattle.hm_class_rules.specs.State.{State};
 ghost use Rattle.hm_class_rules.specs.Bytes.{first_trap, bytes_read, write};
-ghost use Rattle.hm_class.specs.Access.{is_accessible, trap_in, Fetches, IsFetched, Fills, RepliesTo};
+ghost use Rattle.hm_class.specs.Access.{is_accessible, trap_in, Fetches, IsFetched, FetchTraps, Fills, FillTraps, RepliesTo};
 ghost use Rattle.hm_class.specs.Outcomes.{reply_of};
 ghost use Rattle.hm_class.specs.Region.{HoldsSlabs};
 
@@ -105,6 +105,7 @@ pub fn fetch<P: Pages>(
     requires range { addr + len < 2 ^ 48 }
     ensures fetched { IfOk result (Fetches (P.told pages.now) (P.runs pages.now) shape.now slabs.now.slabs.items addr len) }
     ensures within { IfOk result (IsFetched addr len) }
+    ensures trap { IfOk result (FetchTraps (trap_in shape.now slabs.now.slabs.items addr len) addr) }
 {
     if let Some(trap) = first_trap(slabs, shape, addr, len) {
         return Ok(Fetched::Trap(trap));
@@ -171,6 +172,7 @@ pub fn fill<P: Pages>(
     ensures told { P.told pages.new ≡ P.told pages.old }
     ensures count { P.faults pages.new ≡ P.faults pages.old }
     ensures filled { Fills (P.told pages.old) (P.runs pages.old) (P.runs pages.new) shape.now slabs.now.slabs.items addr bytes.now result }
+    ensures trap { FillTraps (trap_in shape.now slabs.now.slabs.items addr (length bytes.now)) addr result }
     ensures within { IsFillReply addr (length bytes.now) (reply_of result) }
 {
     let len = bytes.len() as u64;

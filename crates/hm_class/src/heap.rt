@@ -11,7 +11,7 @@ ghost use Rattle.hm_model.specs.Runs.{expand};
 ghost use Rattle.hm_class.specs.Region.{region_shape, origin, IsRegion, IsTakenBack};
 ghost use Rattle.hm_model.specs.Calls.{entry_of};
 ghost use Rattle.hm_model.specs.Replies.{IsClassReply};
-ghost use Rattle.hm_class.specs.Calls.{Added, IsBuilt};
+ghost use Rattle.hm_class.specs.Calls.{Added, IsBuilt, TrapsIn};
 
 use crate::access::{fetch, fill, replies};
 use crate::give::serve;
@@ -326,6 +326,7 @@ impl<P: Pages> ClassHeap<P> {
         requires below { addr < 2 ^ 47 }
         ensures added { IfOk result (λ reply. Added P.Pages self.old self.new who (Call.Fetch addr len) reply) }
         ensures replies { IfOk result (IsClassReply (usable (region_shape self.old)) (Call.Fetch addr len)) }
+        ensures trap { IfOk result (TrapsIn P.told self.old addr len) }
         ensures memory { OnErr result (self.new.entries ≡ self.old.entries) }
         ensures origin { origin P.told self.new ≡ origin P.told self.old }
         ensures region { IsRegion P.Pages self.new }
@@ -348,6 +349,7 @@ impl<P: Pages> ClassHeap<P> {
         requires below { addr < 2 ^ 47 }
         ensures added { IfOk result (λ reply. Added P.Pages self.old self.new who (Call.Fill addr runs.now) reply) }
         ensures replies { IfOk result (IsClassReply (usable (region_shape self.old)) (Call.Fill addr runs.now)) }
+        ensures trap { IfOk result (TrapsIn P.told self.old addr (length (expand runs.now))) }
         ensures memory { OnErr result (self.new.entries ≡ self.old.entries) }
         ensures origin { origin P.told self.new ≡ origin P.told self.old }
         ensures region { IsRegion P.Pages self.new }

@@ -1,5 +1,5 @@
 -- A slot that was found overwritten is never given.
-use Rattle.std.proofs.Common.{◌≡◌, ℕ, ◌+◌, ◌≤◌, ◌==◌, Bool, true, ◌||◌, List, [], ◌∷◌, ◌++◌, Option, Some, None, sym, ◌∙◌, ap, subst, refl, arith}
+use Rattle.std.proofs.Common.{◌≡◌, ℕ, ◌==◌, true, List, [], ◌∷◌, ◌++◌, Option, Some, None, sym, ◌∙◌, ap, subst, refl, arith}
 use Rattle.std.proofs.lemmas.Bool.{or_right}
 use Rattle.hm_model.specs.declared.entry.Entry.{Entry}
 use Rattle.hm_model.specs.declared.entry.Call.{Call}
@@ -7,7 +7,7 @@ use Rattle.hm_model.specs.declared.entry.Call.TheVariants.{Allot, GiveBack, Fill
 use Rattle.hm_model.specs.declared.entry.Reply.{Reply}
 use Rattle.hm_model.specs.declared.entry.Reply.TheVariants.{Given, Overwritten, Freed, Filled}
 use Rattle.hm_model.specs.declared.entry.Choices.{Choices}
-use Rattle.hm_model.specs.Machine.{run, Legal, Legal_split}
+use Rattle.hm_model.specs.Machine.{run, Legal_split}
 use Rattle.hm_model.specs.Maps.{among}
 use Rattle.hm_model.proofs.Lists.{times_among}
 use Rattle.hm_sizes.specs.declared.shape.Shape.{Shape}

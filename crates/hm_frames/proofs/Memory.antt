@@ -1,43 +1,26 @@
 -- What the walks of block.rt share. Assumes `Logic`.
---     slot_at, then_runs, out_of_block      a parameter's place, and what follows a part of a body
 --     start_, contents_, lease_     the machine values of the three parts: what is owned tells them, and is made of nothing
---     three_of      a tuple of three
 --     part_out, part_in      a part of the bytes is taken out, and put back
 --     as_cells, of_cells     bytes side by side, as a slice owns them
-use Rattle.std.proofs.Common.{◌≡◌, ℕ, zero, suc, ◌+◌, ◌≤◌, List, [], ◌∷◌, ◌++◌, refl, sym, ap, ◌∙◌, arith, lit<}
+use Rattle.std.proofs.Common.{◌≡◌, ℕ, ◌+◌, ◌≤◌, List, [], ◌∷◌, ◌++◌, refl, sym, ap, ◌∙◌, arith, lit<}
 use lib.ListN.{length, take, drop, take-append-drop, length-take, length-drop}
 use lib.Seq.{drop-drop}
 use seplogic.Ra.Ura.{Ura}
 use base.Fraction.{full_share}
-use mir.Syntax.{Body, ty_ptr, ty_struct, tcons, tnil}
+use mir.Syntax.{ty_ptr, ty_struct, tcons, tnil}
 use mir.Val.{Val, vstruct, vcons, vnil, of_list}
 use base.Logic.{ent, sep, emp, id⊢, mono_r}
 use base.Fml.{Fml, fsep}
-use prog.Wp.{Env, Calls, Loops, Wp, after_seq, after_block}
 use types.Logic.{Logic, sem}
 use types.SemTy.{cells}
-use types.Kit.{Post, any_q, post, ‵, ◌⊛◌, ◌$◌, ◌∵◌, !, qed, by, move, use1, use2, split, fsplit, fjoin, fpack, feq_i, rewrite, done}
-use denote.RattleType.{RattleType, Valss}
-use denote.Builtin.{u8, unit}
+use types.Kit.{‵, ◌⊛◌, ◌$◌, ◌∵◌, !, qed, by, move, use1, use2, split, fsplit, fjoin, rewrite, done}
+use denote.Builtin.{u8}
 use denote.Memory.{mem, part_at}
 use denote.RawPtr.{Ptr, RawPtr, block_ptr, null_ptr, ptr_val}
 use denote.RawPtr.Bytes.{bytes, bytes_cut, bytes_glue}
 use denote.Shadow.{shadow, makes_shadow}
-use denote.Signature.{Slot, plain}
-use denote.Steps.{nothing}
-use denote.Struct.Struct.{Struct, within}
-use denote.Struct.Declared as Declared
-use denote.Struct.Tuple.{Tuple, tuple_type}
 use Rattle.core.proofs.cell.Inside.{Good}
-
-abbrev pub slot_at : {n : ℕ} → ℕ → List (Slot n) → Slot n
-slot_at k [] = plain (λ _. unit)
-slot_at zero (s ∷ ss) = s
-slot_at (suc k) (s ∷ ss) = slot_at k ss
-
--- a struct by its fields alone: what it owns does not read its name
-abbrev plainly : List RattleType → RattleType
-plainly Rs = Struct (record { name = []; args = []; types = []; fields = Rs })
+use Rattle.linked_list_allocator.proofs.Values.{plainly}
 
 abbrev pub start_val : Ptr → Val
 start_val p = vstruct (vcons (ptr_val p) vnil)
@@ -70,17 +53,8 @@ lease_own = (plainly (plainly [] ∷ [])).own_val (tt, tt)
 pub lease_told : (vs : List Val) → shadow (lease_own vs) → vs ≡ lease_val ∷ []
 lease_told vs s = s.1.0 ∙ (λ i. vstruct (of_list (s.1.1.0.1.0 i ++ [])) ∷ [])
 
-abbrev pub three_val : Val → Val → Val → Val
-three_val u v w = vstruct (vcons u (vcons v (vcons w vnil)))
-
 module _ {M : Type 1} {𝓤 : Ura M} (𝓛 : Logic 𝓤) where
   open 𝓛 use {H}
-
-  abbrev pub then_runs : Calls 𝓤 H → Loops 𝓤 H → Env 𝓤 H → Body → Post 𝓤 H → Post 𝓤 H
-  then_runs C Λ E b q = any_q (after_seq 𝓤 H (Wp 𝓤 H C Λ E b (post 𝓤 H q)) (post 𝓤 H q))
-
-  abbrev pub out_of_block : Post 𝓤 H → Post 𝓤 H
-  out_of_block q = any_q (after_block 𝓤 H (post 𝓤 H q))
 
   pub start_made : (p : Ptr) → ent 𝓤 (emp 𝓤) (sem 𝓛 (start_own p (start_val p ∷ [])))
   start_made p = makes_shadow 𝓛 (start_own p (start_val p ∷ [])) (λ _. (tt, (tt, tt))) ((ptr_val p ∷ [], tt), (refl, (refl, tt)))
@@ -90,14 +64,6 @@ module _ {M : Type 1} {𝓤 : Ura M} (𝓛 : Logic 𝓤) where
 
   pub lease_made : ent 𝓤 (emp 𝓤) (sem 𝓛 (lease_own (lease_val ∷ [])))
   lease_made = makes_shadow 𝓛 (lease_own (lease_val ∷ [])) (λ _. (tt, ((λ _. (tt, tt)), tt))) ((vstruct vnil ∷ [], tt), (refl, ((tt, (refl, tt)), tt)))
-
-  pub three_of : (R S T : RattleType) (x : R.Denot) (y : S.Denot) (z : T.Denot) (u v w : Val)
-      → ent 𝓤 (sep 𝓤 (sem 𝓛 (R.own_val x (u ∷ []))) (sep 𝓤 (sem 𝓛 (S.own_val y (v ∷ []))) (sem 𝓛 (T.own_val z (w ∷ []))))) (sem 𝓛 ((Tuple (R ∷ S ∷ T ∷ [])).own_val (x, y, z) (three_val u v w ∷ [])))
-  three_of R S T x y z u v w =
-      qed 𝓛 (‵ (R.own_val x (u ∷ [])) ∷ ‵ (S.own_val y (v ∷ [])) ∷ ‵ (T.own_val z (w ∷ [])) ∷ []) ∵
-      nothing ! $ move ! (3 ∷ 0 ∷ []) $ fjoin ! $ move ! (2 ∷ 0 ∷ []) $ fjoin ! $ move ! (1 ∷ 0 ∷ []) $ fjoin ! $
-      feq_i ! (List Val) (three_val u v w ∷ []) (three_val u v w ∷ []) refl $ fjoin ! $
-      fpack ! (Valss (R ∷ S ∷ T ∷ [])) (within (Declared.shape (tuple_type (R ∷ S ∷ T ∷ []))) (x, (y, (z, tt))) (three_val u v w ∷ [])) (u ∷ [], (v ∷ [], (w ∷ [], tt))) $ done !
 
   pub as_cells : (xs : List ℕ) (b o : ℕ) → ent 𝓤 (sem 𝓛 (bytes full_share xs b o)) (sem 𝓛 (cells (mem u8) xs b o))
   as_cells [] b o = id⊢ 𝓤 (emp 𝓤)

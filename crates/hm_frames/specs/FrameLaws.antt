@@ -13,11 +13,13 @@ use Rattle.hm_frames.specs.Frames.{with_run_over, with_range}
 -- w of the right length is written as it is
 pub part_exact : (b : List ℕ) (i : ℕ) (w : List ℕ) → with_part b i (length w) w ≡ written b i w
 part_exact b i w =
-    ap (λ (l : List ℕ). take i b ++ (l ++ drop (i + length w) b)) (take_at w (drop (length w) (take (length w) (drop i b))) (length w) refl)
+    ap (λ (l : List ℕ). take i b ++ (l ++ drop (i + length w) b))
+    (take_at w (drop (length w) (take (length w) (drop i b))) (length w) refl)
     ∙ sym (append_assoc (take i b) w (drop (i + length w) b))
 
 -- the law of writing, as pages ask it
-pub range_written : (runs : PageRuns) (addr : ℕ) (w : List ℕ) → CanWrite runs addr (length w) → EndsWritten {S = PageRuns} (λ p. true) (λ p. p) (λ p. 0) runs addr w (with_range runs addr (length w) w)
+pub range_written : (runs : PageRuns) (addr : ℕ) (w : List ℕ) → CanWrite runs addr (length w)
+    → EndsWritten {S = PageRuns} (λ p. true) (λ p. p) (λ p. 0) runs addr w (with_range runs addr (length w) w)
 range_written runs addr w can =
     let run = can.0 in
     record {
@@ -28,6 +30,7 @@ range_written runs addr w can =
         bytes = run.1;
         is_run = written_run runs addr (length w) can;
         lies = can.2;
-        value = ap (with_run_over runs addr (length w) w) can.1 ∙ ap (map.insert runs run.0) (part_exact run.1 (addr - run.0) w);
+        value = ap (with_run_over runs addr (length w) w) can.1
+            ∙ ap (map.insert runs run.0) (part_exact run.1 (addr - run.0) w);
       };
     }

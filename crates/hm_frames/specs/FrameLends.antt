@@ -21,4 +21,5 @@ with_run table i from len w None = table
 with_run table i from len w (Some frame) = record table { runs = with_item table.runs i (with_bytes frame from len w) }
 
 abbrev pub LendsPartAt : MutBor FrameTable → ℕ → ℕ → ℕ → MutBor (List ℕ) → Fml
-LendsPartAt lender i from len lent = Lends table_row (Array u8 0) lender lent (λ w. with_run lender.now i from len w (slice_get lender.now.runs.items i))
+LendsPartAt lender i from len lent =
+    Lends table_row (Array u8 0) lender lent (λ w. with_run lender.now i from len w (slice_get lender.now.runs.items i))

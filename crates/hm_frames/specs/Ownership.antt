@@ -19,7 +19,8 @@ fit xs n = flt (length xs + n) (2 ^ 63)
 
 -- the bytes xs lie in the block b from o on, and after them is room for n more
 abbrev pub contents_own : Ptr → List ℕ → ℕ → Fml
-contents_own (block_ptr b o) xs n = fsep (fit xs n) (fsep (bytes full_share xs b o) (froom (bytes_type n) b (o + length xs)))
+contents_own (block_ptr b o) xs n =
+    fsep (fit xs n) (fsep (bytes full_share xs b o) (froom (bytes_type n) b (o + length xs)))
 contents_own null_ptr xs n = ffalse
 
 -- a `&` sees the bytes that are written

@@ -70,7 +70,8 @@ unsafe impl<A: Allocator> Sync for Lease<A> {}
 /// A block with room for `len` bytes.
 pub(crate) fn allocate<A: Allocator>(alloc: &A, len: usize) -> Option<(Start, Contents, Lease<A>)>
     requires { len < 2 ^ 63 }
-    ensures { IfSome result (λ r. (r.1.at ≡ r.0.ptr) × (r.1.bytes ≡ []) × (r.1.room ≡ len) × (r.2.at ≡ r.0.ptr) × (r.2.len ≡ len) × (r.2.alloc ≡ alloc.now)) }
+    ensures { IfSome result (λ r. (r.1.at ≡ r.0.ptr) × (r.1.bytes ≡ []) × (r.1.room ≡ len)
+        × (r.2.at ≡ r.0.ptr) × (r.2.len ≡ len) × (r.2.alloc ≡ alloc.now)) }
 {
     match alloc.allocate(len, 1) {
         Ok(ptr) => Some((Start { ptr }, Contents {}, Lease { mark: PhantomData })),
@@ -86,7 +87,8 @@ pub(crate) fn deallocate<A: Allocator>(
     contents: Contents,
     lease: Lease<A>,
 )
-    requires { (contents.at ≡ start.ptr) × (length contents.bytes ≡ len) × (contents.room ≡ 0) × (lease.at ≡ start.ptr) × (lease.len ≡ len) × (lease.alloc ≡ alloc.now) }
+    requires { (contents.at ≡ start.ptr) × (length contents.bytes ≡ len) × (contents.room ≡ 0)
+        × (lease.at ≡ start.ptr) × (lease.len ≡ len) × (lease.alloc ≡ alloc.now) }
 {
     let Contents {} = contents;
     let Lease { mark: _ } = lease;
@@ -101,7 +103,8 @@ impl Contents {
     /// Writes one more byte, at the first place of the room.
     pub(crate) fn push(&mut self, start: Start, index: usize, byte: u8)
         requires { (start.ptr ≡ self.old.at) × (index ≡ length self.old.bytes) × (0 < self.old.room) }
-        ensures { (self.new.at ≡ self.old.at) × (self.new.bytes ≡ self.old.bytes ++ byte ∷ []) × (self.new.room + 1 ≡ self.old.room) }
+        ensures { (self.new.at ≡ self.old.at) × (self.new.bytes ≡ self.old.bytes ++ byte ∷ [])
+            × (self.new.room + 1 ≡ self.old.room) }
     {
         unsafe { start.ptr.add(index).write(byte) }
     }

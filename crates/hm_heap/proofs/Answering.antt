@@ -1,5 +1,6 @@
 -- Which plan a call of a heap follows.
-use Rattle.std.proofs.Common.{◌≡◌, ◌==◌, ◌*◌, ◌^◌, ◌<◌, ℕ, Bool, true, false, if◌then◌else◌, Option, Some, None, refl, sym, ◌∙◌, ap}
+use Rattle.std.proofs.Common.{◌≡◌, ◌==◌, ◌*◌, ◌^◌, ◌<◌, ℕ, Bool, false, if◌then◌else◌, Option, Some, None, Ok, refl, sym, ◌∙◌, ap}
+use Rattle.hm_model.specs.declared.answer.Answer.{Answer}
 use Rattle.hm_model.specs.declared.answer.Answer.TheVariants as answer
 use Rattle.hm_sizes.specs.declared.class.Kind.{Kind}
 use Rattle.hm_sizes.specs.declared.config.Config.{Config}
@@ -8,9 +9,14 @@ use Rattle.hm_sizes.specs.Sizes.{IsKindOf}
 use Rattle.hm_model.specs.declared.entry.Call.{Call}
 use Rattle.hm_model.specs.declared.entry.Reply.{Reply}
 use Rattle.hm_model.specs.declared.entry.Reply.TheVariants.{Given, Overwritten, Exhausted, NoSpace, PagesFailed, Freed, NoSlot, Unused, DoubleFree, WrongSize, Canary, Usable, Bytes, Filled, Trap, NotLive}
-use Rattle.hm_heap.specs.Plans.{Plan, Done}
+use Rattle.hm_heap.specs.Passes.{PassView}
+use Rattle.hm_heap.specs.Plans.{Done, Follows}
 use Rattle.hm_heap.specs.Requests.{Reaches}
-use Rattle.hm_heap.specs.Calls.{place_for, home_place, allot_plan, aligned_plan, moving_plan, resize_plan, IsCallocPlan, IsAlignedPlan, IsReallocPlan, ReplyInReach}
+use Rattle.hm_heap.specs.Calls.{place_for, home_place, allot_plan, moving_plan, resize_plan, IsCallocPlan, IsAlignedPlan, IsReallocPlan, ReplyInReach}
+
+-- an answer without a part
+pub answers_at_once : (p : PassView) (step : ℕ) (a : Answer) → Follows p p step 1 (Done a) (Ok a)
+answers_at_once p step a = (refl, refl)
 
 pub overflows : (c : Config) (thread count size : ℕ) → (count * size < 2 ^ 64 → ⊥) → IsCallocPlan c thread count size (Done answer.Overflow)
 overflows c thread count size most = record { overflow = λ e. refl; fits = λ lt. absurd (most lt) }
@@ -21,13 +27,6 @@ no_alignment_plan c thread align asked none = record { kind = None; kind_is = no
 module _ (c : Config) (thread a asked : ℕ) (kind : Kind) (kind_is : IsKindOf asked kind) where
   pub too_large : None ≡ place_for c thread kind → IsReallocPlan c thread a asked (Done answer.TooLarge)
   too_large at = record { kind = kind; kind_is = kind_is; is = ap (resize_plan c thread a asked kind) at }
-
-  pub is_malloc : (place : ℕ) → Some place ≡ place_for c thread kind → a ≡ 0 → IsReallocPlan c thread a asked (allot_plan c thread asked 1 kind)
-  is_malloc place at zero = record {
-    kind = kind;
-    kind_is = kind_is;
-    is = sym (ap (λ (n : ℕ). if n == 0 then allot_plan c thread asked 1 kind else moving_plan c place a asked kind (home_place c a)) zero) ∙ ap (resize_plan c thread a asked kind) at;
-  }
 
   pub moves : (place : ℕ) (home : Option ℕ) → Some place ≡ place_for c thread kind → (a == 0) ≡ false → home ≡ home_place c a → IsReallocPlan c thread a asked (moving_plan c place a asked kind home)
   moves place home at some is = record {

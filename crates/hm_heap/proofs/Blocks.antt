@@ -1,5 +1,5 @@
 -- Where live blocks lie.
-use Rattle.std.proofs.Common.{◌≡◌, ◌≢◌, ℕ, ◌+◌, ◌-◌, ◌*◌, ◌/◌, ◌%◌, ◌^◌, ◌<◌, ◌≤◌, ◌⊎◌, true, List, Some, sym, ◌∙◌, ap, subst, arith}
+use Rattle.std.proofs.Common.{◌≡◌, ◌≢◌, ℕ, ◌+◌, ◌*◌, ◌/◌, ◌%◌, ◌^◌, ◌<◌, ◌≤◌, ◌⊎◌, true, List, Some, sym, ◌∙◌, subst, arith}
 use Rattle.std.proofs.lemmas.Bool.{cases_lt}
 use Rattle.std.proofs.lemmas.Nat.{div-add-mod'}
 use mathlib.Core.Logic.{inl, inr}
@@ -26,8 +26,8 @@ use Rattle.hm_large.specs.Blocks.{Block}
 use Rattle.hm_large.specs.Rules as large
 use Rattle.hm_large.proofs.BlockLists.{placed_at}
 use Rattle.hm_large.proofs.Legal as large_legal
-use Rattle.hm_heap.specs.Lawful.{arena_of, class_in, class_terms, large_terms, IsRegionOf, IsLawful}
-use Rattle.hm_heap.specs.Laws.{IsOfBlock, LiesIn, HomesOfBlocks, BlocksApart, RegionsApart}
+use Rattle.hm_heap.specs.Lawful.{arena_of, class_in, class_terms, large_terms, IsRegionOf}
+use Rattle.hm_heap.specs.Laws.{LiesIn, HomesOfBlocks, BlocksApart, RegionsApart}
 
 -- ---- a class region
 row_most : (n pages size : ℕ) → n < pages → pages * 4096 ≤ size → (n + 1) * 4096 ≤ size

@@ -1,5 +1,5 @@
 -- A class region by its origin.
-use Rattle.std.proofs.Common.{◌≡◌, ℕ, ◌+◌, ◌*◌, ◌/◌, ◌%◌, ◌^◌, ◌<◌, ◌≤◌, nat_lt, if◌then◌else◌, Bool, true, IsTrue, List, length, Result, Ok, Err, IfOk, Option, None, sym, ◌∙◌, ap, subst, arith}
+use Rattle.std.proofs.Common.{◌≡◌, ℕ, ◌+◌, ◌*◌, ◌/◌, ◌%◌, ◌^◌, ◌<◌, ◌≤◌, nat_lt, if◌then◌else◌, Bool, true, IsTrue, length, Result, Ok, Err, IfOk, Option, None, sym, ◌∙◌, ap, subst, arith}
 use Rattle.std.proofs.lemmas.Bool.{lt-ltb}
 use Rattle.std.proofs.lemmas.Nat.{div-mul-add, mod-mul-add}
 use mathlib.Core.Logic.{inl}
@@ -10,9 +10,8 @@ use Rattle.hm_model.specs.declared.entry.Reply.{Reply}
 use Rattle.hm_model.specs.Replies.{IsClassReply}
 use Rattle.hm_sizes.specs.declared.class.ClassId.{ClassId}
 use Rattle.hm_sizes.specs.declared.config.Config.{Config}
-use Rattle.hm_sizes.specs.declared.shape.Shape.{Shape}
 use Rattle.hm_sizes.specs.Classes.{class_count}
-use Rattle.hm_sizes.specs.Origins.{Origin, class_region_number, large_region_number}
+use Rattle.hm_sizes.specs.Origins.{class_region_number, large_region_number}
 use Rattle.hm_sizes.specs.Shapes.{has_bytes, usable}
 use Rattle.hm_class_rules.specs.Draws.{drawn_shape}
 use Rattle.hm_class_rules.specs.Drawn.{IsDrawn}
@@ -21,7 +20,7 @@ use Rattle.hm_class.specs.Region.{Region, IsRegion, IsTakenBack, HoldsSlabs, ori
 use Rattle.hm_large.specs.Blocks.{owed}
 use Rattle.hm_large.specs.Rules as large_state
 use Rattle.hm_heap.specs.Accepted.{IsAcceptedFree}
-use Rattle.hm_heap.specs.Lawful.{arena_of, class_in, class_terms, large_terms, IsLawful, IsRegionOf, IsSound, Holds, fault_count, owed_entries, first_address}
+use Rattle.hm_heap.specs.Lawful.{arena_of, class_in, class_terms, large_terms, IsLawful, IsSound, Holds, fault_count, owed_entries, first_address}
 use Rattle.hm_heap.specs.Origins.{numbers_of}
 use Rattle.hm_heap.specs.Requests.{IsReply}
 

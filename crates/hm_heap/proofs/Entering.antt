@@ -1,5 +1,5 @@
 -- One call under a turn: what the turn knows of it afterwards.
-use Rattle.std.proofs.Common.{◌≡◌, ℕ, ◌+◌, ◌≤◌, ◌⊎◌, Bool, List, [], ◌∷◌, ◌++◌, Result, Ok, Err, IfOk, IsOk, OnErr, MatchResult, sym, ◌∙◌, ap, subst, refl, arith, true≢false}
+use Rattle.std.proofs.Common.{◌≡◌, ℕ, ◌⊎◌, Bool, List, [], ◌∷◌, ◌++◌, Result, Ok, Err, IfOk, IsOk, OnErr, MatchResult, sym, ◌∙◌, ap, subst, refl, arith, true≢false}
 use Rattle.std.proofs.lemmas.Grind.{common_steps}
 use mathlib.Core.Logic.{inl, inr}
 use Rattle.hm_outside.specs.declared.memory.NoMemory.{NoMemory}

@@ -1,5 +1,5 @@
 -- The large region by its origin.
-use Rattle.std.proofs.Common.{◌≡◌, ℕ, ◌<◌, ◌≤◌, Bool, Result, Ok, Err, IfOk, sym, ap, subst, refl, arith}
+use Rattle.std.proofs.Common.{◌≡◌, ℕ, ◌≤◌, Bool, Result, Ok, Err, IfOk, sym, subst, refl, arith}
 use mathlib.Core.Logic.{inr}
 use Rattle.hm_outside.specs.declared.memory.NoMemory.{NoMemory}
 use Rattle.hm_outside.specs.declared.pages.Pages as pages

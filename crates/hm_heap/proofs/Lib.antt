@@ -4,7 +4,6 @@ pub mod LargeRegions
 pub mod Entering
 pub mod Placing
 pub mod Reaching
-pub mod Asking
 pub mod Maps
 pub mod Splitting
 pub mod Founding

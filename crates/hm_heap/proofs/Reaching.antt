@@ -1,5 +1,5 @@
 -- How far a reply reaches.
-use Rattle.std.proofs.Common.{◌≡◌, ℕ, ◌+◌, ◌*◌, ◌/◌, ◌^◌, ◌<◌, ◌≤◌, ◌⊎◌, Bool, nat_lt, if◌then◌else◌, List, [], ◌∷◌, ◌++◌, length, slice_index_or, Option, Some, None, IfSome, Result, Ok, Err, IfOk, sym, ◌∙◌, ap, subst, refl, arith}
+use Rattle.std.proofs.Common.{◌≡◌, ℕ, ◌+◌, ◌*◌, ◌^◌, ◌<◌, ◌≤◌, ◌⊎◌, Bool, if◌then◌else◌, List, [], ◌∷◌, ◌++◌, length, slice_index_or, Option, Some, None, IfSome, Result, Ok, Err, IfOk, sym, ◌∙◌, ap, subst, refl, arith}
 use Rattle.std.proofs.lemmas.Bool.{cases_lt, lt-ltb, le-ltb}
 use mathlib.Core.Logic.{inl, inr}
 use Rattle.hm_outside.specs.declared.memory.NoMemory.{NoMemory}
@@ -7,7 +7,7 @@ use Rattle.hm_model.specs.declared.entry.Call.{Call}
 use Rattle.hm_model.specs.declared.entry.Call.TheVariants.{Allot, GiveBack, Measure, Fetch, Fill}
 use Rattle.hm_model.specs.declared.entry.Entry.{Entry}
 use Rattle.hm_model.specs.declared.entry.Reply.{Reply}
-use Rattle.hm_model.specs.declared.entry.Reply.TheVariants.{Given, Bytes}
+use Rattle.hm_model.specs.declared.entry.Reply.TheVariants.{Given}
 use Rattle.hm_model.specs.declared.entry.Who.{Who}
 use Rattle.hm_model.specs.Machine.{Legal_split}
 use Rattle.hm_model.specs.Replies.{IsClassReply, IsLargeReply}
@@ -27,7 +27,7 @@ use Rattle.hm_heap.specs.Called.{Called, Tried}
 use Rattle.hm_heap.specs.Lawful.{IsLawful, class_terms, large_terms}
 use Rattle.hm_heap.specs.Origins.{origin_in}
 use Rattle.hm_heap.specs.Passes.{AreLocks, AreOf, region_at}
-use Rattle.hm_heap.specs.Requests.{IsReply, IsInReach, Reaches}
+use Rattle.hm_heap.specs.Requests.{IsReply, Reaches}
 
 -- ---- no block is given below 2 ^ 40
 from_first : (a first slab slot : ℕ) → a ≡ first + slab + slot → 2 ^ 40 ≤ first → 2 ^ 40 ≤ a

@@ -1,5 +1,5 @@
 -- What the turns of a pass have after a split or a join of all of them.
-use Rattle.std.proofs.Common.{◌≡◌, ℕ, true, false, ◌+◌, ◌-◌, ◌<◌, ◌≤◌, List, [], ◌∷◌, length, map, slice_index_or, slice_set, arith, rules, refl, ap, zero, suc, ◌∙◌, sym, subst}
+use Rattle.std.proofs.Common.{◌≡◌, ℕ, false, ◌+◌, ◌-◌, ◌<◌, ◌≤◌, List, [], ◌∷◌, length, map, slice_index_or, arith, refl, ap, zero, suc, ◌∙◌, sym, subst}
 use Rattle.std.proofs.lemmas.Grind.{common_steps}
 use Rattle.hm_turn.specs.Known.{Lock, Known, IsOf}
 use Rattle.hm_turn.specs.Callers.{is_among}

@@ -43,4 +43,5 @@ pub record Called (who : Who) (call : Call) (result : Result Reply NoMemory) (be
 
 -- a call that may find the turn held: then one more step of this turn found it so, and nothing else changed
 abbrev pub Tried : Who → Call → Option (Result Reply NoMemory) → Knowledge → Knowledge → Type 0
-Tried who call tried before after = MatchOption tried (after ≡ with_lost before) (λ result. Called who call result before after)
+Tried who call tried before after =
+    MatchOption tried (after ≡ with_lost before) (λ result. Called who call result before after)

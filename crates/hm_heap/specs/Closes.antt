@@ -29,7 +29,8 @@ module _ {P : Type 0} (meaning : pages.Ghosts P) where
     pub histories : length hs ≡ length turns
     pub pages : length ps ≡ length turns
     pub each : (r : ℕ) (t : Known) (h : History) (p : P) → r < length turns
-        → IsClosedRegion c number (region_at c r) (slice_index_or turns r t) (slice_index_or hs r h) (slice_index_or ps r p)
+        → IsClosedRegion c number (region_at c r)
+        (slice_index_or turns r t) (slice_index_or hs r h) (slice_index_or ps r p)
 
   -- ---- lock by lock, each of which says which region it is
   pub record IsClosed (t : Known) (h : History) (p : P) : Type 0 where

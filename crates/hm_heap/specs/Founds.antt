@@ -13,10 +13,12 @@ pub record IsFounded (c : Config) (number region : ℕ) (lock : Lock) (turn : Kn
 
 -- each turn has seen nothing
 abbrev pub Founds : List Lock → List Known → Type 0
-Founds locks turns = (r : ℕ) (l : Lock) (t : Known) → r < length locks → (slice_index_or turns r t).knows ≡ founding (slice_index_or locks r l).origin
+Founds locks turns = (r : ℕ) (l : Lock) (t : Known) → r < length locks
+    → (slice_index_or turns r t).knows ≡ founding (slice_index_or locks r l).origin
 
 -- so many locks and turns are made
 pub record BuildsTo (c : Config) (number : ℕ) (locks : List Lock) (turns : List Known) (count : ℕ) : Type 0 where
   pub locks_long : length locks ≡ count
   pub turns_long : length turns ≡ count
-  pub each : (r : ℕ) (l : Lock) (t : Known) → r < count → IsFounded c number (region_at c r) (slice_index_or locks r l) (slice_index_or turns r t)
+  pub each : (r : ℕ) (l : Lock) (t : Known) → r < count
+      → IsFounded c number (region_at c r) (slice_index_or locks r l) (slice_index_or turns r t)

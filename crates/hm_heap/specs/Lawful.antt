@@ -1,5 +1,5 @@
 -- Which histories the region of an origin may have, and what is kept of it after one.
-use Rattle.std.specs.Prelude.{◌≡◌, ◌<◌, ◌≤◌, ◌*◌, ◌/◌, ◌%◌, ◌^◌, ◌⊎◌, ℕ, nat_lt, if◌then◌else◌, IsTrue, List, length}
+use Rattle.std.specs.Prelude.{◌≡◌, ◌<◌, ◌*◌, ◌/◌, ◌%◌, ◌^◌, ◌⊎◌, ℕ, nat_lt, if◌then◌else◌, IsTrue, List, length}
 use Rattle.hm_outside.specs.PageRuns.{PageRuns}
 use Rattle.hm_outside.specs.declared.pages.Pages as pages
 use Rattle.hm_model.specs.declared.entry.Entry.{Entry}
@@ -26,7 +26,11 @@ class_in region = record { 0 = region % class_count }
 
 -- a class region begins where its first word says
 abbrev pub class_terms : Origin → class.Terms
-class_terms o = record { config = o.config; shape = drawn_shape o.number o.config (arena_of o.region) (class_in o.region); told = o.told }
+class_terms o = record {
+  config = o.config;
+  shape = drawn_shape o.number o.config (arena_of o.region) (class_in o.region);
+  told = o.told;
+}
 
 abbrev pub large_terms : Origin → large.Terms
 large_terms o = record { config = o.config; told = o.told }
@@ -69,7 +73,8 @@ owed_entries o history =
 
 -- the accessible runs are exactly the open slabs or the live blocks, with their bytes
 pub record Holds (o : Origin) (history : List Entry) (runs : PageRuns) : Type 0 where
-  pub class : o.region < large_region_number → HoldsSlabs (class_terms o).shape (class.state (class_terms o) history).opens runs
+  pub class : o.region < large_region_number
+      → HoldsSlabs (class_terms o).shape (class.state (class_terms o) history).opens runs
   pub large : o.region ≡ large_region_number → HoldsBlocks (large.state (large_terms o) history).live runs
 
 -- the history is lawful, and the pages are what it says

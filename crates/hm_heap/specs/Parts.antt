@@ -1,5 +1,5 @@
 -- One part of a call of a heap: a call of the region at one place, under its turn.
-use Rattle.std.specs.Prelude.{◌≡◌, ◌<◌, ℕ, List, length, slice_index_or, slice_set, Option, Result}
+use Rattle.std.specs.Prelude.{◌≡◌, ◌<◌, ℕ, length, slice_index_or, slice_set, Option, Result}
 use Rattle.hm_outside.specs.declared.memory.NoMemory.{NoMemory}
 use Rattle.hm_model.specs.declared.entry.Call.{Call}
 use Rattle.hm_model.specs.declared.entry.Reply.{Reply}
@@ -21,7 +21,8 @@ pub record HasPart (p q : PassView) (place : ℕ) (who : Who) (call : Call) (res
       × Called who call result (slice_index_or p.turns place t).knows turn.knows
 
 -- the same, where the turn may have been held
-pub record HasTried (p q : PassView) (place : ℕ) (who : Who) (call : Call) (made : Option (Result Reply NoMemory)) : Type 0 where
+pub record HasTried (p q : PassView) (place : ℕ) (who : Who) (call : Call)
+    (made : Option (Result Reply NoMemory)) : Type 0 where
   pub inside : place < length p.turns
   pub turn : Known
   pub turns_are : q.turns ≡ slice_set p.turns place turn

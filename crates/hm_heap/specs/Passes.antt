@@ -1,5 +1,5 @@
 -- What contracts see of a heap and of a pass, and which locks the turns of a pass are of.
-use Rattle.std.specs.Prelude.{◌≡◌, ◌+◌, ◌<◌, ◌≤◌, ℕ, nat_lt, if◌then◌else◌, Bool, true, List, [], ◌∷◌, length, slice_index_or}
+use Rattle.std.specs.Prelude.{◌≡◌, ◌+◌, ◌-◌, ◌<◌, ◌≤◌, ℕ, nat_lt, if◌then◌else◌, Bool, true, List, [], ◌∷◌, length, map, slice_index_or}
 use Rattle.hm_sizes.specs.declared.config.Config.{Config}
 use Rattle.hm_sizes.specs.Configs.{IsValid}
 use Rattle.hm_sizes.specs.Homes.{region_count}
@@ -44,7 +44,8 @@ pub record PassView : Type 0 where
 -- each turn is of the lock at its place
 pub record AreOf (locks : List Lock) (turns : List Known) : Type 0 where
   pub same : length turns ≡ length locks
-  pub each : (r : ℕ) (l : Lock) (t : Known) → r < length locks → IsOf (slice_index_or locks r l) (slice_index_or turns r t)
+  pub each : (r : ℕ) (l : Lock) (t : Known) → r < length locks
+      → IsOf (slice_index_or locks r l) (slice_index_or turns r t)
 
 -- a turn of a pass with these numbers
 pub record HasNumbers (caller splits out : ℕ) (t : Known) : Type 0 where
@@ -53,7 +54,8 @@ pub record HasNumbers (caller splits out : ℕ) (t : Known) : Type 0 where
   pub used_below : (c : ℕ) → is_among c t.knows.used ≡ true → c ≤ splits
 
 abbrev pub AllHave : ℕ → ℕ → ℕ → List Known → Type 0
-AllHave caller splits out turns = (r : ℕ) (t : Known) → r < length turns → HasNumbers caller splits out (slice_index_or turns r t)
+AllHave caller splits out turns = (r : ℕ) (t : Known) → r < length turns
+    → HasNumbers caller splits out (slice_index_or turns r t)
 
 -- what a pass is made of
 pub record IsPass (caller thread splits out : ℕ) (turns : List Known) : Type 0 where
@@ -77,6 +79,28 @@ abbrev pub all_met : List Known → List Known → List Known
 all_met [] us = []
 all_met (t ∷ ts) [] = t ∷ ts
 all_met (t ∷ ts) (u ∷ us) = met t u ∷ all_met ts us
+
+-- a pass from which another was split off, and that other
+abbrev pub with_split_off : PassView → PassView
+with_split_off p = record p { splits = p.splits + 1; out = p.out + 1; turns = map (cut (p.splits + 1)) p.turns }
+
+abbrev pub split_off : PassView → ℕ → ℕ → PassView
+split_off p round thread = record {
+  caller = p.splits + 1;
+  round = round;
+  thread = thread;
+  splits = 0;
+  out = 0;
+  turns = map (born (p.splits + 1)) p.turns;
+}
+
+-- a pass that has joined another
+abbrev pub with_pass_joined : PassView → PassView → PassView
+with_pass_joined p q = record p { out = p.out - 1; turns = all_met p.turns q.turns }
+
+-- the first pass of a heap, with these turns
+abbrev pub first_pass : List Known → PassView
+first_pass turns = record { caller = 0; round = 0; thread = 1; splits = 0; out = 0; turns = turns }
 
 -- each turn knows what its lock's callers did
 abbrev pub AllKnow : List Known → Type 0

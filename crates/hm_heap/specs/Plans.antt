@@ -16,7 +16,8 @@ pub data Plan : Type 0 where
 
 -- ---- a plan is followed
 -- from the reply on the rest is done, and want of memory ends the call
-abbrev pub GoesOn : PassView → PassView → Result Answer NoMemory → (PassView → Reply → Type 0) → Result Reply NoMemory → Type 0
+abbrev pub GoesOn : PassView → PassView → Result Answer NoMemory → (PassView → Reply → Type 0) → Result Reply NoMemory
+    → Type 0
 GoesOn between q answer Rest made = MatchResult made (Rest between) (λ none. (q ≡ between) × (answer ≡ Err none))
 
 -- the part was made, and then the rest

@@ -4,7 +4,7 @@ ghost use Rattle.std.specs.FinMap as map;
 ghost use Rattle.hm_sizes.specs.Configs.{IsValid};
 ghost use Rattle.hm_sizes.specs.Homes.{region_count};
 ghost use Rattle.hm_sizes.specs.Origins.{large_region_number};
-ghost use Rattle.hm_heap.specs.Passes.{AreLocks, AreOf};
+ghost use Rattle.hm_heap.specs.Passes.{AreLocks, AreOf, first_pass};
 ghost use Rattle.hm_heap.specs.Founds.{IsFounded, Founds};
 
 use crate::heap::{CLASSES, Heap, LARGE};
@@ -65,7 +65,7 @@ impl<'g, P: Pages, G: Gate> Heap<'g, P, G> {
         requires valid { IsValid config }
         ensures heap { IfOk result (λ r. (r.0.config ≡ config) × (r.0.number ≡ seed)) }
         ensures locks { IfOk result (λ r. AreLocks config seed r.0.locks) }
-        ensures pass { IfOk result (λ r. (r.1.caller ≡ 0) × (r.1.round ≡ 0) × (r.1.thread ≡ 1) × (r.1.splits ≡ 0) × (r.1.out ≡ 0)) }
+        ensures pass { IfOk result (λ r. r.1 ≡ first_pass r.1.turns) }
         ensures of { IfOk result (λ r. AreOf r.0.locks r.1.turns) }
         ensures first { IfOk result (λ r. Founds r.0.locks r.1.turns) }
     {

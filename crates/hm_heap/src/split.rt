@@ -2,7 +2,7 @@
 ghost use Rattle.std.specs.Prelude.{◌≡◌, ℕ, false, ◌+◌, ◌-◌, ◌<◌, ◌^◌, ◌≤◌, slice_index_or, vec_len, vec_capacity, [], IfOk, OnErr, map};
 ghost use Rattle.hm_turn.specs.Callers.{is_among};
 ghost use Rattle.hm_turn.specs.Known.{Known};
-ghost use Rattle.hm_heap.specs.Passes.{AreOf, AllKnow, cut, born, all_met};
+ghost use Rattle.hm_heap.specs.Passes.{AreOf, AllKnow, cut, born, all_met, with_split_off, split_off, with_pass_joined};
 
 use crate::heap::Heap;
 use crate::pass::Pass;
@@ -59,8 +59,8 @@ impl<'g, P: Pages, G: Gate> Heap<'g, P, G> {
         requires root { root.old.caller ≡ 0 }
         requires thread { 1 ≤ thread }
         requires few { root.old.splits < 2 ^ 32 - 1 }
-        ensures root { IfOk result (λ p. root.new ≡ record root.old { splits = root.old.splits + 1; out = root.old.out + 1; turns = map (cut (root.old.splits + 1)) root.old.turns }) }
-        ensures pass { IfOk result (λ p. p ≡ record { caller = root.old.splits + 1; round = round; thread = thread; splits = 0; out = 0; turns = map (born (root.old.splits + 1)) root.old.turns }) }
+        ensures root { IfOk result (λ p. root.new ≡ with_split_off root.old) }
+        ensures pass { IfOk result (λ p. p ≡ split_off root.old round thread) }
         ensures of { IfOk result (λ p. AreOf self.now.locks root.new.turns × AreOf self.now.locks p.turns) }
         ensures callers { IfOk result (λ p. AllKnow root.old.turns) }
         ensures memory { OnErr result (root.new ≡ root.old) }
@@ -85,7 +85,7 @@ impl<'g, P: Pages, G: Gate> Heap<'g, P, G> {
     pub fn join(&self, root: &mut Pass, pass: Pass)
         requires of { AreOf self.now.locks root.old.turns × AreOf self.now.locks pass.turns }
         requires root { root.old.caller ≡ 0 }
-        ensures root { root.new ≡ record root.old { out = root.old.out - 1; turns = all_met root.old.turns pass.turns } }
+        ensures root { root.new ≡ with_pass_joined root.old pass }
         ensures of { AreOf self.now.locks root.new.turns }
         ensures callers { AllKnow root.new.turns }
     {

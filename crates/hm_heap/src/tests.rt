@@ -5,7 +5,7 @@ ghost use Rattle.hm_heap.specs.Passes.{AreOf};
 
 use crate::{Heap, Pass};
 use hm_model::{Answer, Reply, Runs};
-use hm_outside::{Gate, NoGate, NoMemory, Pages, PlainMaker, RegionId};
+use hm_outside::{Gate, NoGate, NoMemory, PageMaker, Pages, PlainMaker, PlainPages, RegionId};
 use hm_sizes::Config;
 use std::alloc::Global;
 use std::sync::Wait;
@@ -31,11 +31,7 @@ enum Ask {
 
 /// The address of a block, with an offset.
 fn at(blocks: &[u64], block: usize, offset: u64) -> u64 {
-    blocks
-        .get(block)
-        .copied()
-        .unwrap_or(0)
-        .wrapping_add(offset)
+    blocks.get(block).copied().unwrap_or(0).wrapping_add(offset)
 }
 
 /// Makes one call. A read is of one byte, and a write of up to 1,000 bytes 65.
@@ -294,13 +290,20 @@ fn both_ask<R: Threads + Wait + Sync, P: Pages>(
     gate: &Holding,
     first: Pass,
     second: Pass,
-) -> (Result<Answer, NoMemory>, (Result<Answer, NoMemory>, Result<Answer, NoMemory>))
+) -> (
+    Result<Answer, NoMemory>,
+    (Result<Answer, NoMemory>, Result<Answer, NoMemory>),
+)
     requires { AreOf heap.now.locks first.turns × AreOf heap.now.locks second.turns }
 {
     join(
         rt,
-        || first_asks(rt, heap, first),
-        || second_asks(heap, gate, second),
+        ||
+            requires { AreOf heap.now.locks first.turns }
+        { first_asks(rt, heap, first) },
+        ||
+            requires { AreOf heap.now.locks second.turns }
+        { second_asks(heap, gate, second) },
     )
 }
 
@@ -318,5 +321,40 @@ fn a_region_is_busy_by_itself(rt: HostRuntime) -> Result<(), Fail> {
     assert!(rt; shown(&given?) == (1, 8));
     assert!(rt; shown(&held?) == (22, 0));
     assert!(rt; shown(&free?) == (1, 4088));
+    Ok(())
+}
+
+/// A maker that notes the regions for which it was asked.
+#[derive(Drop)]
+struct NotingMaker {
+    asked: Vec<u32>,
+}
+
+impl PageMaker for NotingMaker {
+    type P = PlainPages;
+
+    fn make(&mut self, alloc: Global, region: RegionId) -> Result<PlainPages, NoMemory> {
+        self.asked.push(region.0)?;
+        let mut maker = PlainMaker;
+        maker.make(alloc, region)
+    }
+}
+
+#[test]
+fn each_region_has_pages_and_a_history(rt: HostRuntime) -> Result<(), Fail> {
+    let mut maker = NotingMaker {
+        asked: Vec::new(rt.alloc()),
+    };
+    let config = Config::standard();
+    let (heap, pass) = Heap::build(rt.alloc(), config, 1, &mut maker, &NoGate)?;
+    assert!(rt; pass.caller() == 0 && pass.round() == 0 && pass.thread() == 1 && pass.out() == 0);
+    assert!(rt; maker.asked.len() == 197);
+    assert!(rt;
+        (0..197u32)
+            .zip(&maker.asked)
+            .all(|(region, asked)| region == *asked)
+    );
+    let closed = heap.close(rt.alloc(), pass)?;
+    assert!(rt; closed.histories.items().len() == 197 && closed.pages.items().len() == 197);
     Ok(())
 }

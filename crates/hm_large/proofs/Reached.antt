@@ -1,5 +1,5 @@
 -- What is kept once bytes are read or written.
-use Rattle.std.proofs.Common.{◌≡◌, ◌⊎◌, inl, inr, ⊎_elim, ℕ, ◌+◌, ◌-◌, ◌^◌, ◌<◌, ◌≤◌, ◌==◌, Bool, true, false, cond, not, IsTrue, List, [], ◌∷◌, ◌++◌, map, length, take, drop, Option, Some, None, is_some, option_map, unwrap_or, sym, ◌∙◌, ap, subst, refl, arith}
+use Rattle.std.proofs.Common.{◌≡◌, ◌⊎◌, inl, inr, ⊎_elim, ℕ, ◌+◌, ◌-◌, ◌<◌, ◌≤◌, ◌==◌, Bool, true, false, cond, not, IsTrue, List, [], ◌∷◌, ◌++◌, map, length, take, drop, Option, Some, None, is_some, option_map, unwrap_or, sym, ◌∙◌, ap, subst, refl, arith}
 use Rattle.std.specs.FinMap as finite
 use Rattle.std.specs.FinMap.{get-insert}
 use Rattle.std.proofs.lemmas.Bool.{cases_eq, cases_lt}

@@ -1,5 +1,5 @@
 -- Which entries of the large region are allowed, and which histories are legal.
-use Rattle.std.specs.Prelude.{◌≡◌, ℕ, ◌+◌, ◌*◌, ◌%◌, ◌<◌, ◌≤◌, ◌^◌, ◌==◌, nat_lt, nat_le, ◌&&◌, max, Bool, true, false, if◌then◌else◌, IsTrue, List, length, take, Option, Some, None, unwrap_or, option_map, ⊤}
+use Rattle.std.specs.Prelude.{◌≡◌, ℕ, ◌+◌, ◌*◌, ◌%◌, ◌<◌, ◌≤◌, ◌^◌, ◌==◌, nat_lt, nat_le, ◌&&◌, max, Bool, true, false, if◌then◌else◌, IsTrue, List, length, take, Option, Some, None, unwrap_or, option_map}
 use Rattle.std.specs.Bool.{MatchBool}
 use Rattle.hm_model.specs.declared.entry.Entry.{Entry}
 use Rattle.hm_model.specs.declared.entry.Call.{Call}

@@ -2,12 +2,11 @@
 ghost use Rattle.std.specs.Prelude.{◌≡◌, ◌+◌, ◌<◌, ◌≤◌, ◌^◌, ℕ, true, false, ◌↔◌, IsTrue, IfOk, IfSome, IfNone, IsSome, MatchOption, Some, None, length, replicate};
 ghost use Rattle.std.specs.Ordering.{nat_cmp};
 ghost use Rattle.std.specs.BTreeMap as tree;
-ghost use Rattle.hm_model.specs.Maps.{at};
 ghost use Rattle.hm_model.specs.Replies.{IsWithin};
 ghost use Rattle.hm_model.specs.Runs.{expand, total};
 ghost use Rattle.hm_outside.specs.PageRuns.{InNone, IsHeld, Reads, Writes};
 ghost use Rattle.hm_sizes.specs.declared.config.Config.{Config};
-ghost use Rattle.hm_large.specs.Blocks.{Block, first_trap, trap_in};
+ghost use Rattle.hm_large.specs.Blocks.{first_trap, trap_in};
 ghost use Rattle.hm_large.specs.State.{State};
 ghost use Rattle.hm_large.specs.Laws.{IsSound};
 ghost use Rattle.hm_large.specs.Kept.{Shows, AreGuarded};

@@ -1,6 +1,6 @@
 //! Allotting a large block: its guard is drawn, the lowest place that fits is found, and its pages are made
 //! accessible.
-ghost use Rattle.std.specs.Prelude.{◌≡◌, ◌+◌, ◌-◌, ◌*◌, ◌%◌, ◌^◌, ◌<◌, ◌≤◌, ℕ, IsTrue, Bool, false, IfOk, OnOk, OnErr, Some, None, vec_len};
+ghost use Rattle.std.specs.Prelude.{◌≡◌, ◌+◌, ◌-◌, ◌*◌, ◌%◌, ◌^◌, ◌<◌, ◌≤◌, ℕ, IsTrue, false, IfOk, OnOk, OnErr, Some, None};
 ghost use Rattle.std.specs.FinMap as map;
 ghost use Rattle.std.specs.Ordering.{nat_cmp};
 ghost use Rattle.std.specs.BTreeMap as tree;
@@ -12,7 +12,6 @@ ghost use Rattle.hm_sizes.specs.declared.config.Config.{Config};
 ghost use Rattle.hm_large.specs.Blocks.{size_for, guard_of};
 ghost use Rattle.hm_large.specs.State.{State};
 ghost use Rattle.hm_large.specs.Rules.{IsAlignment};
-ghost use Rattle.hm_large.specs.Region.{HoldsBlocks};
 ghost use Rattle.hm_large.specs.Kept.{Shows};
 ghost use Rattle.hm_large.specs.Stored.{Allots, Declines, Stands};
 ghost use Rattle.hm_large.specs.declared.store.KeptBlock.{KeptBlock};

@@ -281,14 +281,9 @@ impl<P: Pages> LargeHeap<P> {
                         let now = self.pages.faults();
                         mark_failed(&mut self.store, addr, block);
                         let call = Call::GiveBack { addr, stated };
+                        let reply = Reply::PagesFailed;
                         self.entries
-                            .push_reserved(Entry::plain(
-                                who,
-                                call,
-                                Reply::PagesFailed,
-                                before,
-                                now,
-                            ));
+                            .push_reserved(Entry::plain(who, call, reply, before, now));
                         Ok(Reply::PagesFailed)
                     }
                 }

@@ -1,16 +1,14 @@
 //! Taking a large block back: one below 32 MiB goes into quarantine, and what leaves that gives its range
 //! back; a greater one gives its range back at once.
-ghost use Rattle.std.specs.Prelude.{◌≡◌, ◌+◌, ◌-◌, ◌*◌, ◌^◌, ◌<◌, ◌≤◌, ℕ, true, false, if◌then◌else◌, IfSome, IsSome, Some, None};
+ghost use Rattle.std.specs.Prelude.{◌≡◌, ◌+◌, ◌-◌, ◌*◌, ◌<◌, ◌≤◌, ℕ, true, false, if◌then◌else◌, IfSome, IsSome, Some, None};
 ghost use Rattle.std.specs.Ordering.{nat_cmp};
 ghost use Rattle.std.specs.BTreeMap as tree;
-ghost use Rattle.hm_choice.specs.Stream.{next_word, after_word, drawn};
 ghost use Rattle.hm_model.specs.Maps.{at};
-ghost use Rattle.hm_quarantine.specs.Quarantine.{let_go, kept_with};
 ghost use Rattle.hm_sizes.specs.declared.config.Config.{Config};
 ghost use Rattle.hm_large.specs.Blocks.{Block, marked};
 ghost use Rattle.hm_large.specs.State.{State};
 ghost use Rattle.hm_large.specs.Laws.{IsSound};
-ghost use Rattle.hm_large.specs.Kept.{Shows, kept_of};
+ghost use Rattle.hm_large.specs.Kept.{Shows};
 ghost use Rattle.hm_large.specs.Stored.{GoesBack, GaveBack, StandsLive, Frees};
 ghost use Rattle.hm_large.specs.declared.store.KeptBlock.{KeptBlock};
 

@@ -34,7 +34,8 @@ Empty cells place = slice_get cells place ≡ Some None
 pub record IsKept (cells : Cells) : Type 0 where
   pub some : 0 < length cells
   pub apart : (p q : ℕ) (e f : Entry) → At cells p e → At cells q f → e.addr ≡ f.addr → p ≡ q
-  pub reached : (p d m r : ℕ) (e : Entry) → At cells p e → IsOn (length cells) (home (length cells) e.addr) d p → d < length cells
+  pub reached : (p d m r : ℕ) (e : Entry) → At cells p e
+      → IsOn (length cells) (home (length cells) e.addr) d p → d < length cells
       → m < d → IsOn (length cells) (home (length cells) e.addr) m r → Empty cells r → ⊥
 
 -- the key's entry stands at the place
@@ -58,7 +59,8 @@ pub record IsPlaceFor (cells : Cells) (addr place : ℕ) : Type 0 where
 
 -- the cells passed from a key's home on have other keys
 abbrev pub Passed : Cells → ℕ → ℕ → Type 0
-Passed cells addr far = (m r : ℕ) → m < far → IsOn (length cells) (home (length cells) addr) m r → (e : Entry) × At cells r e × (e.addr ≢ addr)
+Passed cells addr far =
+    (m r : ℕ) → m < far → IsOn (length cells) (home (length cells) addr) m r → (e : Entry) × At cells r e × (e.addr ≢ addr)
 
 -- the cells passed from a key's home on are not empty
 abbrev pub Crossed : Cells → ℕ → ℕ → Type 0

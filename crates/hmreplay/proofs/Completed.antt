@@ -1,5 +1,6 @@
 -- A trace that is built is run.
 use Rattle.std.proofs.Common.{◌≡◌, ◌⊎◌, ℕ, ◌≤◌, Bool, true, false, cond, inl, inr, List, ◌++◌, length, Option, Some, None, String, Global, sym, ◌∙◌, ap, arith, true≢false, append-nil, length-append}
+use Rattle.hm_outside.specs.declared.pages.Pages as pages
 use Rattle.hm_outside.specs.PageRuns.{PageRuns}
 use Rattle.hm_trace.specs.declared.fault.TraceFault.{TraceFault}
 use Rattle.hm_trace.specs.Faults.{text_fault}
@@ -54,9 +55,9 @@ OneTrace = (one other : List (List ScriptView)) → IsTrace one → IsTrace othe
 abbrev pub Short : Type 0
 Short = (trace : List (List ScriptView)) → IsTrace trace → length (spelling trace) ≤ 67108864
 
-module _ {P : Type 0} (faultless : Faultless) (one_trace : OneTrace) (short : Short) (told : P → Bool) (runs : P → PageRuns) (faults : P → ℕ) (status : ℕ) (closed : Option (Closed P)) where
+module _ {P : Type 0} (faultless : Faultless) (one_trace : OneTrace) (short : Short) (meaning : pages.Ghosts P) (status : ℕ) (closed : Option (Closed P)) where
   text_ends : (trace : List (List ScriptView)) (bytes : List ℕ) (held held' : Option (List ℕ)) (sink_rose : Type 0)
-      → IsTrace trace → bytes ≡ spelling trace → is_built trace ≡ true → (sink_rose → ⊥) → TextEnds told runs faults status closed bytes held held' sink_rose → EndsRun status
+      → IsTrace trace → bytes ≡ spelling trace → is_built trace ≡ true → (sink_rose → ⊥) → TextEnds meaning status closed bytes held held' sink_rose → EndsRun status
   text_ends trace bytes held held' sink_rose is spelled built sink (inl ran) =
       by_writing ran.results ran.written
     where
@@ -70,7 +71,7 @@ module _ {P : Type 0} (faultless : Faultless) (one_trace : OneTrace) (short : Sh
   text_ends trace bytes held held' sink_rose is spelled built sink (inr (inr (inr none))) = inr (inr none.0)
 
   pub complete : (words : List (String Global)) (trace : List (List ScriptView)) (bytes : List ℕ) (left' held held' : Option (List ℕ)) (source_rose sink_rose : Type 0)
-      → Ends told runs faults status closed words (Some bytes) left' source_rose held held' sink_rose
+      → Ends meaning status closed words (Some bytes) left' source_rose held held' sink_rose
       → AreRun words → IsTrace trace → bytes ≡ spelling trace → is_built trace ≡ true → (source_rose → ⊥) → (sink_rose → ⊥) → EndsRun status
   complete words trace bytes left' held held' source_rose sink_rose (inl read) are is spelled built source sink =
       text_ends trace read.bytes held held' sink_rose is (read_all bytes read.bytes left' read.read ∙ spelled) built sink read.ends

@@ -3,6 +3,7 @@ use Rattle.std.proofs.Common.{◌≡◌, ℕ, ◌+◌, ◌*◌, ◌<◌, nat_lt,
 use Rattle.std.specs.Prelude.{IfSome}
 use Rattle.std.proofs.lemmas.Bool.{and_parts}
 use Rattle.std.proofs.lemmas.Bool.Decides.{nat_tests}
+use Rattle.hm_outside.specs.declared.pages.Pages as pages
 use Rattle.hm_outside.specs.PageRuns.{PageRuns}
 use Rattle.hm_model.specs.declared.entry.Entry.{Entry}
 use Rattle.hm_model.specs.declared.entry.Who.{Who}
@@ -10,10 +11,13 @@ use Rattle.hm_model.specs.declared.entry.Choices.{Choices}
 use Rattle.hm_model.specs.declared.entry.Call.TheVariants.{Allot}
 use Rattle.hm_model.specs.declared.entry.Reply.{Reply}
 use Rattle.hm_model.specs.declared.entry.Reply.TheVariants.{Given}
+use Rattle.hm_model.specs.Calls.{entry_of}
 use Rattle.hm_model.specs.Machine.{Legal_split}
 use Rattle.hm_sizes.specs.declared.class.ClassId.{ClassId}
 use Rattle.hm_sizes.specs.declared.config.Config.{Config}
 use Rattle.hm_sizes.specs.declared.shape.Shape.{Shape}
+use Rattle.hm_sizes.specs.Classes.{class_count}
+use Rattle.hm_sizes.specs.Origins.{Origin}
 use Rattle.hm_sizes.specs.Shapes.{slab_of, slot_of, place, is_guard, IsPlace}
 use Rattle.hm_class_rules.specs.Draws.{drawn_shape}
 use Rattle.hm_class_rules.specs.DrawnExamples.{first_region}
@@ -21,8 +25,8 @@ use Rattle.hm_class_rules.proofs.KnownWords.{first_drawn}
 use Rattle.hm_class_rules.specs.State.{State, start}
 use Rattle.hm_class_rules.specs.Steps.{step}
 use Rattle.hm_class_rules.specs.Rules.{Terms, Allows, Allowed, IsLegal, state}
-use Rattle.hm_class.specs.Region.{Region, IsRegion, region_shape, terms as region_terms}
-use Rattle.hm_class.specs.Calls.{Added, KeepsName, entry_of}
+use Rattle.hm_class.specs.Region.{Region, IsRegion, origin, region_shape, terms as region_terms}
+use Rattle.hm_class.specs.Calls.{Added}
 use Rattle.hmreplay.specs.FirstRegion.{config, shape, IsFirstRegion}
 use Rattle.hmreplay.specs.Scripts.{IsInside, given_by}
 
@@ -56,14 +60,20 @@ inside_of (Given a usable) h = place_inside a h
 inside_of reply h = tt
 
 module _ {P : Type 0} where
-  -- a region keeps its name
-  pub kept : (old new : Region P) → KeepsName old new → IsFirstRegion old → IsFirstRegion new
-  kept old new keeps is = record {
-    config_is = keeps.config ∙ is.config_is;
-    number_is = keeps.number ∙ is.number_is;
-    arena_is = keeps.arena ∙ is.arena_is;
-    class_is = keeps.class ∙ is.class_is;
-  }
+  -- a region stays the one that it was
+  pub kept : (told : P → Bool) (old new : Region P) → origin told new ≡ origin told old → new.class.0 < class_count → IsFirstRegion old → IsFirstRegion new
+  kept told old new same below is =
+      let number : new.arena * 49 + new.class.0 ≡ old.arena * 49 + old.class.0 = ap (λ (o : Origin). o.region) same in
+      let class : old.class.0 ≡ 7 = ap (λ (k : ClassId). k.0) is.class_is in
+      record {
+        config_is = ap (λ (o : Origin). o.config) same ∙ is.config_is;
+        number_is = ap (λ (o : Origin). o.number) same ∙ is.number_is;
+        arena_is = omega (arith, number, class, below, is.arena_is);
+        class_is = class_of new.class.0 (omega (arith, number, class, below, is.arena_is));
+      }
+    where
+      class_of : (n : ℕ) → n ≡ 7 → (let k : ClassId = record { 0 = n } in k) ≡ record { 0 = 7 }
+      class_of n is = ap (λ (m : ℕ). (let k : ClassId = record { 0 = m } in k)) is
 
   pub shapes_are : (r : Region P) → IsFirstRegion r → region_shape r ≡ shape
   shapes_are r is =
@@ -71,11 +81,11 @@ module _ {P : Type 0} where
       ∙ ap (λ (a : ℕ). made 0 config a r.class) is.arena_is ∙ ap (λ (k : ClassId). made 0 config 0 k) is.class_is
 
   -- what was given last lies inside
-  pub given_inside : (told : P → Bool) (runs : P → PageRuns) (faults : P → ℕ) (old new : Region P) (who : Who) (size : ℕ) (reply : Reply)
-      → IsFirstRegion new → IsRegion told runs faults new → Added faults old new who (Allot size 1) reply → IfSome (given_by reply) IsInside
-  given_inside told runs faults old new who size reply is region added =
-      let t : Terms = region_terms told new in
-      let e : Entry = entry_of who (Allot size 1) reply added.choices added.draws (faults old.pages) (faults new.pages) in
+  pub given_inside : (meaning : pages.Ghosts P) (old new : Region P) (who : Who) (size : ℕ) (reply : Reply)
+      → IsFirstRegion new → IsRegion meaning new → Added meaning old new who (Allot size 1) reply → IfSome (given_by reply) IsInside
+  given_inside meaning old new who size reply is region added =
+      let t : Terms = region_terms meaning.told new in
+      let e : Entry = entry_of who (Allot size 1) reply added.choices added.draws (meaning.faults old.pages) (meaning.faults new.pages) in
       let legal : IsLegal t (old.entries ++ e ∷ []) = subst (λ (es : List Entry). IsLegal t es) added.entries region.legal in
       let last : Allowed t (state t old.entries) e = (Legal_split (step t.shape) (Allowed t) start old.entries (e ∷ []) legal).1.0 in
       inside_of reply

@@ -2,6 +2,7 @@
 use Rattle.std.specs.Prelude.{◌≡◌, ◌⊎◌, ℕ, ◌≤◌, Bool, true, false, if◌then◌else◌, List, [], ◌∷◌, ◌++◌, length, codes, String, Option, Some, None}
 use Rattle.std.specs.Fmt.{decimal}
 use Rattle.std.specs.declared.alloc.Global.{Global}
+use Rattle.hm_outside.specs.declared.pages.Pages as pages
 use Rattle.hm_outside.specs.PageRuns.{PageRuns}
 use Rattle.hm_report.specs.declared.results.Results.{Results}
 use Rattle.hm_report.specs.declared.results.StepResult.{StepResult}
@@ -78,13 +79,13 @@ abbrev pub status_after : List Results → ℕ
 status_after results = if has_finding results then 1 else 0
 
 -- the trace was run and closed: these are its results
-pub record IsRun {P : Type 0} (told : P → Bool) (runs : P → PageRuns) (faults : P → ℕ) (closed : Option (Closed P)) (trace : List (List ScriptView)) (results : List Results) : Type 0 where
+pub record IsRun {P : Type 0} (meaning : pages.Ghosts P) (closed : Option (Closed P)) (trace : List (List ScriptView)) (results : List Results) : Type 0 where
   pub items : List StepResult
-  pub closes : Closes told runs faults closed (steps_of trace) items
+  pub closes : Closes meaning closed (steps_of trace) items
   pub are_of : AreOf trace items results
 
 -- ---- endings
-module _ {P : Type 0} (told : P → Bool) (runs : P → PageRuns) (faults : P → ℕ) (status : ℕ) (closed : Option (Closed P)) where
+module _ {P : Type 0} (meaning : pages.Ghosts P) (status : ℕ) (closed : Option (Closed P)) where
   -- the trace was run, and the report of the history's replies was written, or a front of it where the sink failed
   pub record RunsText (bytes : List ℕ) (held held' : Option (List ℕ)) (sink_rose : Type 0) : Type 0 where
     pub trace : List (List ScriptView)
@@ -92,7 +93,7 @@ module _ {P : Type 0} (told : P → Bool) (runs : P → PageRuns) (faults : P �
     pub text : bytes ≡ spelling trace
     pub built : is_built trace ≡ true
     pub results : List Results
-    pub run : IsRun told runs faults closed trace results
+    pub run : IsRun meaning closed trace results
     pub written : IsWritten status (status_after results) held held' sink_rose (report_text results)
 
   -- the text is no trace, and the line that names its first fault was written, or a front of it where the sink failed

@@ -1,5 +1,6 @@
 -- What a run leaves: the history of its region, beside its pages.
 use Rattle.std.specs.Prelude.{◌≡◌, ℕ, Bool, IsTrue, List, [], ◌∷◌, Option, Some, None}
+use Rattle.hm_outside.specs.declared.pages.Pages as pages
 use Rattle.hm_outside.specs.PageRuns.{PageRuns}
 use Rattle.hm_class_rules.specs.Rules.{IsLegal, state}
 use Rattle.hm_class_rules.specs.Drawn.{IsDrawn}
@@ -12,16 +13,16 @@ use Rattle.hmreplay.specs.FirstRegion.{shape, terms}
 use Rattle.hmreplay.specs.Scripts.{Settings, Runs}
 
 -- ---- what is closed
-module _ {P : Type 0} (told : P → Bool) (runs : P → PageRuns) (faults : P → ℕ) where
+module _ {P : Type 0} (meaning : pages.Ghosts P) where
   -- the history of region 7 beside its pages: it is legal, in what it says of bytes too where these pages tell them; its choices are drawn from the words of its stream; its counts are the pages' own; where they tell, their runs are its open slabs with their bytes; and its entries are exactly the calls of these steps, each once, in order
   pub record IsHistory (h : History) (p : P) (steps : List StepView) (results : List StepResult) : Type 0 where
     pub region : h.region.0 ≡ 7
     pub first : h.first ≡ shape.first
-    pub legal : IsLegal (terms (told p)) h.entries
-    pub drawn : IsDrawn 0 0 (terms (told p)) h.entries
-    pub counted : h.faults ≡ faults p
-    pub last : h.faults ≡ (state (terms (told p)) h.entries).faults
-    pub slabs : IsTrue (told p) → HoldsSlabs shape (state (terms (told p)) h.entries).opens (runs p)
+    pub legal : IsLegal (terms (meaning.told p)) h.entries
+    pub drawn : IsDrawn 0 0 (terms (meaning.told p)) h.entries
+    pub counted : h.faults ≡ meaning.faults p
+    pub last : h.faults ≡ (state (terms (meaning.told p)) h.entries).faults
+    pub slabs : IsTrue (meaning.told p) → HoldsSlabs shape (state (terms (meaning.told p)) h.entries).opens (meaning.runs p)
     pub settings : Settings
     pub calls : Runs 1 [] steps h.entries results settings
 

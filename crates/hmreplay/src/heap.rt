@@ -29,7 +29,7 @@ const NUMBER: u64 = 0;
 fn build<M: PageMaker>(alloc: Global, maker: &mut M) -> Result<ClassHeap<M::P>, NoMemory>
     ensures first { IfOk result IsFirstRegion }
     ensures fresh { IfOk result (λ heap. heap.entries ≡ []) }
-    ensures region { IfOk result (λ heap. IsRegion M.P.told M.P.runs M.P.faults heap) }
+    ensures region { IfOk result (λ heap. IsRegion M.P.Pages heap) }
 {
     let pages = maker.make(alloc, RegionId(REGION))?;
     ClassHeap::build(alloc, &Config::standard(), NUMBER, 0, ClassId(CLASS), pages)
@@ -73,7 +73,7 @@ pub fn run_region<M: PageMaker>(
     requires built { list_all is_built_step (steps_view steps.now) ≡ true }
     requires valid { list_all is_step (steps_view steps.now) ≡ true }
     requires few { length steps.now ≤ 200000 }
-    ensures { IfOk result (λ done. Closes M.P.told M.P.runs M.P.faults (Some done.closed) (steps_view steps.now) done.items.items) }
+    ensures { IfOk result (λ done. Closes M.P.Pages (Some done.closed) (steps_view steps.now) done.items.items) }
 {
     let mut heap = build(alloc, maker)?;
     let items = run_steps(alloc, &mut heap, steps)?;

@@ -19,7 +19,7 @@ use hm_trace::{spellings_are_short, spellings_differ, spellings_have_no_fault};
 /// or 1, or for want of memory with 6.
 pub fn runs_are_complete<P: Pages>()
     ensures { (status : ℕ) (closed : Option (Closed P)) (words : List (String Global)) (trace : List (List ScriptView)) (bytes : List ℕ) (left' held held' : Option (List ℕ)) (f g h k : ℕ)
-        → Ends P.told P.runs P.faults status closed words (Some bytes) left' (Rose f g) held held' (Rose h k)
+        → Ends P.Pages status closed words (Some bytes) left' (Rose f g) held held' (Rose h k)
         → AreRun words → IsTrace trace → bytes ≡ spelling trace → is_built trace ≡ true → (Rose f g → ⊥) → (Rose h k → ⊥)
         → (status ≡ 0) ⊎ (status ≡ 1) ⊎ (status ≡ 6) }
 {
@@ -32,9 +32,9 @@ pub fn runs_are_complete<P: Pages>()
 /// with accepted words, and no fault of the source or the sink, ends with 7, or for want of memory with 6.
 pub fn too_long_is_exact<P: Pages>()
     ensures only { (status : ℕ) (closed : Option (Closed P)) (words : List (String Global)) (left left' held held' : Option (List ℕ)) (f g h k : ℕ)
-        → Ends P.told P.runs P.faults status closed words left left' (Rose f g) held held' (Rose h k)
+        → Ends P.Pages status closed words left left' (Rose f g) held held' (Rose h k)
         → status ≡ 7 → IsTakenPast 67108864 left left' }
     ensures long { (status : ℕ) (closed : Option (Closed P)) (words : List (String Global)) (bytes : List ℕ) (left' held held' : Option (List ℕ)) (f g h k : ℕ)
-        → Ends P.told P.runs P.faults status closed words (Some bytes) left' (Rose f g) held held' (Rose h k)
+        → Ends P.Pages status closed words (Some bytes) left' (Rose f g) held held' (Rose h k)
         → AreRun words → 67108864 < length bytes → (Rose f g → ⊥) → (Rose h k → ⊥) → (status ≡ 7) ⊎ (status ≡ 6) }
 {}

@@ -1,7 +1,7 @@
 //! What a step asks of the region at an address.
-ghost use Rattle.std.specs.Prelude.{◌<◌, ◌^◌, IfOk};
-ghost use Rattle.hm_class.specs.Calls.{Added, KeepsName};
-ghost use Rattle.hm_class.specs.Region.{IsRegion};
+ghost use Rattle.std.specs.Prelude.{◌≡◌, ◌<◌, ◌^◌, IfOk};
+ghost use Rattle.hm_class.specs.Calls.{Added};
+ghost use Rattle.hm_class.specs.Region.{IsRegion, origin};
 ghost use Rattle.hmreplay.specs.Requests.{call_at, IsMeasured};
 
 use hm_class::ClassHeap;
@@ -30,12 +30,12 @@ pub fn ask<P: Pages>(
     request: Request,
     addr: u64,
 ) -> Result<Reply, NoMemory>
-    requires region { IsRegion P.told P.runs P.faults heap.old }
+    requires region { IsRegion P.Pages heap.old }
     requires below { addr < 2 ^ 47 }
     requires measured { IsMeasured request }
-    ensures added { IfOk result (λ reply. Added P.faults heap.old heap.new who (call_at request addr) reply) }
-    ensures name { KeepsName heap.old heap.new }
-    ensures region { IsRegion P.told P.runs P.faults heap.new }
+    ensures added { IfOk result (λ reply. Added P.Pages heap.old heap.new who (call_at request addr) reply) }
+    ensures origin { origin P.told heap.new ≡ origin P.told heap.old }
+    ensures region { IsRegion P.Pages heap.new }
 {
     match request {
         Request::GiveBack => heap.give_back(who, addr, None),
@@ -54,12 +54,12 @@ fn fill<P: Pages>(
     len: u64,
     byte: u8,
 ) -> Result<Reply, NoMemory>
-    requires region { IsRegion P.told P.runs P.faults heap.old }
+    requires region { IsRegion P.Pages heap.old }
     requires below { addr < 2 ^ 47 }
     requires measured { IsMeasured (Request.Fill len byte) }
-    ensures added { IfOk result (λ reply. Added P.faults heap.old heap.new who (call_at (Request.Fill len byte) addr) reply) }
-    ensures name { KeepsName heap.old heap.new }
-    ensures region { IsRegion P.told P.runs P.faults heap.new }
+    ensures added { IfOk result (λ reply. Added P.Pages heap.old heap.new who (call_at (Request.Fill len byte) addr) reply) }
+    ensures origin { origin P.told heap.new ≡ origin P.told heap.old }
+    ensures region { IsRegion P.Pages heap.new }
 {
     let runs = Runs::same(alloc, byte, len)?;
     heap.fill(who, addr, &runs)

@@ -80,7 +80,7 @@ fn run_trace<M: PageMaker>(
     trace: &Trace,
 ) -> Result<Ran<M::P>, NoMemory>
     requires { is_built trace.now ≡ true }
-    ensures run { IfOk result (λ ran. IsRun M.P.told M.P.runs M.P.faults (Some ran.closed) trace.now ran.results.items) }
+    ensures run { IfOk result (λ ran. IsRun M.P.Pages (Some ran.closed) trace.now ran.results.items) }
     ensures order { IfOk result (λ ran. ascends ran.results.items ≡ true) }
 {
     let mut results = Vec::new(alloc);
@@ -132,7 +132,7 @@ fn run_text<K: Sink, M: PageMaker>(
     sink: &mut K,
     maker: &mut M,
 ) -> Run<M::P>
-    ensures { TextEnds M.P.told M.P.runs M.P.faults result.status result.closed bytes.now (K.held sink.old) (K.held sink.new) (Rose (K.faults sink.old) (K.faults sink.new)) }
+    ensures { TextEnds M.P.Pages result.status result.closed bytes.now (K.held sink.old) (K.held sink.new) (Rose (K.faults sink.old) (K.faults sink.new)) }
 {
     let trace = match read_trace(alloc, bytes) {
         Ok(trace) => trace,
@@ -160,7 +160,7 @@ pub fn replay<R: Wait + Threads, S: Source, K: Sink, M: PageMaker, G: Gate>(
     gate: &G,
 ) -> Run<M::P>
     ensures bound { IsTakenWithin 67108865 (S.left source.old) (S.left source.new) }
-    ensures ends { Ends M.P.told M.P.runs M.P.faults result.status result.closed words.now (S.left source.old) (S.left source.new) (Rose (S.faults source.old) (S.faults source.new))
+    ensures ends { Ends M.P.Pages result.status result.closed words.now (S.left source.old) (S.left source.new) (Rose (S.faults source.old) (S.faults source.new))
         (K.held sink.old) (K.held sink.new) (Rose (K.faults sink.old) (K.faults sink.new)) }
 {
     let _ = rt;

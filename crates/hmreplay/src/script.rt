@@ -1,8 +1,7 @@
 //! Running the steps of a script on a region, one after another.
 ghost use Rattle.std.specs.Prelude.{◌≡◌, ◌+◌, ◌<◌, ◌≤◌, List, [], length, true, IfOk};
 ghost use Rattle.std.specs.List.{list_all};
-ghost use Rattle.hm_class.specs.Calls.{KeepsName};
-ghost use Rattle.hm_class.specs.Region.{IsRegion};
+ghost use Rattle.hm_class.specs.Region.{IsRegion, origin};
 ghost use Rattle.hm_trace.specs.Traces.{is_step};
 ghost use Rattle.hm_trace.specs.Views.{name_view, place_view, step_view, steps_view};
 ghost use Rattle.hm_trace.specs.Views.{Malloc as MallocView};
@@ -79,8 +78,8 @@ fn malloc<P: Pages>(
     requires inside { AreInside names.old.entries }
     ensures ran { IfOk result (λ r. (settings : Settings) → Agree names.old.entries settings → Made heap.old.entries heap.new.entries (λ own. Calls step 0 (Allot size 1) own r × Agree names.new.entries (set_by settings (MallocView (name_view name) size) own))) }
     ensures inside { IfOk result (λ _. AreInside names.new.entries) }
-    ensures name { KeepsName heap.old heap.new }
-    ensures region { IsRegion P.told P.runs P.faults heap.new }
+    ensures origin { origin P.told heap.new ≡ origin P.told heap.old }
+    ensures region { IsRegion P.Pages heap.new }
 {
     let reply = heap.allot(who_of(step), size)?;
     set(names, name, given(&reply))?;
@@ -96,13 +95,13 @@ fn refer<P: Pages>(
     place: &Place,
     request: Request,
 ) -> Result<StepResult, NoMemory>
-    requires region { IsRegion P.told P.runs P.faults heap.old }
+    requires region { IsRegion P.Pages heap.old }
     requires built { is_built_place (place_view place.now) ≡ true }
     requires measured { IsMeasured request }
     requires inside { AreInside names.now.entries }
     ensures ran { IfOk result (λ r. (settings : Settings) → Agree names.now.entries settings → Made heap.old.entries heap.new.entries (λ own. Refers step (referred settings (place_view place.now)) (call_at request) own r)) }
-    ensures name { KeepsName heap.old heap.new }
-    ensures region { IsRegion P.told P.runs P.faults heap.new }
+    ensures origin { origin P.told heap.new ≡ origin P.told heap.old }
+    ensures region { IsRegion P.Pages heap.new }
 {
     match referred(names, place) {
         Some(addr) => {
@@ -122,14 +121,14 @@ fn run_step<P: Pages>(
     step: &Step,
 ) -> Result<StepResult, NoMemory>
     requires first { IsFirstRegion heap.old }
-    requires region { IsRegion P.told P.runs P.faults heap.old }
+    requires region { IsRegion P.Pages heap.old }
     requires built { is_built_step (step_view step.now) ≡ true }
     requires valid { is_step (step_view step.now) ≡ true }
     requires inside { AreInside names.old.entries }
     ensures ran { IfOk result (λ r. (settings : Settings) → Agree names.old.entries settings → Made heap.old.entries heap.new.entries (λ own. Steps number settings (step_view step.now) own r × Agree names.new.entries (set_by settings (step_view step.now) own))) }
     ensures inside { IfOk result (λ _. AreInside names.new.entries) }
-    ensures name { KeepsName heap.old heap.new }
-    ensures region { IsRegion P.told P.runs P.faults heap.new }
+    ensures origin { origin P.told heap.new ≡ origin P.told heap.old }
+    ensures region { IsRegion P.Pages heap.new }
 {
     match step {
         Step::Malloc { name, size } => malloc(heap, names, number, *name, *size),
@@ -158,13 +157,13 @@ pub fn run_steps<P: Pages>(
 ) -> Result<Vec<StepResult>, NoMemory>
     requires first { IsFirstRegion heap.old }
     requires fresh { heap.old.entries ≡ [] }
-    requires region { IsRegion P.told P.runs P.faults heap.old }
+    requires region { IsRegion P.Pages heap.old }
     requires built { list_all is_built_step (steps_view steps.now) ≡ true }
     requires valid { list_all is_step (steps_view steps.now) ≡ true }
     requires few { length steps.now ≤ 200000 }
     ensures ran { IfOk result (λ rs. (last : Settings) × Runs 1 [] (steps_view steps.now) heap.new.entries rs.items last) }
-    ensures name { KeepsName heap.old heap.new }
-    ensures region { IsRegion P.told P.runs P.faults heap.new }
+    ensures origin { origin P.told heap.new ≡ origin P.told heap.old }
+    ensures region { IsRegion P.Pages heap.new }
 {
     let mut names = BTreeMap::new(alloc);
     let mut results = Vec::new(alloc);

@@ -318,6 +318,7 @@ fn long_scripts(rt: HostRuntime) -> Result<(), Fail> {
 
 /// A source that notes the longest buffer that it was handed, and fails where it is called after its
 /// end. Its count of faults stands at its last value.
+#[derive(Drop)]
 struct NotingSource<'a> {
     left: &'a [u8],
     longest: usize,
@@ -344,6 +345,7 @@ impl Source for NotingSource<'_> {
 }
 
 /// A maker that notes the regions for which it is asked.
+#[derive(Drop)]
 struct NotingMaker {
     regions: Vec<RegionId>,
 }

@@ -31,8 +31,10 @@ use Rattle.core.proofs.alloc.Shapes.{after, head, arm_body}
 use Rattle.core.proofs.atomic.Steps.{fm}
 use Rattle.core.proofs.option.Made.{Some-of, none_of}
 use Rattle.std.proofs.raw_atomic.Walks.{proved_at, leaves}
-use Rattle.hm_frames.proofs.Memory.{slot_at, then_runs, start_val, start_own, start_made, contents_val, contents_own_val, contents_made, lease_val, lease_own, lease_made, three_val, three_of}
-use Rattle.hm_frames.specs.Ownership.{bytes_type, contents_own}
+use Rattle.circular_buffer.proofs.Memory.{three_val, three_of}
+use Rattle.linked_list_allocator.proofs.Walks.{slot_at, then_runs}
+use Rattle.hm_frames.proofs.Memory.{start_val, start_own, start_made, contents_val, contents_own_val, contents_made, lease_val, lease_own, lease_made}
+use Rattle.hm_frames.specs.Ownership.{bytes_type}
 use Rattle.hm_frames.specs.contracts.block.Start as start
 use Rattle.hm_frames.specs.contracts.block.Contents as contents
 use Rattle.hm_frames.specs.contracts.block.Lease as lease

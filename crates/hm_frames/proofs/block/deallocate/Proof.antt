@@ -14,10 +14,10 @@ use types.Kit.{‵, raw, ◌⊛◌, given, later, prop, settles, at_ret, ◌$◌
 use types.Part.{whole, sub}
 use types.Run.{stop, fld, lit, unit_lit, of_opd, no_more, and_then, first, blocks, exec, returns, enter}
 use types.ByLocal.{alloc_all, pass_all, free_all, look_at, get, get_in, sets, lands_last, env}
-use denote.RattleType.{RattleType, owns}
+use denote.RattleType.{owns}
 use denote.RawPtr.{Ptr, block_ptr, in_a_block}
 use denote.RawPtr.Bytes.{bytes-room}
-use denote.Param.{param, bounded}
+use denote.Param.{bounded}
 use denote.Signature.{types_at}
 use denote.Steps.{nothing, heard}
 use denote.Triple.Entry.{alive}
@@ -27,7 +27,8 @@ use Rattle.core.proofs.alloc.Calls.{Al, seen, Goes-blank, Gives, at_gives, Gives
 use Rattle.core.proofs.alloc.Shapes.{after}
 use Rattle.core.proofs.atomic.Steps.{fm}
 use Rattle.std.proofs.raw_atomic.Walks.{proved_at, leaves}
-use Rattle.hm_frames.proofs.Memory.{slot_at, then_runs, out_of_block, start_val, start_told, start_typed, contents_val, contents_told, lease_val, lease_told}
+use Rattle.linked_list_allocator.proofs.Walks.{slot_at, then_runs, out_of_block}
+use Rattle.hm_frames.proofs.Memory.{start_val, start_told, contents_val, contents_told, lease_val, lease_told}
 use Rattle.hm_frames.specs.Ownership.{bytes_type, contents_own}
 use Rattle.hm_frames.specs.contracts.block.deallocate.{ended, clauses}
 use Rattle.hm_frames.specs.contracts.block.deallocate.Key.{name as #self}

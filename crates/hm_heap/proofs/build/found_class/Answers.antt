@@ -1,4 +1,3 @@
-use Rattle.std.proofs.Common.{◌≡◌, ◌+◌, ◌*◌, ◌/◌, ◌%◌, ap, ◌∙◌, arith}
 use Rattle.hm_heap.specs.Origins.{numbers_of}
 use Rattle.hm_class.specs.Region.{origin}
 use Rattle.hm_heap.proofs.Founding.{founded}

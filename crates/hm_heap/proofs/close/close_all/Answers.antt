@@ -1,5 +1,4 @@
-use Rattle.std.proofs.Common.{rules, arith, ◌≡◌, ◌∙◌, ap, sym, List, reverse}
-use Rattle.hm_turn.specs.Known.{Known}
+use Rattle.std.proofs.Common.{arith}
 use Rattle.hm_heap.proofs.Closing.{closes_more, closes_all}
 use Rattle.hm_heap.proofs.close.close_all.Goals as goal
 

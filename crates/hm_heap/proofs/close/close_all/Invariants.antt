@@ -1,4 +1,4 @@
-use Rattle.std.proofs.Common.{◌≡◌, ℕ, ◌+◌, ◌≤◌, ◌<◌, vec_len, vec_capacity}
+use Rattle.std.proofs.Common.{◌≤◌, vec_len, vec_capacity}
 use Rattle.hm_heap.specs.Closes.{ClosesFrom}
 use Rattle.hm_heap.proofs.close.close_all.Given as goal
 

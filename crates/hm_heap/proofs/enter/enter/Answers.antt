@@ -1,4 +1,4 @@
-use Rattle.std.proofs.Common.{◌≡◌, ◌∙◌, sym, ap}
+use Rattle.std.proofs.Common.{◌∙◌, sym, ap}
 use Rattle.hm_heap.specs.Origins.{numbers_of}
 use Rattle.hm_heap.specs.Regions.{origin_of}
 use Rattle.hm_heap.specs.Requests.{call_of}

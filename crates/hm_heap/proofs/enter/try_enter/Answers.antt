@@ -1,4 +1,3 @@
-use Rattle.std.proofs.Common.{◌≡◌}
 use Rattle.hm_heap.specs.Requests.{call_of}
 use Rattle.hm_heap.proofs.Entering.{lost_none, may_give_it, called_there}
 use Rattle.hm_heap.proofs.enter.try_enter.Goals as goal

@@ -1,4 +1,4 @@
-use Rattle.std.proofs.Common.{rules, arith, ◌≡◌, ℕ, ◌<◌, List, slice_index_or, length, ap, sym, ◌∙◌, subst}
+use Rattle.std.proofs.Common.{arith, ◌≡◌, ◌<◌, slice_index_or, length, ◌∙◌, subst}
 use Rattle.std.proofs.lemmas.List.{get_or_default}
 use Rattle.std.proofs.lemmas.Bool.{cases_lt}
 use mathlib.Core.Logic.{inl, inr}

@@ -1,4 +1,4 @@
-use Rattle.std.proofs.Common.{◌≡◌, ℕ, ◌<◌, ◌≤◌, vec_len, vec_capacity, slice_index_or}
+use Rattle.std.proofs.Common.{ℕ, ◌<◌, ◌≤◌, vec_len, vec_capacity, slice_index_or}
 use Rattle.hm_turn.specs.Known.{Known, KnowsCallers}
 use Rattle.hm_heap.specs.Passes.{cut, born}
 use Rattle.hm_heap.specs.Loops.{ChangedTo}

@@ -5,8 +5,5 @@ use Rattle.hmreplay.proofs.heap.run_region.Goals as goal
 
 pub returns : goal.returns
 returns g c =
-    let told = g.M.P.Pages.told in
-    let runs = g.M.P.Pages.runs in
-    let faults = g.M.P.Pages.faults in
-    closing told runs faults c.run_steps.new.heap _ _ (steps_view c.args.steps.now) c.in_ok-items.items.items
-    (kept _ _ c.in_ok-items.ensures.name c.in_ok-heap.ensures.first) c.in_ok-items.ensures.region c.in_ok-items.ensures.ran c.in_ok-closed.ensures
+    closing g.M.P.Pages c.run_steps.new.heap _ _ (steps_view c.args.steps.now) c.in_ok-items.items.items
+    (kept g.M.P.Pages.told _ _ c.in_ok-items.ensures.origin c.in_ok-items.ensures.region.class_below c.in_ok-heap.ensures.first) c.in_ok-items.ensures.region c.in_ok-items.ensures.ran c.in_ok-closed.ensures

@@ -8,5 +8,5 @@ pub returns-clause-inside : goal.returns-clause-inside
 returns-clause-inside g c =
     c.in_ok-set.ensures.inside c.requires.inside
     (subst (λ (o : Option ℕ). IfSome o IsInside) (sym c.given.ensures)
-    (given_inside g.P.Pages.told g.P.Pages.runs g.P.Pages.faults _ _ _ c.args.size c.in_ok-reply.reply
-    (kept _ _ c.allot.ensures.name c.requires.first) c.allot.ensures.region c.in_ok-reply.ensures.added))
+    (given_inside g.P.Pages c.args.heap.now c.allot.new.self _ c.args.size c.in_ok-reply.reply
+    (kept g.P.Pages.told _ _ c.allot.ensures.origin c.allot.ensures.region.class_below c.requires.first) c.allot.ensures.region c.in_ok-reply.ensures.added))

@@ -12,7 +12,7 @@ use Rattle.hmreplay.proofs.Pushed.{passes_at, pushed}
 use Rattle.hmreplay.proofs.script.run_steps.Goals as goal
 
 pub run_step-requires-clause-first : goal.run_step-requires-clause-first
-run_step-requires-clause-first g c = λ lifetimes known. kept _ _ c.loop-index.invariant.name c.requires.first
+run_step-requires-clause-first g c = λ lifetimes known. kept g.P.Pages.told _ _ c.loop-index.invariant.origin c.loop-index.invariant.region.class_below c.requires.first
 
 pub run_step-requires-clause-built : goal.run_step-requires-clause-built
 run_step-requires-clause-built g c = λ lifetimes known.
@@ -47,10 +47,5 @@ loop-index-preserved g c =
       );
       inside = c.in_ok-result.ensures.inside;
       region = c.run_step.ensures.region;
-      name = record {
-        config = c.run_step.ensures.name.config ∙ old.name.config;
-        number = c.run_step.ensures.name.number ∙ old.name.number;
-        arena = c.run_step.ensures.name.arena ∙ old.name.arena;
-        class = c.run_step.ensures.name.class ∙ old.name.class;
-      };
+      origin = c.run_step.ensures.origin ∙ old.origin;
     }

@@ -1,11 +1,13 @@
-use Rattle.std.proofs.Common.{◌≡◌, ◌∙◌, List, [], ◌∷◌, ◌++◌, ap, refl, subst, sym, arith}
+use Rattle.std.proofs.Common.{◌≡◌, ◌∙◌, List, [], ◌∷◌, ◌++◌, ℕ, Option, ap, refl, subst, sym, arith}
 use Rattle.hm_model.specs.declared.entry.Call.TheVariants as call
 use Rattle.hm_model.specs.declared.entry.Entry.{Entry}
 use Rattle.hm_model.specs.declared.entry.Reply.{Reply}
 use Rattle.hm_model.specs.Calls.{no_choices, entry_of, no_words}
 use Rattle.hm_model.specs.Replies.{IsFetchReply}
+use Rattle.hm_class.specs.Access.{trap_in}
+use Rattle.hm_class.specs.Calls.{ReplyTraps, TrapsIn}
 use Rattle.hm_class.specs.Kept.{IsKept}
-use Rattle.hm_class.proofs.Entries.{kept_fetched, added_of, appended, region_of, fetch_reply}
+use Rattle.hm_class.proofs.Entries.{kept_fetched, added_of, appended, region_of, fetch_reply, fetch_traps, trap_of_region}
 use Rattle.hm_class.proofs.heap.ClassHeap.fetch.Goals as goal
 
 pub invariant_of-self-2 : goal.invariant_of-self-2
@@ -54,3 +56,11 @@ pub returns-clause-replies : goal.returns-clause-replies
 returns-clause-replies g c =
     subst (λ (r : Reply). IsFetchReply c.args.addr c.args.len r) c.in_ok-reply.ensures.0
     (fetch_reply c.args.addr c.args.len c.in_ok-fetched.fetched c.in_ok-reply.reply c.in_ok-fetched.ensures.within c.in_ok-reply.ensures.1)
+
+pub returns-clause-trap : goal.returns-clause-trap
+returns-clause-trap g c =
+    let h = c.self.inside in
+    subst (λ (r : Reply). TrapsIn g.P.Pages.told c.args.self.now c.args.addr c.args.len r) c.in_ok-reply.ensures.0
+    (subst (λ (o : Option ℕ). ReplyTraps o c.args.addr c.in_ok-reply.reply)
+    (trap_of_region g.P.Pages _ c.args.self.now h.shape h.slabs h.stream h.quarantine h.parking.items c.args.addr c.args.len c.self.view_is refl c.self.invariant.0)
+    (fetch_traps (trap_in h.shape h.slabs.slabs.items c.args.addr c.args.len) c.args.addr c.in_ok-fetched.fetched c.in_ok-reply.reply c.in_ok-fetched.ensures.trap c.in_ok-reply.ensures.1))

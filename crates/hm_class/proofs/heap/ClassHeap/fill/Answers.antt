@@ -1,12 +1,14 @@
-use Rattle.std.proofs.Common.{◌≡◌, ◌∙◌, ℕ, Bool, List, [], ◌∷◌, ◌++◌, ap, refl, subst, sym, arith}
+use Rattle.std.proofs.Common.{◌≡◌, ◌∙◌, ℕ, Bool, List, [], ◌∷◌, ◌++◌, length, Option, ap, refl, subst, sym, arith}
 use Rattle.hm_model.specs.declared.entry.Call.TheVariants as call
 use Rattle.hm_model.specs.declared.entry.Entry.{Entry}
 use Rattle.hm_model.specs.declared.entry.Reply.{Reply}
 use Rattle.hm_model.specs.Calls.{no_choices, entry_of, no_words}
+use Rattle.hm_class.specs.Access.{trap_in}
+use Rattle.hm_class.specs.Calls.{ReplyTraps, TrapsIn}
 use Rattle.hm_class.specs.Kept.{IsKept}
 use Rattle.hm_class.specs.Outcomes.{reply_of}
 use Rattle.hm_model.specs.Runs.{expand}
-use Rattle.hm_class.proofs.Entries.{kept_filled, added_of, appended, region_of}
+use Rattle.hm_class.proofs.Entries.{kept_filled, added_of, appended, region_of, fill_traps, trap_of_region}
 use Rattle.hm_class.proofs.heap.ClassHeap.fill.Goals as goal
 
 pub invariant_of-self-2 : goal.invariant_of-self-2
@@ -62,3 +64,14 @@ pub returns-in_err-bytes-clause-region : goal.returns-in_err-bytes-clause-region
 returns-in_err-bytes-clause-region g c = region_of g.P.Pages _ c.self.inside.shape _ _ _ _ refl
     (let h = c.self.inside in subst (λ (l : List Entry). IsKept (g.P.Pages.told h.pages) (g.P.Pages.runs h.pages) (g.P.Pages.faults h.pages) h.config h.number h.arena h.shape l h.slabs h.stream h.quarantine h.parking.items) (sym c.reserve.ensures.items) c.self.invariant.0)
     (omega (arith, c.self.invariant.1, c.reserve.ensures.len, c.reserve.ensures.capacity))
+
+pub returns-clause-trap : goal.returns-clause-trap
+returns-clause-trap g c =
+    let h = c.self.inside in
+    let rs : List (ℕ × ℕ) = c.args.runs.now in
+    let bytes : c.deref.result.now ≡ expand rs = c.deref.ensures.value ∙ c.in_ok-bytes.ensures ∙ ap (λ (x : List (ℕ × ℕ)). expand x) c.in_ok-runs.ensures in
+    subst (λ (r : Reply). TrapsIn g.P.Pages.told c.args.self.now c.args.addr (length (expand rs)) r) (sym c.reply.ensures)
+    (subst (λ (o : Option ℕ). ReplyTraps o c.args.addr (reply_of c.fill-outcome.result))
+    (ap (λ (l : List ℕ). trap_in h.shape h.slabs.slabs.items c.args.addr (length l)) bytes
+    ∙ trap_of_region g.P.Pages _ c.args.self.now h.shape h.slabs h.stream h.quarantine h.parking.items c.args.addr (length (expand rs)) c.self.view_is refl c.self.invariant.0)
+    (fill_traps (trap_in h.shape h.slabs.slabs.items c.args.addr (length c.deref.result.now)) c.args.addr c.fill-outcome.result c.fill-outcome.ensures.trap))

@@ -1,5 +1,5 @@
 -- `all` shows the bytes that a `&` to the contents lends. Assumes `Logic`.
-use Rattle.std.proofs.Common.{◌≡◌, ℕ, ◌*◌, ◌<◌, ◌^◌, List, [], ◌∷◌, ◌++◌, length, refl, sym, ap, ◌∙◌, arith, w64}
+use Rattle.std.proofs.Common.{◌≡◌, ℕ, ◌*◌, ◌^◌, List, [], ◌∷◌, ◌++◌, length, refl, ap, ◌∙◌, arith, w64}
 use base.Fraction.{full_share}
 use mir.Syntax.{Fn}
 use mir.Val.{Val, vptr, vint}
@@ -26,7 +26,8 @@ use Rattle.std.proofs.raw_atomic.Walks.{proved_at}
 use Rattle.hm_frames.specs.Ownership.{contents_lent}
 use Rattle.hm_frames.specs.contracts.block.Start as start
 use Rattle.hm_frames.specs.contracts.block.Contents.all as f
-use Rattle.hm_frames.proofs.Memory.{slot_at, start_val, start_told, start_typed}
+use Rattle.linked_list_allocator.proofs.Walks.{slot_at}
+use Rattle.hm_frames.proofs.Memory.{start_val, start_told, start_typed}
 use Rattle.hm_frames.proofs.block.Contents.all.Statement.{statement}
 use Rattle.hm_frames.proofs.block.Contents.all.Code as code
 

@@ -1,5 +1,5 @@
 -- `part_mut` lends a part of the bytes, and the contents follow it. Assumes `Logic`.
-use Rattle.std.proofs.Common.{◌≡◌, ℕ, ◌+◌, ◌*◌, ◌<◌, ◌≤◌, ◌^◌, List, [], ◌∷◌, ◌++◌, length, take, refl, sym, ap, subst, ◌∙◌, arith, w64}
+use Rattle.std.proofs.Common.{◌≡◌, ℕ, ◌+◌, ◌*◌, ◌<◌, ◌≤◌, ◌^◌, List, [], ◌∷◌, ◌++◌, length, take, refl, sym, ap, ◌∙◌, arith, w64}
 use Rattle.std.proofs.Common.{drop as drop_l}
 use Rattle.std.proofs.lemmas.List.{length-append, length-take, length-drop}
 use Rattle.std.specs.List.{refill}
@@ -15,7 +15,7 @@ use types.Logic.{Logic, sem}
 use types.SemTy.{cells}
 use contract.Monad.{fact}
 use contract.Running.{tables}
-use types.Kit.{‵, raw, ◌⊛◌, some, later, await, pick, prop, at_ret, ◌$◌, ◌∵◌, !, qed, by, move, keep, drop, use1, use2, split, join, group, frame, regoal, rewrite, fsplit, fsplit3, fjoin, fpack, flt_l, flt_i, suffices, done}
+use types.Kit.{‵, raw, ◌⊛◌, some, later, await, pick, prop, at_ret, ◌$◌, ◌∵◌, !, qed, move, keep, drop, use1, use2, split, join, group, frame, regoal, rewrite, fsplit, fsplit3, fjoin, fpack, flt_l, flt_i, suffices, done}
 use types.Part.{whole, sub, agg}
 use types.Run.{stop, fld, bin, of_opd, and_then, no_more, first, blocks, exec, returns, enter}
 use types.ByLocal.{alloc_all, pass_all, free_all, look_at, get, get_in, sets, sets_last, take_at, give_at, env}
@@ -41,7 +41,8 @@ use Rattle.hm_frames.specs.ContentsLends.{with_bytes}
 use Rattle.hm_frames.specs.contracts.block.Contents as contents
 use Rattle.hm_frames.specs.contracts.block.Start as start
 use Rattle.hm_frames.specs.contracts.block.Contents.part_mut as f
-use Rattle.hm_frames.proofs.Memory.{slot_at, start_val, start_told, start_typed, contents_own_val, Around, part_out, part_in, as_cells, of_cells}
+use Rattle.linked_list_allocator.proofs.Walks.{slot_at}
+use Rattle.hm_frames.proofs.Memory.{start_val, start_told, start_typed, contents_own_val, Around, part_out, part_in, as_cells, of_cells}
 use Rattle.hm_frames.proofs.block.Contents.part_mut.Statement.{statement}
 use Rattle.hm_frames.proofs.block.Contents.part_mut.Code as code
 

@@ -1,11 +1,11 @@
 -- `push` takes the room of one byte, writes it, and glues it to the bytes before it. Assumes `Logic`.
-use Rattle.std.proofs.Common.{◌≡◌, ℕ, suc, ◌+◌, ◌-◌, ◌<◌, ◌^◌, List, [], ◌∷◌, ◌++◌, length, refl, sym, ap, ◌∙◌, arith, w8, w64}
+use Rattle.std.proofs.Common.{◌≡◌, ℕ, suc, ◌+◌, ◌-◌, ◌<◌, ◌^◌, List, [], ◌∷◌, ◌++◌, length, refl, sym, ◌∙◌, arith, w8, w64}
 use Rattle.std.proofs.lemmas.List.{length-append}
 use base.Fraction.{full_share}
 use mir.Syntax.{Fn, ty_int}
 use mir.Val.{Val, vptr, vint, vunit}
 use base.Logic.{SProp, id⊢, never}
-use base.Fml.{Lft, Share, GName, ftrue, fat, froom, flft}
+use base.Fml.{Lft, Share, ftrue, fat, froom, flft}
 use prog.Wp.{Env, WpFn}
 use contract.Monad.{fact}
 use contract.Running.{tables}
@@ -30,7 +30,8 @@ use Rattle.hm_frames.specs.Ownership.{bytes_type, contents_own}
 use Rattle.hm_frames.specs.contracts.block.Contents as contents
 use Rattle.hm_frames.specs.contracts.block.Start as start
 use Rattle.hm_frames.specs.contracts.block.Contents.push as f
-use Rattle.hm_frames.proofs.Memory.{slot_at, start_val, start_told, start_typed}
+use Rattle.linked_list_allocator.proofs.Walks.{slot_at}
+use Rattle.hm_frames.proofs.Memory.{start_val, start_told, start_typed}
 use Rattle.hm_frames.proofs.block.Contents.push.Statement.{statement}
 use Rattle.hm_frames.proofs.block.Contents.push.Code as code
 

@@ -1,5 +1,4 @@
-use Rattle.std.proofs.Common.{◌+◌, ◌≤◌, length, take, drop, sym, ap, subst, refl, ◌∙◌, List, ℕ}
-use Rattle.hm_frames.specs.Part.{with_part}
+use Rattle.std.proofs.Common.{◌+◌, ◌≤◌, length, sym, subst, ◌∙◌, List, ℕ}
 use Rattle.hm_frames.proofs.Parts.{with_part_length}
 use Rattle.hm_frames.proofs.page_run.PageRun.part_mut.Goals as goal
 

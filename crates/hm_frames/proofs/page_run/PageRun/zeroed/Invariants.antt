@@ -1,4 +1,4 @@
-use Rattle.std.proofs.Common.{◌≡◌, ℕ, ◌+◌, replicate}
+use Rattle.std.proofs.Common.{◌≡◌, ◌+◌, replicate}
 use Rattle.hm_frames.proofs.page_run.PageRun.zeroed.Given as goal
 
 abbrev pub invariant-loop-i : goal.invariant-loop-i

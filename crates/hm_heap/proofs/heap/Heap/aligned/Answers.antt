@@ -1,13 +1,13 @@
-use Rattle.std.proofs.Common.{◌≡◌, refl, subst}
+use Rattle.std.proofs.Common.{subst}
 use Rattle.hm_model.specs.declared.answer.Answer.TheVariants.{BadAlignment}
 use Rattle.hm_sizes.specs.Aligned.{AlignedGives}
 use Rattle.hm_heap.specs.Plans.{Done}
-use Rattle.hm_heap.proofs.Answering.{no_alignment_plan}
+use Rattle.hm_heap.proofs.Answering.{answers_at_once, no_alignment_plan}
 use Rattle.hm_heap.proofs.heap.Heap.aligned.Goals as goal
 
 pub returns-in-None-clause-answer : goal.returns-in-None-clause-answer
 returns-in-None-clause-answer g c = record {
   plan = Done BadAlignment;
   is = no_alignment_plan _ _ c.args.align c.args.asked (subst (AlignedGives c.args.asked c.args.align) c.in-None.is c.class_aligned.ensures);
-  follows = (refl, refl);
+  follows = answers_at_once c.args.pass.now c.args.step BadAlignment;
 }

@@ -1,4 +1,4 @@
-use Rattle.std.proofs.Common.{◌≡◌, ℕ, ◌+◌, sym, subst, arith, rules}
+use Rattle.std.proofs.Common.{ℕ, sym, subst, arith}
 use Rattle.hm_heap.specs.Founds.{IsFounded}
 use Rattle.hm_heap.proofs.Founding.{region_class, builds_more, built_all, built_locks, built_of, built_founds, built_pass}
 use Rattle.hm_heap.proofs.heap.Heap.build.Goals as goal

@@ -1,4 +1,4 @@
-use Rattle.std.proofs.Common.{◌≡◌, sym, subst}
+use Rattle.std.proofs.Common.{sym, subst}
 use Rattle.hm_heap.specs.Closes.{Closes}
 use Rattle.hm_heap.specs.Passes.{HeapView, PassView, AreOf}
 use Rattle.hm_heap.proofs.Closing.{closes_heap}

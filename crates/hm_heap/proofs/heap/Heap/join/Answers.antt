@@ -1,5 +1,4 @@
-use Rattle.std.proofs.Common.{◌≡◌, ◌∙◌, ◌≤◌, sym, subst, length, arith}
-use Rattle.hm_heap.specs.Passes.{AllHave, IsPass, all_met}
+use Rattle.std.proofs.Common.{◌≡◌, length, arith}
 use Rattle.hm_heap.proofs.Splitting.{pass_met}
 use Rattle.hm_heap.proofs.heap.Heap.join.Goals as goal
 

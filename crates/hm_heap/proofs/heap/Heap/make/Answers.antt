@@ -1,4 +1,4 @@
-use Rattle.std.proofs.Common.{◌≡◌, ◌<◌, length, arith, subst}
+use Rattle.std.proofs.Common.{arith, subst}
 use Rattle.hm_heap.specs.Passes.{AreOf}
 use Rattle.hm_heap.specs.Requests.{call_of}
 use Rattle.hm_heap.proofs.Placing.{called_stays, pass_set, of_set}

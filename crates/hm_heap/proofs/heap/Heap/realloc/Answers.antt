@@ -1,10 +1,10 @@
-use Rattle.std.proofs.Common.{◌≡◌, ◌==◌, ◌∙◌, ℕ, false, None, Some, refl, sym, ap, arith}
+use Rattle.std.proofs.Common.{◌≡◌, ◌==◌, ◌∙◌, ℕ, false, None, Some, sym, ap, arith}
 use Rattle.hm_model.specs.declared.answer.Answer.TheVariants.{TooLarge, Outside}
 use Rattle.hm_sizes.specs.declared.config.Config.{Config}
 use Rattle.hm_heap.specs.Passes.{HeapView, PassView}
 use Rattle.hm_heap.specs.Plans.{Done}
 use Rattle.hm_heap.specs.Calls.{place_for, home_place, moving_plan}
-use Rattle.hm_heap.proofs.Answering.{too_large, moves}
+use Rattle.hm_heap.proofs.Answering.{answers_at_once, too_large, moves}
 use Rattle.hm_heap.proofs.heap.Heap.realloc.Goals as goal
 
 pub returns-in_default-clause-answer : goal.returns-in_default-clause-answer
@@ -20,7 +20,7 @@ returns-in_default-clause-answer g c =
     record {
       plan = Done TooLarge;
       is = too_large h.config p.thread a c.args.asked kind c.class_of-kind.ensures (sym c.in_default.is ∙ at);
-      follows = (refl, refl);
+      follows = answers_at_once p c.args.step TooLarge;
     }
 
 pub returns-in-None-clause-answer : goal.returns-in-None-clause-answer
@@ -38,7 +38,7 @@ returns-in-None-clause-answer g c =
     record {
       plan = Done Outside;
       is = moves h.config p.thread a c.args.asked kind c.class_of-kind.ensures c.in-Some.place None (sym c.in-Some.is ∙ at) some (sym c.in-None.is ∙ home);
-      follows = (refl, refl);
+      follows = answers_at_once p c.args.step Outside;
     }
 
 pub returns-in-Some-home_place-clause-answer : goal.returns-in-Some-home_place-clause-answer

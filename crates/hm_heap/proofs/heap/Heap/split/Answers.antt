@@ -1,4 +1,3 @@
-use Rattle.std.proofs.Common.{◌≡◌, arith}
 use Rattle.hm_heap.proofs.Splitting.{pass_born, pass_cut}
 use Rattle.hm_heap.proofs.heap.Heap.split.Goals as goal
 

@@ -1,4 +1,4 @@
-use Rattle.std.proofs.Common.{◌≡◌, sym, subst}
+use Rattle.std.proofs.Common.{sym, subst}
 use Rattle.hm_heap.specs.Lawful.{IsSound}
 use Rattle.hm_heap.specs.Regions.{entries_of, pages_of, origin_of}
 use Rattle.hm_heap.proofs.ClassRegions.{class_sound}
