@@ -14,3 +14,6 @@ pub use env::Env;
 pub use laws::replayed_rounds;
 pub use round::run_round;
 pub use script::run_script;
+
+#[cfg(test)]
+mod tests;
