@@ -9,7 +9,7 @@ use Rattle.hm_trace.specs.declared.names.Name.{Name}
 use Rattle.hm_trace.specs.Names.{is_word}
 use Rattle.hm_trace.specs.Views.{name_view}
 use Rattle.hm_heap.specs.Requests.{IsInReach}
-use Rattle.hm_replay.specs.Names.{Names, with_name, held, AllInReach}
+use Rattle.hm_replay.specs.Names.{with_name, held, AllInReach}
 
 -- a lookup by the order is a lookup by the text
 pub looked : (es : List (Name × ℕ)) (q : List ℕ) → lookup (is_at (λ (n : Name). slice_cmp nat_cmp q (name_view n))) es ≡ held es q

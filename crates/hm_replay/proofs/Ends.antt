@@ -1,9 +1,9 @@
 -- What the first pass knows of the callers after their passes are joined.
-use Rattle.std.proofs.Common.{◌≡◌, ◌≢◌, ℕ, ◌+◌, ◌-◌, ◌<◌, ◌≤◌, ◌⊎◌, Bool, true, false, ◌==◌, List, [], ◌∷◌, ◌++◌, length, slice_index_or, Some, arith, rules, refl, ap, ◌∙◌, sym, subst, suc, zero}
+use Rattle.std.proofs.Common.{◌≡◌, ◌≢◌, ℕ, ◌+◌, ◌<◌, ◌≤◌, ◌⊎◌, List, [], ◌∷◌, length, slice_index_or, Some, arith, refl, ap, ◌∙◌, sym, suc, zero}
 use Rattle.std.proofs.lemmas.Grind.{common_steps}
 use mathlib.Core.Logic.{inl, inr}
 use Rattle.hm_model.specs.declared.entry.Entry.{Entry}
-use Rattle.hm_turn.specs.Known.{Lock, Known, IsOf}
+use Rattle.hm_turn.specs.Known.{Known}
 use Rattle.hm_turn.specs.Callers.{ended_of, is_among}
 use Rattle.hm_heap.specs.Passes.{met, all_met}
 use Rattle.hm_replay.proofs.Turns.{met_index, met_long}

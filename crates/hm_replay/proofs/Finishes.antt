@@ -1,9 +1,8 @@
 -- One more pass is joined.
-use Rattle.std.proofs.Common.{◌≡◌, ℕ, ◌+◌, ◌-◌, ◌<◌, ◌≤◌, List, [], ◌∷◌, ◌++◌, length, length-append, slice_index_or, map, arith, rules, refl, ap, ◌∙◌, sym, subst, suc, append_assoc}
-use Rattle.std.proofs.lemmas.Grind.{common_steps}
+use Rattle.std.proofs.Common.{◌≡◌, ◌-◌, List, [], ◌∷◌, ◌++◌, length-append, slice_index_or, map, arith, ap, ◌∙◌, sym, subst, suc, append_assoc}
 use Rattle.std.proofs.lemmas.List.{append-nil}
 use Rattle.hm_turn.specs.Known.{Lock, Known, IsOf}
-use Rattle.hm_heap.specs.Passes.{PassView, AreOf, AllKnow, met, all_met}
+use Rattle.hm_heap.specs.Passes.{PassView, AreOf, AllKnow, all_met}
 use Rattle.hm_replay.proofs.Turns.{met_index, met_long}
 use Rattle.hm_replay.specs.declared.round.Worker.{Worker}
 use Rattle.hm_replay.specs.Workers.{FinishedTo, FinishingFrom, after_joins}

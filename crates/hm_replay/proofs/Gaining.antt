@@ -1,5 +1,5 @@
 -- What a plan that was followed adds to the own entries, and what it leaves.
-use Rattle.std.proofs.Common.{◌≡◌, ◌≢◌, ℕ, ◌+◌, ◌<◌, ◌==◌, Bool, true, false, cond, List, [], ◌∷◌, ◌++◌, length, map, slice_index_or, slice_set, Result, Ok, Err, append_assoc, refl, sym, ◌∙◌, ap, subst, arith, rules}
+use Rattle.std.proofs.Common.{◌≡◌, ◌≢◌, ℕ, ◌+◌, ◌<◌, ◌==◌, Bool, true, false, cond, List, [], ◌∷◌, ◌++◌, length, map, slice_index_or, slice_set, Result, Ok, Err, append_assoc, refl, sym, ◌∙◌, ap, subst, arith}
 use Rattle.std.specs.Prelude.{MatchResult, IfOk}
 use Rattle.std.proofs.lemmas.Grind.{common_steps}
 use Rattle.std.proofs.lemmas.Bool.{cases_eq}
@@ -17,8 +17,8 @@ use Rattle.hm_turn.specs.Known.{Known}
 use Rattle.hm_heap.specs.Called.{Called, Makes}
 use Rattle.hm_heap.specs.Passes.{PassView}
 use Rattle.hm_heap.specs.Parts.{who_of, HasPart}
-use Rattle.hm_heap.specs.Plans.{Plan, Done, Part, Follows, GoesOn, Serves}
-use Rattle.hm_replay.specs.Uses.{Own, Stay, Takes, TakesPart, Uses}
+use Rattle.hm_heap.specs.Plans.{Plan, Done, Part, Follows, Serves}
+use Rattle.hm_replay.specs.Uses.{Own, Takes, TakesPart, Uses}
 use Rattle.hm_replay.specs.Gains.{mine_of, Gains, Grew, AllGrew}
 use Rattle.hm_replay.specs.Steps.{Answers}
 
@@ -68,10 +68,10 @@ gains_one ts us place u e inside set mine =
       own = one_at place e;
       mine = λ other. elim (cases_eq other place) [
         | inl s ↦
-          subst (λ (n : ℕ). mine_of us n ≡ mine_of ts n ++ one_at place e n) (sym s)
-          (mine_set ts us place u set place ∙ (get_or-set_same mines place u.knows.mine [] long ∙ (mine u ∙ (ap (λ z. z ++ e ∷ []) (sym was) ∙ ap (λ (b : Bool). mine_of ts place ++ cond b (e ∷ []) []) (sym (same_place place))))))
+            subst (λ (n : ℕ). mine_of us n ≡ mine_of ts n ++ one_at place e n) (sym s)
+            (mine_set ts us place u set place ∙ (get_or-set_same mines place u.knows.mine [] long ∙ (mine u ∙ (ap (λ z. z ++ e ∷ []) (sym was) ∙ ap (λ (b : Bool). mine_of ts place ++ cond b (e ∷ []) []) (sym (same_place place))))))
         | inr n ↦
-          mine_set ts us place u set other ∙ (get_or-set_other mines place other u.knows.mine [] n ∙ (sym (append-nil (mine_of ts other)) ∙ ap (λ (b : Bool). mine_of ts other ++ cond b (e ∷ []) []) (sym (other_place other place n))))
+            mine_set ts us place u set other ∙ (get_or-set_other mines place other u.knows.mine [] n ∙ (sym (append-nil (mine_of ts other)) ∙ ap (λ (b : Bool). mine_of ts other ++ cond b (e ∷ []) []) (sym (other_place other place n))))
       ];
       is = λ left. record {
         here = ap (λ (b : Bool). cond b (e ∷ []) [] ++ left place) (same_place place);

@@ -1,14 +1,13 @@
 -- One more step's name is merged.
-use Rattle.std.proofs.Common.{◌≡◌, ℕ, ◌+◌, ◌<◌, ◌≤◌, ◌||◌, zero, suc, Bool, true, false, cond, add-one, List, [], ◌∷◌, ◌++◌, length, take, get_or, Option, Some, None, refl, sym, ◌∙◌, ap, subst, arith}
+use Rattle.std.proofs.Common.{◌≡◌, ℕ, ◌+◌, ◌<◌, ◌||◌, Bool, true, false, cond, List, [], ◌∷◌, ◌++◌, length, take, get_or, Option, Some, None, refl, sym, ◌∙◌, ap, arith}
 use Rattle.std.specs.List.{list_any}
 use Rattle.std.specs.Cmp.Lexicographic.{same_text}
 use Rattle.std.proofs.lemmas.List.{take_more, map-append}
 use Rattle.std.proofs.lemmas.List.Folds.{list_any-append}
-use Rattle.hm_trace.specs.declared.names.Name.{Name}
 use Rattle.hm_trace.specs.declared.step.Step.{Step}
 use Rattle.hm_trace.specs.Names.{is_word}
 use Rattle.hm_trace.specs.Traces.{name_set, sets_name}
-use Rattle.hm_trace.specs.Views.{name_view, StepView, ScriptView, step_view, steps_view}
+use Rattle.hm_trace.specs.Views.{StepView, step_view, steps_view}
 use Rattle.hm_replay.specs.Names.{Names, held, settled, with_name}
 use Rattle.hm_replay.specs.declared.round.Worker.{Worker}
 use Rattle.hm_replay.specs.Workers.{all_settled}
@@ -37,6 +36,7 @@ placed names last steps s q None is = ap (λ (b : Bool). cond b (last q) (names 
   where
     none : list_any (sets_name q) (s ∷ []) ≡ false
     none = grind (arith, is)
+
     or_false : (b : Bool) → (b || false) ≡ b
     or_false true = refl
     or_false false = refl

@@ -1,5 +1,5 @@
 -- Rounds one after another.
-use Rattle.std.proofs.Common.{◌≡◌, ◌≢◌, ℕ, ◌+◌, ◌-◌, ◌<◌, ◌≤◌, ◌⊎◌, Bool, true, false, ◌==◌, cond, List, [], ◌∷◌, ◌++◌, append_assoc, length, slice_index_or, map, Option, Some, None, arith, rules, refl, ap, ◌∙◌, sym, subst, zero, suc}
+use Rattle.std.proofs.Common.{◌≡◌, ◌≢◌, ℕ, ◌+◌, ◌<◌, ◌≤◌, false, List, [], ◌∷◌, ◌++◌, append_assoc, length, slice_index_or, Option, Some, None, arith, refl, ap, ◌∙◌, sym, subst, zero, suc}
 use Rattle.std.proofs.lemmas.Grind.{common_steps}
 use Rattle.std.proofs.lemmas.Bool.{cases_lt}
 use Rattle.std.proofs.lemmas.List.{append-nil}
@@ -15,13 +15,11 @@ use Rattle.hm_turn.specs.Known.{Lock, Known, KnowsCallers, IsWhole}
 use Rattle.hm_heap.specs.declared.close.History.{History}
 use Rattle.hm_heap.specs.Founds.{Founds}
 use Rattle.hm_heap.specs.Passes.{PassView}
-use Rattle.hm_replay.specs.Gains.{mine_of}
 use Rattle.hm_replay.specs.Names.{Names, no_names, settled}
-use Rattle.hm_replay.specs.RoundOf.{calls_in, ended_in, IsGathered, Stays, SeesMore, LeavesRoot}
-use Rattle.hm_replay.specs.Rounds.{RunsScript, RunsRound, RunsNext, RunsRounds, AreOfCallers, InRounds, script_count, own_in}
+use Rattle.hm_replay.specs.RoundOf.{calls_in, ended_in, LeavesRoot}
+use Rattle.hm_replay.specs.Rounds.{RunsRound, RunsRounds, AreOfCallers, InRounds, script_count, own_in}
 use Rattle.hm_replay.specs.Replays.{HasReplayed, AreReplayed}
 use Rattle.hm_replay.specs.Scripts.{IsRun}
-use Rattle.hm_replay.specs.Steps.{Terms}
 use Rattle.hm_replay.specs.Uses.{Own}
 use Rattle.hm_replay.proofs.Gaining.{ext}
 use Rattle.hm_replay.proofs.Order.{no_more, calls_append}
@@ -91,6 +89,7 @@ rounds_more c own caller round names between last (r ∷ rounds) scripts results
   where
     callers : (a b d : ℕ) → a + (b + d) ≡ a + b + d
     callers a b d = omega arith
+
     next : (n k : ℕ) → n + suc k ≡ n + 1 + k
     next n k = omega arith
 
@@ -100,9 +99,13 @@ seen_more caller [] scripts es more seen of =
   where
     here : (n : ℕ) → n + 0 ≡ n
     here n = omega arith
-seen_more caller (r ∷ rounds) scripts es more seen of =
-    (seen.0, seen.1 ++ more, ap (λ (l : List Entry). l ++ more) seen.2 ∙ append_assoc seen.0 seen.1 more, seen.3,
-      seen_more (caller + length r) rounds scripts seen.1 more seen.4 (subst (λ (k : ℕ). AreOfCallers k (length scripts) more) (callers caller (length r) (script_count rounds)) of))
+seen_more caller (r ∷ rounds) scripts es more seen of = (
+  seen.0,
+  seen.1 ++ more,
+  ap (λ (l : List Entry). l ++ more) seen.2 ∙ append_assoc seen.0 seen.1 more,
+  seen.3,
+  seen_more (caller + length r) rounds scripts seen.1 more seen.4 (subst (λ (k : ℕ). AreOfCallers k (length scripts) more) (callers caller (length r) (script_count rounds)) of),
+)
   where
     callers : (a b d : ℕ) → a + (b + d) ≡ a + b + d
     callers a b d = omega arith
@@ -152,6 +155,7 @@ new_replays c locks p long founds none = record {
   where
     origin : (r : ℕ) (t : Known) → r < length p.turns → List ℕ
     origin r t l = (slice_index_or locks r (record { id = t.lock; origin = [] })).origin
+
     knows : (r : ℕ) (t : Known) (l : r < length p.turns) → (slice_index_or p.turns r t).knows ≡ founding (slice_index_or locks r (record { id = t.lock; origin = [] })).origin
     knows r t l = founds r (record { id = t.lock; origin = [] }) t (omega (arith, l, long))
 
@@ -201,12 +205,12 @@ replays_close c p hs rounds results last h long whole = record {
         → k ≢ 0 → ended_in p.turns k ≡ own_in hs k
     own_is p hs k long whole some = ext (ended_in p.turns k) (own_in hs k) (λ r. elim (cases_lt r (length p.turns)) [
       | inl l ↦
-        let t : Known = some_of p.turns r l in
-        let l' : r < length hs = omega (arith, l, long) in
-        let x : History = some_of hs r l' in
-        map_index (λ (t : Known). calls_in (ended_of k t.knows.ended)) p.turns r t [] l
-        ∙ (sym (whole_calls (slice_index_or hs r x).entries (slice_index_or p.turns r t).knows k (ended_of k (slice_index_or p.turns r t).knows.ended) some (whole r t x l) refl)
-        ∙ ap (λ (es : List Entry). calls_of es k) (sym (map_index (λ (h : History). h.entries) hs r x [] l')))
+          let t : Known = some_of p.turns r l in
+          let l' : r < length hs = omega (arith, l, long) in
+          let x : History = some_of hs r l' in
+          map_index (λ (t : Known). calls_in (ended_of k t.knows.ended)) p.turns r t [] l
+          ∙ (sym (whole_calls (slice_index_or hs r x).entries (slice_index_or p.turns r t).knows k (ended_of k (slice_index_or p.turns r t).knows.ended) some (whole r t x l) refl)
+          ∙ ap (λ (es : List Entry). calls_of es k) (sym (map_index (λ (h : History). h.entries) hs r x [] l')))
       | inr l ↦ map_past (λ (t : Known). calls_in (ended_of k t.knows.ended)) p.turns r [] l
-        ∙ ap (λ (es : List Entry). calls_of es k) (sym (map_past (λ (h : History). h.entries) hs r [] (omega (arith, l, long))))
+          ∙ ap (λ (es : List Entry). calls_of es k) (sym (map_past (λ (h : History). h.entries) hs r [] (omega (arith, l, long))))
     ])

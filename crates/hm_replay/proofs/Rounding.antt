@@ -1,5 +1,5 @@
 -- A whole round.
-use Rattle.std.proofs.Common.{◌≡◌, ◌≢◌, ℕ, ◌+◌, ◌-◌, ◌<◌, ◌≤◌, ◌⊎◌, Bool, true, false, ◌==◌, cond, List, [], ◌∷◌, ◌++◌, length, slice_index_or, map, Option, Some, None, IfSome, Result, Ok, Err, IfOk, arith, rules, refl, ap, ◌∙◌, sym, subst, zero, suc}
+use Rattle.std.proofs.Common.{◌≡◌, ◌≢◌, ℕ, ◌+◌, ◌-◌, ◌<◌, ◌≤◌, ◌⊎◌, Bool, true, false, ◌==◌, cond, List, [], ◌∷◌, length, slice_index_or, map, Option, Some, None, IfSome, Result, Ok, Err, IfOk, arith, refl, ap, ◌∙◌, sym, subst, zero, suc}
 use Rattle.std.proofs.lemmas.Grind.{common_steps}
 use Rattle.std.proofs.lemmas.Bool.{cases_lt}
 use Rattle.std.proofs.lemmas.List.{append-nil, length-map}
@@ -18,14 +18,13 @@ use Rattle.hm_turn.specs.Knowledge.{Knowledge}
 use Rattle.hm_turn.specs.Known.{Lock, Known, KnowsCallers}
 use Rattle.hm_heap.specs.Passes.{PassView, AreOf, AllKnow}
 use Rattle.hm_replay.specs.declared.round.Worker.{Worker}
-use Rattle.hm_replay.specs.Gains.{mine_of, AllGrew}
+use Rattle.hm_replay.specs.Gains.{mine_of}
 use Rattle.hm_replay.specs.Names.{Names, held, settled}
 use Rattle.hm_replay.specs.RoundOf.{calls_in, ended_in, IsGathered, Stays, SeesMore, AllSeeMore, LeavesRoot}
-use Rattle.hm_replay.specs.Rounds.{AreOfCallers, RunsRound, RunsScript}
+use Rattle.hm_replay.specs.Rounds.{AreOfCallers, RunsRound}
 use Rattle.hm_replay.specs.Scripts.{IsRun}
-use Rattle.hm_replay.specs.Steps.{Terms}
 use Rattle.hm_replay.specs.Uses.{Own}
-use Rattle.hm_replay.specs.Workers.{AllCalledBy, IsReady, HasRun, HasMade, HasCut, HasParted, IsStarted, FinishedTo, after_joins, all_settled}
+use Rattle.hm_replay.specs.Workers.{AllCalledBy, HasRun, HasMade, HasParted, IsStarted, FinishedTo, after_joins, all_settled}
 use Rattle.hm_replay.proofs.Ends.{InOrder, keeps, knows, used_stays, own_stays}
 use Rattle.hm_replay.proofs.Gaining.{ext, starts_itself, starts_trans}
 use Rattle.hm_replay.proofs.Order.{joins_start, no_more, calls_append}
@@ -123,6 +122,7 @@ whole result_of locks p q z ws rs a i o s f = record {
     idle_joins : (ts : List Known) (ws : List Worker) (r : ℕ) (t : Known) → length ws ≡ 0 → (slice_index_or (after_joins ts ws) r t).knows.seen ≡ (slice_index_or ts r t).knows.seen
     idle_joins ts [] r t none = refl
     idle_joins ts (w ∷ ws) r t none = absurd (omega (arith, none))
+
     these_end : (count r first c : ℕ) (ts : List Known) (ws : List Worker) (t : Known) → length ts ≡ count → r < count → InOrder count r first ws → first ≤ c → c < first + length ws
         → (calls : List Entry) × (ended_of c (slice_index_or (after_joins ts ws) r t).knows.ended ≡ Some calls)
     these_end count r first c ts [] t n b o l k = absurd (omega (arith, l, k))
@@ -144,9 +144,11 @@ of_callers first count (e ∷ es) none =
   where
     has_one : (e : Entry) (es : List Entry) → calls_of (e ∷ es) e.who.caller ≡ [] → ⊥
     has_one e es h = grind (arith, common_steps, h)
+
     rest_by : (b : Bool) (e : Entry) (xs : List Entry) → cond b (e ∷ xs) xs ≡ [] → xs ≡ []
     rest_by true e xs h = absurd cc
     rest_by false e xs h = h
+
     rest_none : (e : Entry) (es : List Entry) (d : ℕ) → calls_of (e ∷ es) d ≡ [] → calls_of es d ≡ []
     rest_none e es d h = rest_by (e.who.caller == d) e (calls_of es d) h
 
@@ -199,10 +201,10 @@ gathered locks count p z h g = record {
   knows = λ r t l. elim (cases_lt 0 count) [
     | inl some ↦ h.knows some r t l
     | inr none ↦
-      let j = h.each r t (omega (arith, l, h.of_after.same)) in
-      knows_still (slice_index_or p.turns r t).knows (slice_index_or z.turns r t).knows (j.idle (omega (arith, none))) j.mine j.caller
-      (λ c. j.used c (outside_none (p.splits + 1) count c none)) (λ c. j.others c (outside_none (p.splits + 1) count c none))
-      (g.knows r t (omega (arith, l, h.of_after.same, h.of.same)))
+        let j = h.each r t (omega (arith, l, h.of_after.same)) in
+        knows_still (slice_index_or p.turns r t).knows (slice_index_or z.turns r t).knows (j.idle (omega (arith, none))) j.mine j.caller
+        (λ c. j.used c (outside_none (p.splits + 1) count c none)) (λ c. j.others c (outside_none (p.splits + 1) count c none))
+        (g.knows r t (omega (arith, l, h.of_after.same, h.of.same)))
   ];
   joined = λ r c t l free.
       let j = h.each r t (omega (arith, l, h.of_after.same)) in
@@ -305,12 +307,12 @@ ended_is result_of locks p q z vs rs i w a o f l =
     let long' : length z.turns ≡ length locks = f.of.same in
     ext (mine_of us) (ended_in z.turns c) (λ r. elim (cases_lt r (length locks)) [
       | inl b ↦
-        let t : Known = first_of us r (omega (arith, b, long)) in
-        let u : slice_index_or z.turns r t ≡ slice_index_or (after_joins q.turns vs) r t = ap (λ (h : PassView). slice_index_or h.turns r t) f.same in
-        let k = knows (length locks) r (p.splits + 1) i q.turns vs t w a.of.same b (in_order locks (p.splits + 1) r vs o b) l in
-        map_index (λ (y : Known). y.knows.mine) us r t [] (omega (arith, b, long))
-        ∙ sym (map_index (λ (y : Known). calls_in (ended_of c y.knows.ended)) z.turns r t [] (omega (arith, b, long'))
-        ∙ ap calls_in (ap (λ (h : Known). ended_of c h.knows.ended) u ∙ k))
+          let t : Known = first_of us r (omega (arith, b, long)) in
+          let u : slice_index_or z.turns r t ≡ slice_index_or (after_joins q.turns vs) r t = ap (λ (h : PassView). slice_index_or h.turns r t) f.same in
+          let k = knows (length locks) r (p.splits + 1) i q.turns vs t w a.of.same b (in_order locks (p.splits + 1) r vs o b) l in
+          map_index (λ (y : Known). y.knows.mine) us r t [] (omega (arith, b, long))
+          ∙ sym (map_index (λ (y : Known). calls_in (ended_of c y.knows.ended)) z.turns r t [] (omega (arith, b, long'))
+          ∙ ap calls_in (ap (λ (h : Known). ended_of c h.knows.ended) u ∙ k))
       | inr b ↦ map_past (λ (y : Known). y.knows.mine) us r [] (omega (arith, b, long)) ∙ sym (map_past (λ (y : Known). calls_in (ended_of c y.knows.ended)) z.turns r [] (omega (arith, b, long')))
     ])
   where

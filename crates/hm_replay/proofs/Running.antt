@@ -12,11 +12,11 @@ use Rattle.hm_turn.specs.Known.{Known}
 use Rattle.hm_heap.specs.Passes.{HeapView, PassView}
 use Rattle.hm_heap.specs.Parts.{who_of}
 use Rattle.hm_replay.specs.Names.{Names}
-use Rattle.hm_replay.specs.Uses.{Own, used_up, Stay}
-use Rattle.hm_replay.specs.Steps.{Terms, who_at, Answers, Calls, skipped, IsStepPlan, Steps, base_of, names_after}
-use Rattle.hm_replay.specs.Scripts.{Goes, Runs, IsRun}
+use Rattle.hm_replay.specs.Uses.{Own, used_up}
+use Rattle.hm_replay.specs.Steps.{Terms, who_at, Answers, skipped, IsStepPlan, Steps, base_of, names_after}
+use Rattle.hm_replay.specs.Scripts.{Runs, IsRun}
 use Rattle.hm_replay.specs.Gains.{Gains, mine_of}
-use Rattle.hm_replay.proofs.Gaining.{ext, gains_as, gains_none, gains_then}
+use Rattle.hm_replay.proofs.Gaining.{ext, gains_as, gains_none}
 
 -- ---- the call of a step
 -- the same step, spelled otherwise

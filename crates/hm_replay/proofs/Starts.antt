@@ -1,11 +1,11 @@
 -- One more pass is split off.
-use Rattle.std.proofs.Common.{◌≡◌, ◌≢◌, ◌⊎◌, ℕ, ◌+◌, ◌<◌, ◌≤◌, List, [], ◌∷◌, ◌++◌, length, length-append, slice_index_or, map, None, arith, rules, refl, ap, ◌∙◌, sym, subst, zero, suc, false}
+use Rattle.std.proofs.Common.{◌≡◌, ◌≢◌, ◌⊎◌, ℕ, ◌+◌, ◌<◌, ◌≤◌, List, [], ◌∷◌, ◌++◌, length, length-append, slice_index_or, map, arith, refl, ap, ◌∙◌, sym, subst, zero, suc}
 use Rattle.std.proofs.lemmas.Grind.{common_steps}
 use Rattle.std.proofs.lemmas.List.{get_or_append_left}
 use Rattle.std.proofs.lemmas.Bool.{cases_lt}
 use Rattle.std.proofs.Math.Seq.{get_or-append_seam}
 use mathlib.Core.Logic.{inl, inr}
-use Rattle.hm_turn.specs.Known.{Lock, Known, IsOf}
+use Rattle.hm_turn.specs.Known.{Lock, Known}
 use Rattle.hm_turn.specs.Callers.{is_among}
 use Rattle.hm_heap.specs.Passes.{PassView, AreOf, cut, born}
 use Rattle.hm_replay.proofs.Turns.{map_index, map_long, of_cut, of_born}

@@ -1,5 +1,5 @@
 -- A call that tries first, and waits only where the turn is held.
-use Rattle.std.proofs.Common.{◌≡◌, ◌==◌, Bool, true, false, cond, ℕ, ◌+◌, ◌<◌, ◌≤◌, List, [], ◌∷◌, ◌++◌, length, map, slice_index_or, slice_set, Option, Some, None, Result, Ok, Err, refl, sym, ◌∙◌, ap, subst, arith, true≢false}
+use Rattle.std.proofs.Common.{◌≡◌, ◌==◌, Bool, true, false, cond, ℕ, ◌<◌, List, [], ◌++◌, length, map, slice_index_or, slice_set, Option, Some, None, Result, Ok, Err, refl, sym, ◌∙◌, ap, subst, arith, true≢false}
 use Rattle.std.specs.Prelude.{IfOk, MatchOption}
 use Rattle.std.proofs.lemmas.Bool.{cases_eq}
 use Rattle.std.proofs.lemmas.List.{append-nil, map-set, length-map, get_or-map, get_or-set_same, get_or-set_other}
@@ -19,7 +19,7 @@ use Rattle.hm_turn.specs.Knowledge.{Knowledge, with_lost}
 use Rattle.hm_turn.specs.Known.{Known}
 use Rattle.hm_heap.specs.Calls.{replied, at_home, home_place, allot_plan, free_plan, IsMallocPlan}
 use Rattle.hm_heap.specs.Passes.{PassView}
-use Rattle.hm_heap.specs.Parts.{who_of, HasPart, HasTried}
+use Rattle.hm_heap.specs.Parts.{who_of, HasTried}
 use Rattle.hm_heap.specs.Plans.{Plan, Done, Part, Follows, GoesOn, Tries}
 use Rattle.hm_replay.specs.Uses.{Own}
 use Rattle.hm_replay.specs.Steps.{Answers}

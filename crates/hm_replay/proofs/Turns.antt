@@ -1,5 +1,5 @@
 -- The turns of a pass after a split or a join of all of them.
-use Rattle.std.proofs.Common.{◌≡◌, ℕ, ◌+◌, ◌<◌, ◌≤◌, List, [], ◌∷◌, length, map, slice_index_or, arith, rules, refl, ap, zero, suc, ◌∙◌, sym, subst}
+use Rattle.std.proofs.Common.{◌≡◌, ℕ, ◌<◌, ◌≤◌, List, [], ◌∷◌, length, map, slice_index_or, arith, refl, ap, zero, suc, ◌∙◌, sym, subst}
 use Rattle.std.proofs.lemmas.Grind.{common_steps}
 use Rattle.hm_turn.specs.Known.{Lock, Known, IsOf}
 use Rattle.hm_heap.specs.Passes.{AreOf, cut, born, met, all_met}

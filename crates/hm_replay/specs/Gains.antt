@@ -1,6 +1,5 @@
 -- What the calls of a pass add to its own entries, and what they leave.
 use Rattle.std.specs.Prelude.{◌≡◌, Bool, true, false, ℕ, ◌++◌, List, [], length, map, slice_index_or}
-use Rattle.hm_model.specs.declared.entry.Entry.{Entry}
 use Rattle.hm_model.specs.declared.answer.Answer.{Answer}
 use Rattle.hm_model.specs.declared.answer.Answer.TheVariants as answer
 use Rattle.hm_turn.specs.Histories.{StartsWith}

@@ -1,7 +1,7 @@
 -- What a round says of the first pass.
 use Rattle.std.specs.Prelude.{◌≡◌, ℕ, ◌+◌, ◌<◌, ◌≤◌, ◌⊎◌, false, List, [], ◌++◌, length, map, slice_index_or, Option, Some, None}
 use Rattle.hm_model.specs.declared.entry.Entry.{Entry}
-use Rattle.hm_turn.specs.Callers.{Ended, is_among, ended_of}
+use Rattle.hm_turn.specs.Callers.{is_among, ended_of}
 use Rattle.hm_turn.specs.Known.{Known}
 use Rattle.hm_heap.specs.Passes.{PassView, AllKnow}
 use Rattle.hm_replay.specs.Gains.{mine_of}

@@ -10,7 +10,6 @@ use Rattle.hm_replay.specs.declared.round.Worker.{Worker}
 use Rattle.hm_replay.specs.Gains.{mine_of, AllGrew}
 use Rattle.hm_replay.specs.Names.{Names, held, settled}
 use Rattle.hm_replay.specs.Scripts.{IsRun}
-use Rattle.hm_replay.specs.Steps.{Terms}
 
 -- ---- one worker
 -- the turns' caller is the pass's

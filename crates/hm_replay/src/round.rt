@@ -53,9 +53,14 @@ fn work<R: Threads + Wait + Sync, P: Pages, G: Gate>(
     ensures run { (i : ℕ) (w : _) → i < length workers.old.items → HasRun heap.now.locks (slice_index_or workers.old.items i w).pass (slice_index_or workers.new.items i w).pass }
     ensures made { (i : ℕ) (w : _) → i < length workers.old.items → IfSome (slice_index_or workers.new.items i w).results (λ rs. HasMade heap.now.config (slice_index_or workers.old.items i w).pass (slice_index_or workers.new.items i w).pass (slice_index_or workers.old.items i w).script.now (held (slice_index_or workers.old.items i w).env) rs (held (slice_index_or workers.new.items i w).env)) }
 {
-    for_each_mut(rt, workers, threads, &|_, w: &mut Worker<'_>|
-        requires { IsReady heap.now.locks w.old.pass w.old.script.now }
-    { w.run(rt, alloc, heap) });
+    for_each_mut(
+        rt,
+        workers,
+        threads,
+        &|_, w: &mut Worker<'_>|
+            requires { IsReady heap.now.locks w.old.pass w.old.script.now }
+        { w.run(rt, alloc, heap) },
+    );
 }
 
 // Splits a pass off for each script, until memory runs out.

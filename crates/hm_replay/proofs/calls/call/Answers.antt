@@ -1,4 +1,4 @@
-use Rattle.std.proofs.Common.{◌≡◌, None, Some}
+use Rattle.std.proofs.Common.{Some}
 use Rattle.hm_heap.specs.Calls.{free_plan, read_plan, usable_plan}
 use Rattle.hm_replay.proofs.Gaining.{follows_is, serves_answer}
 use Rattle.hm_replay.proofs.Running.{respelled}

@@ -1,4 +1,4 @@
-use Rattle.std.proofs.Common.{◌≡◌, ℕ, ◌+◌, ◌≤◌, ◌++◌, List, length, map, Some, vec_capacity}
+use Rattle.std.proofs.Common.{◌≡◌, ◌+◌, ◌≤◌, ◌++◌, length, map, Some, vec_capacity}
 use Rattle.hm_replay.proofs.round.all_found.Given as goal
 
 abbrev pub invariant-loop-one : goal.invariant-loop-one

@@ -1,4 +1,4 @@
-use Rattle.std.proofs.Common.{◌≡◌, ℕ, ◌≤◌, length, vec_len, vec_capacity}
+use Rattle.std.proofs.Common.{◌≤◌, vec_len, vec_capacity}
 use Rattle.hm_replay.specs.Workers.{FinishingFrom}
 use Rattle.hm_replay.proofs.round.finish.Given as goal
 

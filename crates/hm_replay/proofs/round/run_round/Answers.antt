@@ -1,4 +1,4 @@
-use Rattle.std.proofs.Common.{rules, arith, ◌≡◌, ℕ, ◌+◌, ◌<◌, ◌≤◌, List, length, map, slice_index_or, vec_len, Some, subst, sym, ◌∙◌, ap}
+use Rattle.std.proofs.Common.{arith, ◌≡◌, ℕ, ◌+◌, List, length, map, vec_len, subst, sym, ◌∙◌, ap}
 use Rattle.hm_report.specs.declared.results.Results.{Results}
 use Rattle.hm_trace.specs.Views.{ScriptView}
 use Rattle.hm_turn.specs.Known.{Lock}

@@ -1,5 +1,4 @@
-use Rattle.std.proofs.Common.{rules, arith, ◌≡◌, ℕ, ◌<◌, ◌+◌, length, slice_index_or, vec_len, None, subst, sym, ap, ◌∙◌}
-use Rattle.std.proofs.lemmas.Grind.{common_steps}
+use Rattle.std.proofs.Common.{arith, ◌≡◌, ◌<◌, length, slice_index_or, sym, ap, ◌∙◌}
 use Rattle.std.proofs.lemmas.List.{get_or_default}
 use Rattle.hm_trace.specs.Views.{ScriptView}
 use Rattle.hm_replay.specs.Names.{held}
@@ -14,8 +13,7 @@ loop-script-preserved g c =
     let scripts = c.args.scripts.now in
     let d : ScriptView = c.script-item.result in
     let b : k < length scripts = c.loop-script-test.true in
-    let n : length c.loop-script.workers.items ≡ k = grind (arith, i.1.0) in
-    (
+    let n : length c.loop-script.workers.items ≡ k = grind (arith, i.1.0) in (
       rw c.push_reserved.ensures.items (started_more c.args.heap.now.locks c.args.number c.args.root.now c.loop-script.root c.split.new.root scripts (held c.args.env.now) c.loop-script.workers.items _ i.0 h.root
           (grind (arith, h.pass, c.thread.ensures.thread))
           (λ s. c.script-item.is ∙ (get_or_default scripts k d s b ∙ ap (λ m. slice_index_or scripts m s) (sym n)))

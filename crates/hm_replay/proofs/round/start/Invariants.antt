@@ -1,4 +1,4 @@
-use Rattle.std.proofs.Common.{◌≡◌, ℕ, ◌≤◌, length, vec_len, vec_capacity}
+use Rattle.std.proofs.Common.{◌≡◌, ◌≤◌, length, vec_len, vec_capacity}
 use Rattle.hm_replay.specs.Names.{held}
 use Rattle.hm_replay.specs.Workers.{StartedTo}
 use Rattle.hm_replay.proofs.round.start.Given as goal

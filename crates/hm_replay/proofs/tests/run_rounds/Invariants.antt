@@ -1,4 +1,4 @@
-use Rattle.std.proofs.Common.{◌≡◌, ℕ, ◌*◌, ◌≤◌}
+use Rattle.std.proofs.Common.{◌≡◌, ◌*◌, ◌≤◌}
 use Rattle.hm_heap.specs.Passes.{AreOf}
 use Rattle.hm_replay.proofs.tests.run_rounds.Given as goal
 

@@ -1,4 +1,4 @@
-use Rattle.std.proofs.Common.{sym, ap}
+use Rattle.std.proofs.Common.{ap}
 use Rattle.hm_replay.specs.Names.{held}
 use Rattle.hm_replay.proofs.env.Env.build.Goals as goal
 
