@@ -10,3 +10,4 @@ pub mod Starts
 pub mod Merging
 pub mod Rounding
 pub mod Replaying
+pub mod Ascending

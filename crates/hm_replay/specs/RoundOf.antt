@@ -42,7 +42,8 @@ abbrev pub AllSeeMore : ℕ → ℕ → List Known → List Known → Type 0
 AllSeeMore first count ts us = (r : ℕ) (t : Known) → r < length ts
     → SeesMore first count (slice_index_or ts r t).knows.seen (slice_index_or us r t).knows.seen
 
--- what a round of so many scripts leaves of the first pass: all passes that it split off are joined, and no call was made by it
+-- what a round of so many scripts leaves of the first pass: all passes that it split off are joined, and it made no
+-- call itself
 pub record LeavesRoot (count : ℕ) (p q : PassView) : Type 0 where
   pub same : q ≡ record p { splits = q.splits; turns = q.turns }
   pub stays : Stays (p.splits + 1) count p.turns q.turns

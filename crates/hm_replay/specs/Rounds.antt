@@ -25,7 +25,8 @@ pub record RunsScript (t : Terms) (own : Own) (names now : Names) (s : ScriptVie
   pub rest : Rest (settled now s.steps last) later
 
 -- the scripts from this caller on: each begins with the names before the round, and at the end all its names are set
-abbrev pub RunsRound : Config → (ℕ → Own) → ℕ → ℕ → Names → Names → List ScriptView → List Results → Names → Type 0
+abbrev pub RunsRound : Config → (ℕ → Own) → ℕ → ℕ → Names → Names → List ScriptView → List Results → Names
+    → Type 0
 RunsRound c own caller round names now [] results after = (results ≡ []) × (after ≡ now)
 RunsRound c own caller round names now (s ∷ scripts) results after =
     RunsScript (record { config = c; caller = caller; round = round; thread = s.thread }) (own caller) names now s results
@@ -33,8 +34,8 @@ RunsRound c own caller round names now (s ∷ scripts) results after =
 
 -- ---- the rounds of a trace
 -- the round was run with these names, and the rest goes on with the names after it
-pub record RunsNext (c : Config) (own : ℕ → Own) (caller round : ℕ) (names : Names) (scripts : List ScriptView) (results : List Results)
-    (Rest : Names → List Results → Type 0) : Type 0 where
+pub record RunsNext (c : Config) (own : ℕ → Own) (caller round : ℕ) (names : Names) (scripts : List ScriptView)
+    (results : List Results) (Rest : Names → List Results → Type 0) : Type 0 where
   pub these : List Results
   pub later : List Results
   pub results_are : results ≡ these ++ later
@@ -62,11 +63,12 @@ own_in hs caller place = calls_of (slice_index_or (map (λ (h : History). h.entr
 -- each entry is of one of so many callers, from the first on
 abbrev pub AreOfCallers : ℕ → ℕ → List Entry → Type 0
 AreOfCallers first count [] = ⊤
-AreOfCallers first count (e ∷ entries) = (first ≤ e.who.caller) × (e.who.caller < first + count) × AreOfCallers first count entries
+AreOfCallers first count (e ∷ entries) =
+    (first ≤ e.who.caller) × (e.who.caller < first + count) × AreOfCallers first count entries
 
 -- a history falls into one part for each round, one after another: a part has entries of its round's callers alone
 abbrev pub InRounds : ℕ → List (List ScriptView) → List Entry → Type 0
 InRounds caller [] entries = entries ≡ []
 InRounds caller (scripts ∷ rounds) entries =
-    (these : List Entry) × (later : List Entry) × (entries ≡ these ++ later) × AreOfCallers caller (length scripts) these
-    × InRounds (caller + length scripts) rounds later
+    (these : List Entry) × (later : List Entry) × (entries ≡ these ++ later)
+    × AreOfCallers caller (length scripts) these × InRounds (caller + length scripts) rounds later

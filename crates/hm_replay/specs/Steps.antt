@@ -116,4 +116,5 @@ skipped = record { base = 0; answer = None }
 -- the step with this number and its result: where its name is not set it is skipped, and takes nothing
 abbrev pub Steps : Terms → ℕ → StepView → Option ℕ → StepResult → Own → Own → Type 0
 Steps t number step None r xs ys = (r ≡ skipped) × Stay xs ys
-Steps t number step (Some base) r xs ys = Calls (IsStepPlan t.config t.thread step base) (λ part. who_at t number part) base r xs ys
+Steps t number step (Some base) r xs ys =
+    Calls (IsStepPlan t.config t.thread step base) (λ part. who_at t number part) base r xs ys

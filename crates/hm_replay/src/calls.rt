@@ -5,9 +5,8 @@ ghost use Rattle.hm_trace.specs.Traces.{is_step};
 ghost use Rattle.hm_trace.specs.Views.{step_view};
 ghost use Rattle.hm_heap.specs.Calls.{IsMallocPlan, free_plan, write_plan, AnswerInReach};
 ghost use Rattle.hm_heap.specs.Passes.{AreOf};
-ghost use Rattle.hm_heap.specs.Parts.{who_of};
-ghost use Rattle.hm_replay.specs.Gains.{Gains, AllGrew, is_busy};
-ghost use Rattle.hm_replay.specs.Steps.{Answers, IsStepPlan, SetsInReach};
+ghost use Rattle.hm_replay.specs.Gains.{GainsAnswer, AllGrew, is_busy};
+ghost use Rattle.hm_replay.specs.Steps.{IsStepPlan, SetsInReach};
 
 use hm_heap::{Heap, Pass};
 use hm_model::{Answer, Runs};
@@ -35,7 +34,7 @@ fn malloc<R: Wait, P: Pages, G: Gate>(
     ensures same { pass.new ≡ record pass.old { turns = pass.new.turns } }
     ensures of { AreOf heap.now.locks pass.new.turns }
     ensures grew { AllGrew pass.old.turns pass.new.turns }
-    ensures gains { IfOk result (λ a. Gains pass.old.turns pass.new.turns (Answers (IsMallocPlan heap.now.config pass.old.thread size) (λ part. who_of pass.old number part) a)) }
+    ensures gains { IfOk result (GainsAnswer (IsMallocPlan heap.now.config pass.old.thread size) pass.old pass.new number) }
     ensures reach { IfOk result AnswerInReach }
 {
     let tried = heap.try_malloc(pass, number, size)?;
@@ -57,7 +56,7 @@ fn free<R: Wait, P: Pages, G: Gate>(
     ensures same { pass.new ≡ record pass.old { turns = pass.new.turns } }
     ensures of { AreOf heap.now.locks pass.new.turns }
     ensures grew { AllGrew pass.old.turns pass.new.turns }
-    ensures gains { IfOk result (λ a. Gains pass.old.turns pass.new.turns (Answers (λ plan. plan ≡ free_plan heap.now.config addr None) (λ part. who_of pass.old number part) a)) }
+    ensures gains { IfOk result (GainsAnswer (λ plan. plan ≡ free_plan heap.now.config addr None) pass.old pass.new number) }
 {
     let tried = heap.try_free(pass, number, addr)?;
     if is_busy(&tried) {
@@ -83,7 +82,7 @@ fn write<R: Wait, P: Pages, G: Gate>(
     ensures same { pass.new ≡ record pass.old { turns = pass.new.turns } }
     ensures of { AreOf heap.now.locks pass.new.turns }
     ensures grew { AllGrew pass.old.turns pass.new.turns }
-    ensures gains { IfOk result (λ a. Gains pass.old.turns pass.new.turns (Answers (λ plan. plan ≡ write_plan heap.now.config addr (same_runs byte len)) (λ part. who_of pass.old number part) a)) }
+    ensures gains { IfOk result (GainsAnswer (λ plan. plan ≡ write_plan heap.now.config addr (same_runs byte len)) pass.old pass.new number) }
 {
     let runs = Runs::same(alloc, byte, len)?;
     heap.write(rt, pass, number, addr, &runs)
@@ -105,7 +104,7 @@ pub(crate) fn call<R: Wait, P: Pages, G: Gate>(
     ensures same { pass.new ≡ record pass.old { turns = pass.new.turns } }
     ensures of { AreOf heap.now.locks pass.new.turns }
     ensures grew { AllGrew pass.old.turns pass.new.turns }
-    ensures gains { IfOk result (λ a. Gains pass.old.turns pass.new.turns (Answers (IsStepPlan heap.now.config pass.old.thread (step_view step.now) base) (λ part. who_of pass.old number part) a)) }
+    ensures gains { IfOk result (GainsAnswer (IsStepPlan heap.now.config pass.old.thread (step_view step.now) base) pass.old pass.new number) }
     ensures reach { IfOk result (SetsInReach (step_view step.now)) }
 {
     match step {

@@ -1,10 +1,12 @@
 //! Laws of rounds one after another on a new heap. The function does nothing of its own: its contract is the
 //! laws.
-ghost use Rattle.hm_replay.specs.Replays.{NewReplays, RoundsGoOn, ReplaysClose};
+ghost use Rattle.hm_replay.specs.Replays.{NewReplays, RoundsGoOn, ReplaysClose, ResultsAscend};
 
-/// What is known of the first pass after some rounds, and of the histories when the heap is closed.
+/// What is known of the first pass after some rounds, and of the histories when the heap is closed; and that
+/// the results stand in the order of a report.
 pub fn replayed_rounds()
     ensures first { NewReplays }
     ensures more { RoundsGoOn }
     ensures closed { ReplaysClose }
+    ensures order { ResultsAscend }
 {}

@@ -4,7 +4,7 @@ ghost use Rattle.hm_heap.specs.Passes.{AreOf};
 ghost use Rattle.hm_replay.specs.Names.{held};
 ghost use Rattle.hm_replay.specs.RoundOf.{LeavesRoot, ended_in};
 ghost use Rattle.hm_replay.specs.Rounds.{RunsRound};
-ghost use Rattle.hm_replay.specs.Workers.{IsReady, HasRun, HasMade, HasParted, IsStarted, FinishedTo, all_settled};
+ghost use Rattle.hm_replay.specs.Workers.{IsReady, HasRun, KeepsMade, HasParted, IsBegun, FinishedTo, all_settled};
 
 use crate::env::Env;
 use crate::merge::merge;
@@ -31,7 +31,7 @@ impl<'s> Worker<'s> {
         requires { IsReady heap.now.locks self.old.pass self.old.script.now }
         ensures script { self.new.script ≡ self.old.script }
         ensures run { HasRun heap.now.locks self.old.pass self.new.pass }
-        ensures made { IfSome self.new.results (λ rs. HasMade heap.now.config self.old.pass self.new.pass self.old.script.now (held self.old.env) rs (held self.new.env)) }
+        ensures made { KeepsMade heap.now.config self.old self.new }
     {
         let results = run_script(rt, alloc, heap, &mut self.pass, self.script, &mut self.env);
         self.results = results.ok();
@@ -51,7 +51,7 @@ fn work<R: Threads + Wait + Sync, P: Pages, G: Gate>(
     ensures len { vec_len workers.new ≡ vec_len workers.old }
     ensures script { (i : ℕ) (w : _) → i < length workers.old.items → (slice_index_or workers.new.items i w).script ≡ (slice_index_or workers.old.items i w).script }
     ensures run { (i : ℕ) (w : _) → i < length workers.old.items → HasRun heap.now.locks (slice_index_or workers.old.items i w).pass (slice_index_or workers.new.items i w).pass }
-    ensures made { (i : ℕ) (w : _) → i < length workers.old.items → IfSome (slice_index_or workers.new.items i w).results (λ rs. HasMade heap.now.config (slice_index_or workers.old.items i w).pass (slice_index_or workers.new.items i w).pass (slice_index_or workers.old.items i w).script.now (held (slice_index_or workers.old.items i w).env) rs (held (slice_index_or workers.new.items i w).env)) }
+    ensures made { (i : ℕ) (w : _) → i < length workers.old.items → KeepsMade heap.now.config (slice_index_or workers.old.items i w) (slice_index_or workers.new.items i w) }
 {
     for_each_mut(
         rt,
@@ -78,7 +78,7 @@ fn start<'s, P: Pages, G: Gate>(
     requires few { root.old.splits + length scripts.now < 2 ^ 32 }
     requires room { (workers.old.items ≡ []) × (length scripts.now ≤ vec_capacity workers.old) }
     ensures root { HasParted heap.now.locks (vec_len workers.new) root.old root.new }
-    ensures workers { (i : ℕ) (w : _) → i < vec_len workers.new → IsStarted heap.now.locks (root.old.splits + 1 + i) number root.old (slice_index_or workers.new.items i w).pass (slice_index_or workers.new.items i w).script.now (held env.now) (held (slice_index_or workers.new.items i w).env) }
+    ensures workers { (i : ℕ) (w : _) → i < vec_len workers.new → IsBegun heap.now.locks (root.old.splits + 1 + i) number root.old (held env.now) (slice_index_or workers.new.items i w) }
     ensures scripts { (i : ℕ) (w : _) (s : _) → i < vec_len workers.new → (slice_index_or workers.new.items i w).script.now ≡ slice_index_or scripts.now i s }
     ensures all { OnOk result (vec_len workers.new ≡ length scripts.now) }
     ensures some { vec_len workers.new ≤ length scripts.now }

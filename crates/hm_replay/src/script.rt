@@ -4,10 +4,10 @@ ghost use Rattle.std.specs.List.{list_all};
 ghost use Rattle.hm_trace.specs.Traces.{is_step};
 ghost use Rattle.hm_trace.specs.Views.{step_view, steps_view};
 ghost use Rattle.hm_heap.specs.Passes.{AreOf};
-ghost use Rattle.hm_replay.specs.Gains.{Gains, AllGrew, terms_of, mine_of};
+ghost use Rattle.hm_replay.specs.Gains.{GainsResult, GainsResults, AllGrew, terms_of, mine_of};
 ghost use Rattle.hm_replay.specs.Names.{held};
-ghost use Rattle.hm_replay.specs.Scripts.{Runs, IsRun};
-ghost use Rattle.hm_replay.specs.Steps.{Steps, base_of, names_after};
+ghost use Rattle.hm_replay.specs.Scripts.{IsRun};
+ghost use Rattle.hm_replay.specs.Steps.{names_after};
 
 use crate::calls::call;
 use crate::env::Env;
@@ -35,7 +35,7 @@ fn run_step<R: Wait, P: Pages, G: Gate>(
     ensures same { pass.new ≡ record pass.old { turns = pass.new.turns } }
     ensures of { AreOf heap.now.locks pass.new.turns }
     ensures grew { AllGrew pass.old.turns pass.new.turns }
-    ensures ran { IfOk result (λ r. Gains pass.old.turns pass.new.turns (Steps (terms_of heap.now pass.old) number (step_view step.now) (base_of (held env.old) (step_view step.now)) r)) }
+    ensures ran { IfOk result (GainsResult heap.now pass.old pass.new number (held env.old) (step_view step.now)) }
     ensures names { IfOk result (λ r. held env.new ≡ names_after (held env.old) (step_view step.now) r.answer) }
 {
     let Some(base) = base_of(env, step) else {
@@ -67,7 +67,7 @@ fn run_steps<R: Wait, P: Pages, G: Gate>(
     ensures same { pass.new ≡ record pass.old { turns = pass.new.turns } }
     ensures of { AreOf heap.now.locks pass.new.turns }
     ensures grew { AllGrew pass.old.turns pass.new.turns }
-    ensures ran { IfOk result (λ rs. Gains pass.old.turns pass.new.turns (Runs (terms_of heap.now pass.old) 1 (held env.old) (steps_view steps.now) rs.items (held env.new))) }
+    ensures ran { IfOk result (λ rs. GainsResults heap.now pass.old pass.new (held env.old) (steps_view steps.now) rs.items (held env.new)) }
 {
     let mut results = Vec::new(alloc);
     for (index, step) in steps.iter().enumerate() {
