@@ -1,12 +1,12 @@
 -- The results of rounds ascend by round, and within a round by thread.
-use Rattle.std.proofs.Common.{◌≡◌, ◌⊎◌, ℕ, ◌+◌, ◌<◌, ◌≤◌, ◌==◌, ◌&&◌, ◌||◌, nat_lt, Bool, true, false, List, [], ◌∷◌, ◌++◌, length, arith, rules, refl, ap, ◌∙◌, sym, subst}
+use Rattle.std.proofs.Common.{◌≡◌, ◌⊎◌, ℕ, ◌+◌, ◌<◌, ◌≤◌, ◌==◌, ◌&&◌, ◌||◌, nat_lt, nat_le, Bool, true, false, List, [], ◌∷◌, ◌++◌, length, arith, rules, refl, ap, ◌∙◌, sym, subst}
 use Rattle.std.specs.List.{list_all}
 use Rattle.std.proofs.lemmas.Bool.{and_parts}
 use mathlib.Core.Logic.{inl, inr}
 use Rattle.hm_report.specs.declared.results.Results.{Results}
 use Rattle.hm_report.specs.Findings.{ascends, precedes}
 use Rattle.hm_sizes.specs.declared.config.Config.{Config}
-use Rattle.hm_trace.specs.Traces.{is_round, is_script, avoids, are_scripts}
+use Rattle.hm_trace.specs.Traces.{is_step, is_round, is_script, avoids, are_scripts}
 use Rattle.hm_trace.specs.Views.{ScriptView}
 use Rattle.hm_replay.specs.Names.{Names, settled}
 use Rattle.hm_replay.specs.Rounds.{RunsRound, RunsRounds}
@@ -49,9 +49,10 @@ round_after c own caller round names now after (s ∷ scripts) ones thread these
     let three = and_parts (nat_lt thread s.thread) (is_script s) two.0 in
     let less : thread < s.thread = less_is thread s.thread three.0 in
     let next : AreAfter round s.thread (ran.later ++ later) = round_after c own (caller + 1) round names (settled now s.steps ran.last) after scripts (ones ++ s ∷ []) s.thread ran.later later one.1 ran.rest rest in
-    subst (λ (l : List Results). AreAfter round thread (l ++ later)) (sym ran.results_are)
-    (inr (sym ran.round_is, subst (λ (t : ℕ). thread < t) (sym ran.thread_is) less),
-    subst (λ (t : ℕ). AreAfter ran.result.round t (ran.later ++ later)) (sym ran.thread_is) (subst (λ (r : ℕ). AreAfter r s.thread (ran.later ++ later)) (sym ran.round_is) next))
+    subst (λ (l : List Results). AreAfter round thread (l ++ later)) (sym ran.results_are) (
+      inr (sym ran.round_is, subst (λ (t : ℕ). thread < t) (sym ran.thread_is) less),
+      subst (λ (t : ℕ). AreAfter ran.result.round t (ran.later ++ later)) (sym ran.thread_is) (subst (λ (r : ℕ). AreAfter r s.thread (ran.later ++ later)) (sym ran.round_is) next),
+    )
 
 rounds_after : (c : Config) (own : ℕ → Own) (caller round : ℕ) (names last : Names) (rounds : List (List ScriptView)) (results : List Results) (least thread : ℕ) → list_all is_round rounds ≡ true → least < round
     → RunsRounds c own caller round names rounds results last → AreAfter least thread results
@@ -66,3 +67,24 @@ rounds_after c own caller round names last (scripts ∷ rounds) results least th
 pub results_ascend : (c : Config) (own : ℕ → Own) (rounds : List (List ScriptView)) (results : List Results) (names last : Names) → list_all is_round rounds ≡ true
     → RunsRounds c own 1 1 names rounds results last → ascends results ≡ true
 results_ascend c own rounds results names last valid ran = they_ascend 0 0 results (rounds_after c own 1 1 names last rounds results 0 0 valid (omega arith) ran)
+
+-- ---- a round has at most 16 scripts
+few : (s : ScriptView) → is_script s ≡ true → s.thread ≤ 16
+few s valid =
+    let one = and_parts (nat_le 1 s.thread && nat_le s.thread 16) (list_all is_step s.steps) valid in
+    let two = and_parts (nat_le 1 s.thread) (nat_le s.thread 16) one.0 in
+    let most = two.1 in
+    grind (arith, most)
+
+fewer : (scripts ones : List ScriptView) (last : ℕ) → last ≤ 16 → are_scripts ones last scripts ≡ true → length scripts + last ≤ 16
+fewer [] ones last most valid = omega (arith, most)
+fewer (s ∷ scripts) ones last most valid =
+    let one = and_parts (nat_lt last s.thread && is_script s && avoids ones s.steps) (are_scripts (ones ++ s ∷ []) s.thread scripts) valid in
+    let two = and_parts (nat_lt last s.thread && is_script s) (avoids ones s.steps) one.0 in
+    let three = and_parts (nat_lt last s.thread) (is_script s) two.0 in
+    let less : last < s.thread = less_is last s.thread three.0 in
+    let rest : length scripts + s.thread ≤ 16 = fewer scripts (ones ++ s ∷ []) s.thread (few s three.1) one.1 in
+    omega (arith, less, rest)
+
+pub round_is_small : (scripts : List ScriptView) → is_round scripts ≡ true → length scripts ≤ 16
+round_is_small scripts valid = let n : length scripts + 0 ≤ 16 = fewer scripts [] 0 (omega arith) valid in omega (arith, n)

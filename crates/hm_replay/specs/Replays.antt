@@ -1,5 +1,5 @@
 -- Rounds one after another on a new heap: what is known of the first pass, and what the closed histories say.
-use Rattle.std.specs.Prelude.{◌≡◌, true, ℕ, ◌+◌, ◌<◌, List, [], ◌∷◌, ◌++◌, length, slice_index_or}
+use Rattle.std.specs.Prelude.{◌≡◌, true, ℕ, ◌+◌, ◌<◌, ◌≤◌, List, [], ◌∷◌, ◌++◌, length, slice_index_or}
 use Rattle.std.specs.List.{list_all}
 use Rattle.hm_report.specs.declared.results.Results.{Results}
 use Rattle.hm_report.specs.Findings.{ascends}
@@ -60,6 +60,10 @@ ReplaysClose = (c : Config) (p : PassView) (hs : List History) (rounds : List (L
     → ((r : ℕ) (t : Known) (h : History) → r < length p.turns
     → IsWhole (slice_index_or hs r h).entries (slice_index_or p.turns r t).knows)
     → AreReplayed c hs rounds results last
+
+-- of the scripts of a round
+abbrev pub RoundsAreSmall : Type 0
+RoundsAreSmall = (scripts : List ScriptView) → is_round scripts ≡ true → length scripts ≤ 16
 
 -- of the results' order, which is that of a report
 abbrev pub ResultsAscend : Type 0

@@ -32,11 +32,11 @@ pub record HasRun (locks : List Lock) (p q : PassView) : Type 0 where
 
 -- and where memory was found, its entries are those of the script
 pub record HasMade (c : Config) (p q : PassView) (s : ScriptView) (names : Names) (rs : Results) (last : Names) : Type 0
-    where
-  pub round_is : rs.round ≡ p.round
-  pub thread_is : rs.thread ≡ s.thread
-  pub run : IsRun (record { config = c; caller = p.caller; round = p.round; thread = p.thread })
-      names s.steps rs.items last (mine_of q.turns)
+  where
+    pub round_is : rs.round ≡ p.round
+    pub thread_is : rs.thread ≡ s.thread
+    pub run : IsRun (record { config = c; caller = p.caller; round = p.round; thread = p.thread })
+        names s.steps rs.items last (mine_of q.turns)
 
 abbrev pub KeepsMade : Config → Worker → Worker → Type 0
 KeepsMade c w v = IfSome v.results (λ rs. HasMade c w.pass v.pass w.script.now (held w.env) rs (held v.env))
@@ -55,13 +55,13 @@ pub record HasParted (locks : List Lock) (count : ℕ) (p q : PassView) : Type 0
 
 -- the pass of a script that has not begun
 pub record IsStarted (locks : List Lock) (caller round : ℕ) (root p : PassView) (s : ScriptView) (names now : Names) : Type 0
-    where
-  pub seen : (r : ℕ) (t : Known) → r < length locks
-      → (slice_index_or p.turns r t).knows.seen ≡ (slice_index_or root.turns r t).knows.seen
-  pub caller_is : p.caller ≡ caller
-  pub round_is : p.round ≡ round
-  pub ready : IsReady locks p s
-  pub names_are : now ≡ names
+  where
+    pub seen : (r : ℕ) (t : Known) → r < length locks
+        → (slice_index_or p.turns r t).knows.seen ≡ (slice_index_or root.turns r t).knows.seen
+    pub caller_is : p.caller ≡ caller
+    pub round_is : p.round ≡ round
+    pub ready : IsReady locks p s
+    pub names_are : now ≡ names
 
 abbrev pub IsBegun : List Lock → ℕ → ℕ → PassView → Names → Worker → Type 0
 IsBegun locks caller round root names w = IsStarted locks caller round root w.pass w.script.now names (held w.env)

@@ -11,7 +11,7 @@ mod round;
 mod script;
 
 pub use env::Env;
-pub use laws::replayed_rounds;
+pub use laws::{replayed_rounds, small_rounds};
 pub use round::run_round;
 pub use script::run_script;
 
