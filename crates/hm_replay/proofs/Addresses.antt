@@ -1,0 +1,76 @@
+-- Addresses by names, searched by the order of names, are searched by their bytes.
+use Rattle.std.proofs.Common.{◌≡◌, ◌⊎◌, inl, inr, ℕ, Bool, true, false, cond, List, [], ◌∷◌, Option, Some, None, Result, Ok, Err, nat_eq, refl, sym, ◌∙◌, ap, subst}
+use Rattle.std.specs.Prelude.{IfSome, OnOk, OnErr}
+use Rattle.std.specs.BTreeMap.{is_at}
+use Rattle.std.specs.Map.{lookup}
+use Rattle.std.specs.Cmp.Lexicographic.{pointwise, same_text, slice_cmp, texts_ties}
+use Rattle.std.specs.Ordering.{nat_cmp, eq_by_cmp}
+use Rattle.hm_trace.specs.declared.names.Name.{Name}
+use Rattle.hm_trace.specs.Names.{is_word}
+use Rattle.hm_trace.specs.Views.{name_view}
+use Rattle.hm_heap.specs.Requests.{IsInReach}
+use Rattle.hm_replay.specs.Names.{with_name, held, AllInReach}
+
+-- a lookup by the order is a lookup by the text
+pub looked : (es : List (Name × ℕ)) (q : List ℕ) → lookup (is_at (λ (n : Name). slice_cmp nat_cmp q (name_view n))) es ≡ held es q
+looked [] q = refl
+looked (e ∷ es) q =
+    ap (λ b. cond b (Some e.1) (lookup (is_at (λ (n : Name). slice_cmp nat_cmp q (name_view n))) es)) (sym (texts_ties q (name_view e.0)))
+    ∙ ap (λ (r : Option ℕ). cond (pointwise nat_eq q (name_view e.0)) (Some e.1) r) (looked es q)
+
+-- what an update says of each name
+abbrev pub Updated : List (Name × ℕ) → List (Name × ℕ) → Name → Option ℕ → Type 0
+Updated es fs name given = (q : Name) → lookup (is_at (λ (n : Name). slice_cmp nat_cmp (name_view q) (name_view n))) fs
+    ≡ cond (eq_by_cmp (slice_cmp nat_cmp) (name_view name) (name_view q)) given (lookup (is_at (λ (n : Name). slice_cmp nat_cmp (name_view q) (name_view n))) es)
+
+-- so it says of their bytes
+updated_name : (es fs : List (Name × ℕ)) (name : Name) (given : Option ℕ) → Updated es fs name given → (q : Name) → held fs (name_view q) ≡ with_name (held es) (name_view name) given (name_view q)
+updated_name es fs name given h q =
+    sym (looked fs (name_view q)) ∙ h q
+    ∙ ap (λ b. cond b given (lookup (is_at (λ (n : Name). slice_cmp nat_cmp (name_view q) (name_view n))) es)) (sym (texts_ties (name_view name) (name_view q)))
+    ∙ ap (λ (r : Option ℕ). cond (pointwise nat_eq (name_view name) (name_view q)) given r) (looked es (name_view q))
+
+-- a text is a name's, or nothing is kept for it
+
+known_by : (e : Name × ℕ) (es : List (Name × ℕ)) (q : List ℕ) (b : Bool) → is_word q (name_view e.0) ≡ b → ((n : Name) × (name_view n ≡ q)) ⊎ (held es q ≡ None) → ((n : Name) × (name_view n ≡ q)) ⊎ (held (e ∷ es) q ≡ None)
+known_by e es q true is k = inl (e.0, sym (same_text q (name_view e.0) (sym is)))
+known_by e es q false is (inl k) = inl k
+known_by e es q false is (inr none) = inr (ap (λ (b : Bool). cond b (Some e.1) (held es q)) is ∙ none)
+
+known : (es : List (Name × ℕ)) (q : List ℕ) → ((n : Name) × (name_view n ≡ q)) ⊎ (held es q ≡ None)
+known [] q = inr refl
+known (e ∷ es) q = known_by e es q (is_word q (name_view e.0)) refl (known es q)
+
+-- and of all texts
+named_text : (es fs : List (Name × ℕ)) (name : Name) (given : Option ℕ) (q : List ℕ) → Updated es fs name given → (n : Name) × (name_view n ≡ q) → held fs q ≡ with_name (held es) (name_view name) given q
+named_text es fs name given q h n = subst (λ (z : List ℕ). held fs z ≡ with_name (held es) (name_view name) given z) n.1 (updated_name es fs name given h n.0)
+
+other_text : (es fs : List (Name × ℕ)) (name : Name) (given : Option ℕ) (q : List ℕ) (b : Bool) → Updated es fs name given → is_word (name_view name) q ≡ b → held fs q ≡ None → held es q ≡ None → held fs q ≡ with_name (held es) (name_view name) given q
+other_text es fs name given q true h is f e = named_text es fs name given q h (name, same_text (name_view name) q (sym is))
+other_text es fs name given q false h is f e = f ∙ sym (ap (λ (b : Bool). cond b given (held es q)) is ∙ e)
+
+updated_at : (es fs : List (Name × ℕ)) (name : Name) (given : Option ℕ) → Updated es fs name given → (q : List ℕ) → held fs q ≡ with_name (held es) (name_view name) given q
+updated_at es fs name given h q = elim (known fs q) [
+  | inl n ↦ named_text es fs name given q h n
+  | inr f ↦ elim (known es q) [
+    | inl n ↦ named_text es fs name given q h n
+    | inr e ↦ other_text es fs name given q (is_word (name_view name) q) h refl f e
+  ]
+]
+
+pub updated : (es fs : List (Name × ℕ)) (name : Name) (given : Option ℕ) → Updated es fs name given → held fs ≡ with_name (held es) (name_view name) given
+updated es fs name given h = λ i q. updated_at es fs name given h q i
+
+-- addresses stay in reach
+chosen_in_reach : (b : Bool) (one other : Option ℕ) → IfSome one IsInReach → IfSome other IsInReach → IfSome (cond b one other) IsInReach
+chosen_in_reach true one other p q = p
+chosen_in_reach false one other p q = q
+
+pub updated_in_reach : (es fs : List (Name × ℕ)) (name : Name) (given : Option ℕ) → Updated es fs name given → AllInReach es → IfSome given IsInReach → AllInReach fs
+updated_in_reach es fs name given h all new q =
+    subst (λ (o : Option ℕ). IfSome o IsInReach) (sym (updated_at es fs name given h q)) (chosen_in_reach (is_word (name_view name) q) given (held es q) new (all q))
+
+-- also where memory may have lacked
+pub inserted_in_reach : {A B U : Type 0} (r : Result A B) (es fs : List (Name × ℕ)) (name : Name) (given : Option ℕ) → (U → Updated es fs name given) → OnOk r U → OnErr r (fs ≡ es) → AllInReach es → IfSome given IsInReach → AllInReach fs
+inserted_in_reach (Ok x) es fs name given says h same all new = updated_in_reach es fs name given (says h) all new
+inserted_in_reach (Err e) es fs name given says h same all new = subst AllInReach (sym same) all

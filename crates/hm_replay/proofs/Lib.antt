@@ -1,0 +1,13 @@
+pub mod Addresses
+pub mod Gaining
+pub mod Trying
+pub mod Running
+pub mod Turns
+pub mod Order
+pub mod Ends
+pub mod Finishes
+pub mod Starts
+pub mod Merging
+pub mod Rounding
+pub mod Replaying
+pub mod Ascending

@@ -1,0 +1,8 @@
+use Rattle.hm_replay.specs.Names.{held}
+use Rattle.hm_replay.proofs.Rounding.{made_of}
+use Rattle.hm_replay.proofs.round.Worker.run.Goals as goal
+
+pub returns-clause-made : goal.returns-clause-made
+returns-clause-made g c =
+    made_of c.run_script-results.result c.ok.result c.args.heap.now.config c.args.self.now.pass c.run_script-results.new.pass c.args.self.now.script.now (held c.args.self.now.env) (held c.run_script-results.new.env)
+    c.ok.ensures.value c.run_script-results.ensures.results c.run_script-results.ensures.ran

@@ -1,0 +1,56 @@
+-- What the calls of a pass add to its own entries, and what they leave.
+use Rattle.std.specs.Prelude.{◌≡◌, Bool, true, false, ℕ, ◌++◌, List, [], length, map, slice_index_or}
+use Rattle.hm_model.specs.declared.answer.Answer.{Answer}
+use Rattle.hm_model.specs.declared.answer.Answer.TheVariants as answer
+use Rattle.hm_turn.specs.Histories.{StartsWith}
+use Rattle.hm_turn.specs.Known.{Known}
+use Rattle.hm_heap.specs.Parts.{who_of}
+use Rattle.hm_heap.specs.Passes.{HeapView, PassView}
+use Rattle.hm_heap.specs.Plans.{Plan}
+use Rattle.hm_report.specs.declared.results.StepResult.{StepResult}
+use Rattle.hm_trace.specs.Views.{StepView}
+use Rattle.hm_replay.specs.Names.{Names}
+use Rattle.hm_replay.specs.Scripts.{Runs}
+use Rattle.hm_replay.specs.Steps.{Terms, Answers, Steps, base_of}
+use Rattle.hm_replay.specs.Uses.{Own}
+
+-- what a script is run on
+abbrev pub terms_of : HeapView → PassView → Terms
+terms_of h p = record { config = h.config; caller = p.caller; round = p.round; thread = p.thread }
+
+-- the own entries of the turn at each place
+abbrev pub mine_of : List Known → Own
+mine_of ts place = slice_index_or (map (λ (t : Known). t.knows.mine) ts) place []
+
+-- the own entries grew by what this uses up
+pub record Gains (ts us : List Known) (Is : Own → Own → Type 0) : Type 0 where
+  pub own : Own
+  pub mine : (place : ℕ) → mine_of us place ≡ mine_of ts place ++ own place
+  pub is : (left : Own) → Is (λ place. own place ++ left place) left
+
+-- a call of this step by one of these plans had this answer
+abbrev pub GainsAnswer : (Plan → Type 0) → PassView → PassView → ℕ → Answer → Type 0
+GainsAnswer IsPlan p q number a = Gains p.turns q.turns (Answers IsPlan (λ part. who_of p number part) a)
+
+-- a step had this result
+abbrev pub GainsResult : HeapView → PassView → PassView → ℕ → Names → StepView → StepResult → Type 0
+GainsResult h p q number names step r = Gains p.turns q.turns (Steps (terms_of h p) number step (base_of names step) r)
+
+-- steps had these results, and the names at the end
+abbrev pub GainsResults : HeapView → PassView → PassView → Names → List StepView → List StepResult → Names → Type 0
+GainsResults h p q names steps rs last = Gains p.turns q.turns (Runs (terms_of h p) 1 names steps rs last)
+
+-- what calls leave of a turn
+pub record Grew (t u : Known) : Type 0 where
+  pub lock : u.lock ≡ t.lock
+  pub same : u.knows ≡ record t.knows { seen = u.knows.seen; mine = u.knows.mine; lost = u.knows.lost }
+  pub begins : StartsWith u.knows.seen t.knows.seen
+
+pub record AllGrew (ts us : List Known) : Type 0 where
+  pub as_many : length us ≡ length ts
+  pub each : (place : ℕ) (t : Known) → Grew (slice_index_or ts place t) (slice_index_or us place t)
+
+-- the turn was held
+abbrev pub is_busy : Answer → Bool
+is_busy answer.Busy = true
+is_busy a = false

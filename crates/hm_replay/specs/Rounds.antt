@@ -1,0 +1,74 @@
+-- The rounds of a trace over all histories.
+use Rattle.std.specs.Prelude.{◌≡◌, ℕ, ◌+◌, ◌<◌, ◌≤◌, List, [], ◌∷◌, ◌++◌, length, map, slice_index_or, ⊤}
+use Rattle.hm_model.specs.declared.entry.Entry.{Entry}
+use Rattle.hm_model.specs.Entries.{calls_of}
+use Rattle.hm_report.specs.declared.results.Results.{Results}
+use Rattle.hm_sizes.specs.declared.config.Config.{Config}
+use Rattle.hm_trace.specs.Views.{ScriptView}
+use Rattle.hm_heap.specs.declared.close.History.{History}
+use Rattle.hm_replay.specs.Names.{Names, settled}
+use Rattle.hm_replay.specs.Scripts.{IsRun}
+use Rattle.hm_replay.specs.Steps.{Terms}
+use Rattle.hm_replay.specs.Uses.{Own}
+
+-- ---- the scripts of a round
+-- the script was run with the names before the round, and the rest goes on with those that it set among the others
+pub record RunsScript (t : Terms) (own : Own) (names now : Names) (s : ScriptView) (results : List Results)
+    (Rest : Names → List Results → Type 0) : Type 0 where
+  pub result : Results
+  pub later : List Results
+  pub results_are : results ≡ result ∷ later
+  pub round_is : result.round ≡ t.round
+  pub thread_is : result.thread ≡ t.thread
+  pub last : Names
+  pub run : IsRun t names s.steps result.items last own
+  pub rest : Rest (settled now s.steps last) later
+
+-- the scripts from this caller on: each begins with the names before the round, and at the end all its names are set
+abbrev pub RunsRound : Config → (ℕ → Own) → ℕ → ℕ → Names → Names → List ScriptView → List Results → Names
+    → Type 0
+RunsRound c own caller round names now [] results after = (results ≡ []) × (after ≡ now)
+RunsRound c own caller round names now (s ∷ scripts) results after =
+    RunsScript (record { config = c; caller = caller; round = round; thread = s.thread }) (own caller) names now s results
+    (λ next later. RunsRound c own (caller + 1) round names next scripts later after)
+
+-- ---- the rounds of a trace
+-- the round was run with these names, and the rest goes on with the names after it
+pub record RunsNext (c : Config) (own : ℕ → Own) (caller round : ℕ) (names : Names) (scripts : List ScriptView)
+    (results : List Results) (Rest : Names → List Results → Type 0) : Type 0 where
+  pub these : List Results
+  pub later : List Results
+  pub results_are : results ≡ these ++ later
+  pub after : Names
+  pub this : RunsRound c own caller round names names scripts these after
+  pub rest : Rest after later
+
+-- the rounds from this number on, whose callers follow one another, and the names at the end
+abbrev pub RunsRounds : Config → (ℕ → Own) → ℕ → ℕ → Names → List (List ScriptView) → List Results → Names → Type 0
+RunsRounds c own caller round names [] results last = (results ≡ []) × (last ≡ names)
+RunsRounds c own caller round names (scripts ∷ rounds) results last =
+    RunsNext c own caller round names scripts results
+    (λ after later. RunsRounds c own (caller + length scripts) (round + 1) after rounds later last)
+
+-- how many scripts there are in all
+abbrev pub script_count : List (List ScriptView) → ℕ
+script_count [] = 0
+script_count (scripts ∷ rounds) = length scripts + script_count rounds
+
+-- ---- the histories
+-- the entries of a caller over all histories
+abbrev pub own_in : List History → ℕ → Own
+own_in hs caller place = calls_of (slice_index_or (map (λ (h : History). h.entries) hs) place []) caller
+
+-- each entry is of one of so many callers, from the first on
+abbrev pub AreOfCallers : ℕ → ℕ → List Entry → Type 0
+AreOfCallers first count [] = ⊤
+AreOfCallers first count (e ∷ entries) =
+    (first ≤ e.who.caller) × (e.who.caller < first + count) × AreOfCallers first count entries
+
+-- a history falls into one part for each round, one after another: a part has entries of its round's callers alone
+abbrev pub InRounds : ℕ → List (List ScriptView) → List Entry → Type 0
+InRounds caller [] entries = entries ≡ []
+InRounds caller (scripts ∷ rounds) entries =
+    (these : List Entry) × (later : List Entry) × (entries ≡ these ++ later)
+    × AreOfCallers caller (length scripts) these × InRounds (caller + length scripts) rounds later

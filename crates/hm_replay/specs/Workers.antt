@@ -1,0 +1,106 @@
+-- The workers of a round: their passes before and after their scripts are run, and how far the loops over them
+-- have come.
+use Rattle.std.specs.Prelude.{◌≡◌, ℕ, ◌+◌, ◌-◌, ◌<◌, ◌≤◌, ◌⊎◌, List, [], ◌∷◌, ◌++◌, length, slice_index_or, map, IfSome}
+use Rattle.hm_report.specs.declared.results.Results.{Results}
+use Rattle.hm_sizes.specs.declared.config.Config.{Config}
+use Rattle.hm_trace.specs.Views.{ScriptView}
+use Rattle.hm_turn.specs.Callers.{is_among}
+use Rattle.hm_turn.specs.Known.{Lock, Known}
+use Rattle.hm_heap.specs.Passes.{PassView, AreOf, AllKnow, all_met}
+use Rattle.hm_replay.specs.declared.round.Worker.{Worker}
+use Rattle.hm_replay.specs.Gains.{mine_of, AllGrew}
+use Rattle.hm_replay.specs.Names.{Names, held, settled}
+use Rattle.hm_replay.specs.Scripts.{IsRun}
+
+-- ---- one worker
+-- the turns' caller is the pass's
+abbrev pub AllCalledBy : PassView → Type 0
+AllCalledBy p = (r : ℕ) (t : Known) → r < length p.turns → (slice_index_or p.turns r t).knows.caller ≡ p.caller
+
+-- a pass that has made no call yet, for this script
+pub record IsReady (locks : List Lock) (p : PassView) (s : ScriptView) : Type 0 where
+  pub of : AreOf locks p.turns
+  pub callers : AllCalledBy p
+  pub thread : p.thread ≡ s.thread
+  pub fresh : (place : ℕ) → mine_of p.turns place ≡ []
+
+-- and after it was run
+pub record HasRun (locks : List Lock) (p q : PassView) : Type 0 where
+  pub same : q ≡ record p { turns = q.turns }
+  pub of : AreOf locks q.turns
+  pub grew : AllGrew p.turns q.turns
+
+-- and where memory was found, its entries are those of the script
+pub record HasMade (c : Config) (p q : PassView) (s : ScriptView) (names : Names) (rs : Results) (last : Names) : Type 0
+  where
+    pub round_is : rs.round ≡ p.round
+    pub thread_is : rs.thread ≡ s.thread
+    pub run : IsRun (record { config = c; caller = p.caller; round = p.round; thread = p.thread })
+        names s.steps rs.items last (mine_of q.turns)
+
+abbrev pub KeepsMade : Config → Worker → Worker → Type 0
+KeepsMade c w v = IfSome v.results (λ rs. HasMade c w.pass v.pass w.script.now (held w.env) rs (held v.env))
+
+-- ---- passes are split off
+-- a turn that has split off so many callers, from the first on
+pub record HasCut (first count : ℕ) (t u : Known) : Type 0 where
+  pub is : u ≡ record { lock = t.lock; knows = record t.knows { used = u.knows.used; out = u.knows.out } }
+  pub used : (c : ℕ) → (c < first) ⊎ (first + count ≤ c) → is_among c u.knows.used ≡ is_among c t.knows.used
+
+pub record HasParted (locks : List Lock) (count : ℕ) (p q : PassView) : Type 0 where
+  pub same : q ≡ record p { splits = p.splits + count; out = p.out + count; turns = q.turns }
+  pub of : AreOf locks q.turns
+  pub turns : (r : ℕ) (t : Known) → r < length locks
+      → HasCut (p.splits + 1) count (slice_index_or p.turns r t) (slice_index_or q.turns r t)
+
+-- the pass of a script that has not begun
+pub record IsStarted (locks : List Lock) (caller round : ℕ) (root p : PassView) (s : ScriptView) (names now : Names) : Type 0
+  where
+    pub seen : (r : ℕ) (t : Known) → r < length locks
+        → (slice_index_or p.turns r t).knows.seen ≡ (slice_index_or root.turns r t).knows.seen
+    pub caller_is : p.caller ≡ caller
+    pub round_is : p.round ≡ round
+    pub ready : IsReady locks p s
+    pub names_are : now ≡ names
+
+abbrev pub IsBegun : List Lock → ℕ → ℕ → PassView → Names → Worker → Type 0
+IsBegun locks caller round root names w = IsStarted locks caller round root w.pass w.script.now names (held w.env)
+
+pub record StartedTo (locks : List Lock) (round : ℕ) (p q : PassView) (scripts : List ScriptView) (names : Names)
+    (workers : List Worker) : Type 0 where
+  pub parted : HasParted locks (length workers) p q
+  pub each : (i : ℕ) (w : Worker) → i < length workers
+      → IsBegun locks (p.splits + 1 + i) round p names (slice_index_or workers i w)
+  pub scripts_are : (i : ℕ) (w : Worker) (s : ScriptView) → i < length workers
+      → (slice_index_or workers i w).script.now ≡ slice_index_or scripts i s
+
+-- ---- passes are joined
+-- the turns after the passes are joined, in order
+abbrev pub after_joins : List Known → List Worker → List Known
+after_joins ts [] = ts
+after_joins ts (w ∷ ws) = after_joins (all_met ts w.pass.turns) ws
+
+pub record FinishedTo {X : Type 0} (result_of : Worker → X) (locks : List Lock) (p q : PassView) (workers : List Worker)
+    (results : List X) : Type 0 where
+  pub same : q ≡ record p { out = p.out - length workers; turns = after_joins p.turns workers }
+  pub of : AreOf locks q.turns
+  pub results_are : results ≡ map result_of workers
+  pub knows : 0 < length workers → AllKnow q.turns
+
+-- with these passes still to join
+pub record FinishingFrom {X : Type 0} (result_of : Worker → X) (locks : List Lock) (p q : PassView)
+    (workers rest : List Worker) (results : List X) : Type 0 where
+  pub turns_are : after_joins q.turns rest ≡ after_joins p.turns workers
+  pub out_is : q.out - length rest ≡ p.out - length workers
+  pub same : q ≡ record p { out = q.out; turns = q.turns }
+  pub of : AreOf locks q.turns
+  pub rest_of : (i : ℕ) (w : Worker) → i < length rest → AreOf locks (slice_index_or rest i w).pass.turns
+  pub results_are : results ++ map result_of rest ≡ map result_of workers
+  pub knows : length rest < length workers → AllKnow q.turns
+  pub count : length results + length rest ≡ length workers
+
+-- ---- names are merged
+-- the names that each worker's script sets, among others
+abbrev pub all_settled : Names → List Worker → Names
+all_settled names [] = names
+all_settled names (w ∷ ws) = all_settled (settled names w.script.now.steps (held w.env)) ws

@@ -1,0 +1,17 @@
+//! Laws of rounds one after another on a new heap. Each function does nothing of its own: its contract is the
+//! law.
+ghost use Rattle.hm_replay.specs.Replays.{NewReplays, RoundsGoOn, ReplaysClose, ResultsAscend, RoundsAreSmall};
+
+/// What is known of the first pass after some rounds, and of the histories when the heap is closed; and that
+/// the results stand in the order of a report.
+pub fn replayed_rounds()
+    ensures first { NewReplays }
+    ensures more { RoundsGoOn }
+    ensures closed { ReplaysClose }
+    ensures order { ResultsAscend }
+{}
+
+/// A round has at most 16 scripts, one for each thread.
+pub fn small_rounds()
+    ensures { RoundsAreSmall }
+{}

@@ -1,0 +1,19 @@
+//! Scripts on a heap, each in a thread of its own, round by round.
+#![tactic(auto)]
+
+mod calls;
+mod env;
+mod laws;
+mod merge;
+mod naming;
+mod places;
+mod round;
+mod script;
+
+pub use env::Env;
+pub use laws::{replayed_rounds, small_rounds};
+pub use round::run_round;
+pub use script::run_script;
+
+#[cfg(test)]
+mod tests;

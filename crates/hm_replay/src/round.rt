@@ -1,0 +1,178 @@
+//! A round: one pass for each script, each run in a thread of its own.
+ghost use Rattle.std.specs.Prelude.{◌≡◌, ℕ, ◌+◌, ◌<◌, ◌≤◌, ◌^◌, [], length, map, slice_index_or, vec_len, vec_capacity, Some, IfSome, IfOk, OnOk, OnErr};
+ghost use Rattle.hm_heap.specs.Passes.{AreOf};
+ghost use Rattle.hm_replay.specs.Names.{held};
+ghost use Rattle.hm_replay.specs.RoundOf.{LeavesRoot, ended_in};
+ghost use Rattle.hm_replay.specs.Rounds.{RunsRound};
+ghost use Rattle.hm_replay.specs.Workers.{IsReady, HasRun, KeepsMade, HasParted, IsBegun, FinishedTo, all_settled};
+
+use crate::env::Env;
+use crate::merge::merge;
+use crate::script::run_script;
+use hm_heap::{Heap, Pass};
+use hm_outside::{Gate, NoMemory, Pages};
+use hm_report::Results;
+use hm_trace::{Round, Script};
+use std::alloc::Global;
+use std::sync::Wait;
+use std::thread::{Threads, for_each_mut};
+
+/// A script with its pass, its names and its results.
+#[derive(Drop)]
+struct Worker<'s> {
+    script: &'s Script,
+    pass: Pass,
+    env: Env,
+    results: Option<Results>,
+}
+
+impl<'s> Worker<'s> {
+    fn run<R: Wait, P: Pages, G: Gate>(&mut self, rt: &R, alloc: Global, heap: &Heap<'_, P, G>)
+        requires { IsReady heap.now.locks self.old.pass self.old.script.now }
+        ensures script { self.new.script ≡ self.old.script }
+        ensures run { HasRun heap.now.locks self.old.pass self.new.pass }
+        ensures made { KeepsMade heap.now.config self.old self.new }
+    {
+        let results = run_script(rt, alloc, heap, &mut self.pass, self.script, &mut self.env);
+        self.results = results.ok();
+    }
+}
+
+// Runs each worker in a thread of its own.
+fn work<R: Threads + Wait + Sync, P: Pages, G: Gate>(
+    rt: &R,
+    alloc: Global,
+    heap: &Heap<'_, P, G>,
+    workers: &mut Vec<Worker<'_>>,
+    threads: usize,
+)
+    requires threads { 0 < threads }
+    requires ready { (i : ℕ) (w : _) → i < length workers.old.items → IsReady heap.now.locks (slice_index_or workers.old.items i w).pass (slice_index_or workers.old.items i w).script.now }
+    ensures len { vec_len workers.new ≡ vec_len workers.old }
+    ensures script { (i : ℕ) (w : _) → i < length workers.old.items → (slice_index_or workers.new.items i w).script ≡ (slice_index_or workers.old.items i w).script }
+    ensures run { (i : ℕ) (w : _) → i < length workers.old.items → HasRun heap.now.locks (slice_index_or workers.old.items i w).pass (slice_index_or workers.new.items i w).pass }
+    ensures made { (i : ℕ) (w : _) → i < length workers.old.items → KeepsMade heap.now.config (slice_index_or workers.old.items i w) (slice_index_or workers.new.items i w) }
+{
+    for_each_mut(
+        rt,
+        workers,
+        threads,
+        &|_, w: &mut Worker<'_>|
+            requires { IsReady heap.now.locks w.old.pass w.old.script.now }
+        { w.run(rt, alloc, heap) },
+    );
+}
+
+// Splits a pass off for each script, until memory runs out.
+fn start<'s, P: Pages, G: Gate>(
+    alloc: Global,
+    heap: &Heap<'_, P, G>,
+    root: &mut Pass,
+    number: u32,
+    scripts: &'s [Script],
+    env: &Env,
+    workers: &mut Vec<Worker<'s>>,
+) -> Result<(), NoMemory>
+    requires of { AreOf heap.now.locks root.old.turns }
+    requires root { root.old.caller ≡ 0 }
+    requires few { root.old.splits + length scripts.now < 2 ^ 32 }
+    requires room { (workers.old.items ≡ []) × (length scripts.now ≤ vec_capacity workers.old) }
+    ensures root { HasParted heap.now.locks (vec_len workers.new) root.old root.new }
+    ensures workers { (i : ℕ) (w : _) → i < vec_len workers.new → IsBegun heap.now.locks (root.old.splits + 1 + i) number root.old (held env.now) (slice_index_or workers.new.items i w) }
+    ensures scripts { (i : ℕ) (w : _) (s : _) → i < vec_len workers.new → (slice_index_or workers.new.items i w).script.now ≡ slice_index_or scripts.now i s }
+    ensures all { OnOk result (vec_len workers.new ≡ length scripts.now) }
+    ensures some { vec_len workers.new ≤ length scripts.now }
+{
+    for script in scripts {
+        let env = env.copy()?;
+        let pass = heap.split(alloc, root, number, script.thread())?;
+        workers.push_reserved(Worker {
+            script,
+            pass,
+            env,
+            results: None,
+        });
+    }
+    Ok(())
+}
+
+// Joins each pass, and gives the results in order.
+fn finish<P: Pages, G: Gate>(
+    heap: &Heap<'_, P, G>,
+    root: &mut Pass,
+    workers: Vec<Worker<'_>>,
+    found: &mut Vec<Option<Results>>,
+)
+    requires of { AreOf heap.now.locks root.old.turns }
+    requires root { root.old.caller ≡ 0 }
+    requires passes { (i : ℕ) (w : _) → i < vec_len workers → AreOf heap.now.locks (slice_index_or workers.items i w).pass.turns }
+    requires room { (found.old.items ≡ []) × (vec_len workers ≤ vec_capacity found.old) }
+    ensures { FinishedTo (λ w. w.results) heap.now.locks root.old root.new workers.entry.items found.new.items }
+{
+    for worker in workers {
+        let Worker { pass, results, .. } = worker;
+        heap.join(root, pass);
+        found.push_reserved(results);
+    }
+}
+
+// The names after a round: the former ones, with what each script sets.
+fn merge_all(env: &Env, workers: &[Worker<'_>]) -> Result<Env, NoMemory>
+    ensures { IfOk result (λ merged. held merged ≡ all_settled (held env.now) workers.now) }
+{
+    let mut merged = env.copy()?;
+    for worker in workers {
+        merge(&mut merged, &worker.env, worker.script.steps())?;
+    }
+    Ok(merged)
+}
+
+// The results of all scripts, unless one found no memory.
+fn all_found(alloc: Global, found: Vec<Option<Results>>) -> Result<Vec<Results>, NoMemory>
+    ensures { IfOk result (λ results. map Some results.items ≡ found.items) }
+{
+    let mut results = Vec::with_capacity(alloc, found.len())?;
+    for one in found {
+        match one {
+            Some(one) => results.push_reserved(one),
+            None => return Err(NoMemory),
+        }
+    }
+    Ok(results)
+}
+
+/// Runs each script of a round under a pass of its own, each in a thread of its own. All passes are joined,
+/// also where there is no memory. The names that the scripts set are seen from then on.
+pub fn run_round<R: Threads + Wait + Sync, P: Pages, G: Gate>(
+    rt: &R,
+    alloc: Global,
+    heap: &Heap<'_, P, G>,
+    root: &mut Pass,
+    number: u32,
+    round: &Round,
+    env: &mut Env,
+) -> Result<Vec<Results>, NoMemory>
+    requires of { AreOf heap.now.locks root.old.turns }
+    requires root { root.old.caller ≡ 0 }
+    requires few { root.old.splits + length round.now < 2 ^ 32 }
+    ensures of { AreOf heap.now.locks root.new.turns }
+    ensures root { LeavesRoot (length round.now) root.old root.new }
+    ensures splits { IfOk result (λ _. root.new.splits ≡ root.old.splits + length round.now) }
+    ensures ran { IfOk result (λ results. RunsRound heap.now.config (ended_in root.new.turns) (root.old.splits + 1) number (held env.old) (held env.old) round.now results.items (held env.new)) }
+    ensures memory { OnErr result (env.new ≡ env.old) }
+{
+    let scripts = round.scripts();
+    let mut workers = Vec::with_capacity(alloc, scripts.len())?;
+    let mut found = Vec::with_capacity(alloc, scripts.len())?;
+    if start(alloc, heap, root, number, scripts, env, &mut workers).is_err() {
+        finish(heap, root, workers, &mut found);
+        return Err(NoMemory);
+    }
+    let threads = workers.len().max(1);
+    work(rt, alloc, heap, &mut workers, threads);
+    let merged = merge_all(env, &workers);
+    finish(heap, root, workers, &mut found);
+    let results = all_found(alloc, found)?;
+    *env = merged?;
+    Ok(results)
+}

@@ -1,0 +1,104 @@
+//! One script, step by step.
+ghost use Rattle.std.specs.Prelude.{◌≡◌, ◌≤◌, ℕ, [], length, true, IfOk};
+ghost use Rattle.std.specs.List.{list_all};
+ghost use Rattle.hm_trace.specs.Traces.{is_step};
+ghost use Rattle.hm_trace.specs.Views.{step_view, steps_view};
+ghost use Rattle.hm_heap.specs.Passes.{AreOf};
+ghost use Rattle.hm_replay.specs.Gains.{GainsResult, GainsResults, AllGrew, terms_of, mine_of};
+ghost use Rattle.hm_replay.specs.Names.{held};
+ghost use Rattle.hm_replay.specs.Scripts.{IsRun};
+ghost use Rattle.hm_replay.specs.Steps.{names_after};
+
+use crate::calls::call;
+use crate::env::Env;
+use crate::naming::name;
+use crate::places::base_of;
+use hm_heap::{Heap, Pass};
+use hm_outside::{Gate, List, NoMemory, Pages};
+use hm_report::{Results, StepResult};
+use hm_trace::{Script, Step};
+use std::alloc::Global;
+use std::sync::Wait;
+
+// Runs one step.
+fn run_step<R: Wait, P: Pages, G: Gate>(
+    rt: &R,
+    alloc: Global,
+    heap: &Heap<'_, P, G>,
+    pass: &mut Pass,
+    env: &mut Env,
+    number: u32,
+    step: &Step,
+) -> Result<StepResult, NoMemory>
+    requires of { AreOf heap.now.locks pass.old.turns }
+    requires valid { is_step (step_view step.now) ≡ true }
+    ensures same { pass.new ≡ record pass.old { turns = pass.new.turns } }
+    ensures of { AreOf heap.now.locks pass.new.turns }
+    ensures grew { AllGrew pass.old.turns pass.new.turns }
+    ensures ran { IfOk result (GainsResult heap.now pass.old pass.new number (held env.old) (step_view step.now)) }
+    ensures names { IfOk result (λ r. held env.new ≡ names_after (held env.old) (step_view step.now) r.answer) }
+{
+    let Some(base) = base_of(env, step) else {
+        return Ok(StepResult {
+            base: 0,
+            answer: None,
+        });
+    };
+    let answer = call(rt, alloc, heap, pass, number, step, base)?;
+    name(env, step, &answer)?;
+    Ok(StepResult {
+        base,
+        answer: Some(answer),
+    })
+}
+
+// Runs the steps, one after another.
+fn run_steps<R: Wait, P: Pages, G: Gate>(
+    rt: &R,
+    alloc: Global,
+    heap: &Heap<'_, P, G>,
+    pass: &mut Pass,
+    env: &mut Env,
+    steps: &[Step],
+) -> Result<Vec<StepResult>, NoMemory>
+    requires of { AreOf heap.now.locks pass.old.turns }
+    requires valid { list_all is_step (steps_view steps.now) ≡ true }
+    requires few { length steps.now ≤ 200000 }
+    ensures same { pass.new ≡ record pass.old { turns = pass.new.turns } }
+    ensures of { AreOf heap.now.locks pass.new.turns }
+    ensures grew { AllGrew pass.old.turns pass.new.turns }
+    ensures ran { IfOk result (λ rs. GainsResults heap.now pass.old pass.new (held env.old) (steps_view steps.now) rs.items (held env.new)) }
+{
+    let mut results = Vec::new(alloc);
+    for (index, step) in steps.iter().enumerate() {
+        let result = run_step(rt, alloc, heap, pass, env, index as u32 + 1, step)?;
+        results.push(result)?;
+    }
+    Ok(results)
+}
+
+/// Runs a script under a pass that has made no call yet.
+pub fn run_script<R: Wait, P: Pages, G: Gate>(
+    rt: &R,
+    alloc: Global,
+    heap: &Heap<'_, P, G>,
+    pass: &mut Pass,
+    script: &Script,
+    env: &mut Env,
+) -> Result<Results, NoMemory>
+    requires of { AreOf heap.now.locks pass.old.turns }
+    requires thread { pass.old.thread ≡ script.now.thread }
+    requires fresh { (place : ℕ) → mine_of pass.old.turns place ≡ [] }
+    ensures same { pass.new ≡ record pass.old { turns = pass.new.turns } }
+    ensures of { AreOf heap.now.locks pass.new.turns }
+    ensures grew { AllGrew pass.old.turns pass.new.turns }
+    ensures results { IfOk result (λ rs. (rs.round ≡ pass.old.round) × (rs.thread ≡ script.now.thread)) }
+    ensures ran { IfOk result (λ rs. IsRun (terms_of heap.now pass.old) (held env.old) script.now.steps rs.items (held env.new) (mine_of pass.new.turns)) }
+{
+    let items = run_steps(rt, alloc, heap, pass, env, script.steps())?;
+    Ok(Results {
+        round: pass.round(),
+        thread: script.thread(),
+        items: List::of(items),
+    })
+}

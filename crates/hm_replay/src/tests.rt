@@ -1,0 +1,182 @@
+//! Traces that are run round by round, and what they answered.
+ghost use Rattle.std.specs.Prelude.{◌≡◌, ◌≤◌, length};
+ghost use Rattle.hm_heap.specs.Passes.{AreOf};
+
+use crate::{Env, run_round};
+use hm_heap::{Heap, Pass};
+use hm_outside::{Gate, NoGate, NoMemory, Pages, PlainMaker, RegionId};
+use hm_report::{Results, report};
+use hm_sizes::Config;
+use hm_trace::{Round, read_trace};
+use std::alloc::Global;
+use std::slice;
+use std::sync::Wait;
+use std::sync::atomic::{AtomicU64, Ordering};
+use std::test::Fail;
+use std::thread::{self, Threads};
+
+/// Runs the rounds in order.
+fn run_rounds<R: Threads + Wait + Sync, P: Pages, G: Gate>(
+    rt: &R,
+    alloc: Global,
+    heap: &Heap<P, G>,
+    root: &mut Pass,
+    rounds: &[Round],
+) -> Result<Vec<Results>, NoMemory>
+    requires of { AreOf heap.now.locks root.old.turns }
+    requires root { (root.old.caller ≡ 0) × (root.old.splits ≡ 0) }
+    requires few { length rounds.now ≤ 1024 }
+{
+    let mut env = Env::build(alloc);
+    let mut all = Vec::new(alloc);
+    for (index, round) in rounds.iter().enumerate() {
+        if round.scripts().len() > 16 {
+            return Err(NoMemory);
+        }
+        let mut results = run_round(rt, alloc, heap, root, index as u32 + 1, round, &mut env)?;
+        all.append(&mut results)?;
+    }
+    Ok(all)
+}
+
+/// The reports of the scripts of a trace, one after another.
+fn report_of<R: Threads + Wait + Sync, G: Gate>(
+    rt: &R,
+    alloc: Global,
+    gate: &G,
+    text: &[u8],
+) -> Result<Vec<u8>, NoMemory> {
+    let Ok(trace) = read_trace(alloc, text) else {
+        return Err(NoMemory);
+    };
+    let (heap, mut root) = Heap::build(alloc, Config::standard(), 1, &mut PlainMaker, gate)?;
+    let results = run_rounds(rt, alloc, &heap, &mut root, trace.rounds())?;
+    let mut told = Vec::new(alloc);
+    for of_script in &results {
+        let lines = report(alloc, slice::from_ref(of_script))?;
+        told.extend_from_slice(&lines)?;
+    }
+    Ok(told)
+}
+
+/// A trace, and two reports of which one is its.
+const TABLE: [(&[u8], &[u8], &[u8]); 5] = [
+    (b"hmtrace 1\nend\n", b"", b""),
+    (
+        b"hmtrace 1\nround\nthread 1\nmalloc x 100\nwrite x 3 41\nrealloc y x 104\nrealloc z y 105\nread z 105\n\
+          aligned p 64 100\naligned r 3 10\ncalloc s 9223372036854775808 2\nfree s\nsfree z 106\nsize x-8\nend\n",
+        b"1.1.1 given 104\n1.1.2 written\n1.1.3 kept 104\n1.1.4 given 120\n1.1.5 bytes 41*3 00*102\n\
+          1.1.6 given 120\n1.1.7 bad alignment\n1.1.8 overflow\n1.1.9 skipped\n1.1.10 freed\n1.1.11 no slot\n",
+        b"",
+    ),
+    (
+        b"hmtrace 1\nround\nthread 1\nfree null\nfree @1000\nfree q\nsize null\nend\n",
+        b"1.1.1 nothing\n1.1.2 outside\n1.1.3 skipped\n1.1.4 size 0\n",
+        b"",
+    ),
+    (
+        b"hmtrace 1\nround\nthread 1\nmalloc x 100\nround\nthread 1\nfree x\nthread 2\nfree x\nend\n",
+        b"1.1.1 given 104\n2.1.1 freed\n2.2.1 double free\n",
+        b"1.1.1 given 104\n2.1.1 double free\n2.2.1 freed\n",
+    ),
+    (
+        b"hmtrace 1\nround\nthread 1\nmalloc buf 4096\nmalloc s 13\nwrite s 13 61\nthread 2\ncalloc tab 10 24\n\
+          aligned page 4096 8192\nfree s\nround\nthread 1\nrealloc tab tab 480\nfree page\nthread 2\nread s 14\n\
+          size buf\nfree s\nfree buf\nsize tab\nround\nthread 7\nsize tab\nend\n",
+        b"1.1.1 given 5112\n1.1.2 given 24\n1.1.3 written\n1.2.1 given 248\n1.2.2 given 12280\n1.2.3 skipped\n\
+          2.1.1 given 504\n2.1.2 freed\n2.2.1 bytes 61*13 00*1\n2.2.2 size 5112\n2.2.3 freed\n2.2.4 freed\n\
+          2.2.5 size 248\n3.7.1 size 504\n",
+        b"1.1.1 given 5112\n1.1.2 given 24\n1.1.3 written\n1.2.1 given 248\n1.2.2 given 12280\n1.2.3 skipped\n\
+          2.1.1 given 504\n2.1.2 freed\n2.2.1 bytes 61*13 00*1\n2.2.2 size 5112\n2.2.3 freed\n2.2.4 freed\n\
+          2.2.5 double free\n3.7.1 size 504\n",
+    ),
+];
+
+#[test]
+fn reports_of_rounds(rt: HostRuntime) -> Result<(), Fail> {
+    for (text, one, other) in &TABLE {
+        let told = report_of(&rt, rt.alloc(), &NoGate, text)?;
+        assert!(rt; told.as_slice() == *one || told.as_slice() == *other);
+    }
+    Ok(())
+}
+
+/// A gate that holds the first call in each of two regions until both were entered, or for 10,000,000 turns.
+#[derive(Drop)]
+struct Meeting {
+    small: AtomicU64,
+    great: AtomicU64,
+    missed: AtomicU64,
+}
+
+impl Meeting {
+    fn wait_for(&self, word: &AtomicU64) {
+        for _ in 0u32..10_000_000 {
+            if word.load(Ordering::SeqCst) > 0 {
+                return;
+            }
+            thread::yield_now();
+        }
+        self.missed.fetch_add(1, Ordering::SeqCst);
+    }
+}
+
+impl Gate for Meeting {
+    fn inside(&self, region: RegionId, _caller: u32) {
+        if region.0 == 1 {
+            self.small.fetch_add(1, Ordering::SeqCst);
+            self.wait_for(&self.great);
+        }
+        if region.0 == 77 {
+            self.great.fetch_add(1, Ordering::SeqCst);
+            self.wait_for(&self.small);
+        }
+    }
+}
+
+#[test]
+fn threads_of_a_round_run_at_once(rt: HostRuntime) -> Result<(), Fail> {
+    let gate = Meeting {
+        small: AtomicU64::new(0),
+        great: AtomicU64::new(0),
+        missed: AtomicU64::new(0),
+    };
+    let text = b"hmtrace 1\nround\nthread 1\nmalloc a 8\nthread 2\nmalloc b 4000\nend\n";
+    let told = report_of(&rt, rt.alloc(), &gate, text)?;
+    assert!(rt; gate.missed.load(Ordering::SeqCst) == 0);
+    assert!(rt; told.as_slice() == b"1.1.1 given 8\n1.2.1 given 4088\n".as_slice());
+    Ok(())
+}
+
+/// A round of 16 scripts of 1,000 steps: each allots a block and gives it back, 500 times.
+fn many_scripts(alloc: Global) -> Result<Vec<u8>, NoMemory> {
+    let mut text = Vec::new(alloc);
+    text.extend_from_slice(b"hmtrace 1\nround\n")?;
+    for number in 1u8..17 {
+        text.extend_from_slice(b"thread ")?;
+        if number > 9 {
+            text.push(b'1')?;
+        }
+        text.push(b'0' + number % 10)?;
+        text.push(b'\n')?;
+        for _ in 0u32..500 {
+            text.extend_from_slice(b"malloc ")?;
+            text.push(b'a' + number)?;
+            text.extend_from_slice(b" 100\nfree ")?;
+            text.push(b'a' + number)?;
+            text.push(b'\n')?;
+        }
+    }
+    text.extend_from_slice(b"end\n")?;
+    Ok(text)
+}
+
+#[test]
+fn many_scripts_at_once(rt: HostRuntime) -> Result<(), Fail> {
+    let text = many_scripts(rt.alloc())?;
+    let told = report_of(&rt, rt.alloc(), &NoGate, &text)?;
+    let lines = told.iter().filter(|byte| **byte == b'\n').count();
+    let given = told.iter().filter(|byte| **byte == b'v').count();
+    assert!(rt; lines == 16_000 && given == 8_000);
+    Ok(())
+}
