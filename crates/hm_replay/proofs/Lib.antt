@@ -11,3 +11,4 @@ pub mod Merging
 pub mod Rounding
 pub mod Replaying
 pub mod Ascending
+pub mod Entries

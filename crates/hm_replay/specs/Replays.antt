@@ -14,7 +14,7 @@ use Rattle.hm_replay.specs.Gains.{mine_of}
 use Rattle.hm_replay.specs.Names.{Names, no_names}
 use Rattle.hm_replay.specs.RoundOf.{ended_in, IsGathered, LeavesRoot}
 use Rattle.hm_replay.specs.Uses.{Own}
-use Rattle.hm_replay.specs.Rounds.{RunsRound, RunsRounds, InRounds, script_count, own_in}
+use Rattle.hm_replay.specs.Rounds.{RunsRound, RunsRounds, InRounds, script_count, own_in, IsOfTrace, EachIs}
 
 -- the first pass after these rounds, which were the first ones: the results are those of the scripts, and each turn has
 -- seen their entries round by round, and no others
@@ -60,6 +60,12 @@ ReplaysClose = (c : Config) (p : PassView) (hs : List History) (rounds : List (L
     → ((r : ℕ) (t : Known) (h : History) → r < length p.turns
     → IsWhole (slice_index_or hs r h).entries (slice_index_or p.turns r t).knows)
     → AreReplayed c hs rounds results last
+
+-- of each entry of the histories: it is of a step of a script
+abbrev pub EntriesAreOfTrace : Type 0
+EntriesAreOfTrace = (c : Config) (hs : List History) (rounds : List (List ScriptView)) (results : List Results) (last : Names)
+    → AreReplayed c hs rounds results last
+    → (r : ℕ) (h : History) → r < length hs → EachIs (IsOfTrace 1 1 rounds) (slice_index_or hs r h).entries
 
 -- of the scripts of a round
 abbrev pub RoundsAreSmall : Type 0

@@ -1,6 +1,7 @@
 -- The rounds of a trace over all histories.
-use Rattle.std.specs.Prelude.{◌≡◌, ℕ, ◌+◌, ◌<◌, ◌≤◌, List, [], ◌∷◌, ◌++◌, length, map, slice_index_or, ⊤}
+use Rattle.std.specs.Prelude.{◌≡◌, ℕ, ◌+◌, ◌<◌, ◌≤◌, ◌⊎◌, List, [], ◌∷◌, ◌++◌, length, map, slice_index_or, ⊤}
 use Rattle.hm_model.specs.declared.entry.Entry.{Entry}
+use Rattle.hm_model.specs.declared.entry.Who.{Who}
 use Rattle.hm_model.specs.Entries.{calls_of}
 use Rattle.hm_report.specs.declared.results.Results.{Results}
 use Rattle.hm_sizes.specs.declared.config.Config.{Config}
@@ -72,3 +73,25 @@ InRounds caller [] entries = entries ≡ []
 InRounds caller (scripts ∷ rounds) entries =
     (these : List Entry) × (later : List Entry) × (entries ≡ these ++ later)
     × AreOfCallers caller (length scripts) these × InRounds (caller + length scripts) rounds later
+
+-- the entry is of one of the steps of this script
+pub record IsOfScript (caller round : ℕ) (s : ScriptView) (who : Who) : Type 0 where
+  pub caller_is : who.caller ≡ caller
+  pub round_is : who.round ≡ round
+  pub thread_is : who.thread ≡ s.thread
+  pub step_least : 1 ≤ who.step
+  pub step_most : who.step ≤ length s.steps
+
+-- of one of these scripts, whose callers follow one another
+abbrev pub IsOfRound : ℕ → ℕ → List ScriptView → Entry → Type 0
+IsOfRound caller round [] e = ⊥
+IsOfRound caller round (s ∷ scripts) e = IsOfScript caller round s e.who ⊎ IsOfRound (caller + 1) round scripts e
+
+abbrev pub IsOfTrace : ℕ → ℕ → List (List ScriptView) → Entry → Type 0
+IsOfTrace caller round [] e = ⊥
+IsOfTrace caller round (scripts ∷ rounds) e =
+    IsOfRound caller round scripts e ⊎ IsOfTrace (caller + length scripts) (round + 1) rounds e
+
+abbrev pub EachIs : (Entry → Type 0) → List Entry → Type 0
+EachIs Is [] = ⊤
+EachIs Is (e ∷ entries) = Is e × EachIs Is entries

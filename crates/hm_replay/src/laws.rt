@@ -1,6 +1,6 @@
 //! Laws of rounds one after another on a new heap. Each function does nothing of its own: its contract is the
 //! law.
-ghost use Rattle.hm_replay.specs.Replays.{NewReplays, RoundsGoOn, ReplaysClose, ResultsAscend, RoundsAreSmall};
+ghost use Rattle.hm_replay.specs.Replays.{NewReplays, RoundsGoOn, ReplaysClose, EntriesAreOfTrace, ResultsAscend, RoundsAreSmall};
 
 /// What is known of the first pass after some rounds, and of the histories when the heap is closed; and that
 /// the results stand in the order of a report.
@@ -8,6 +8,7 @@ pub fn replayed_rounds()
     ensures first { NewReplays }
     ensures more { RoundsGoOn }
     ensures closed { ReplaysClose }
+    ensures entries { EntriesAreOfTrace }
     ensures order { ResultsAscend }
 {}
 

@@ -1,4 +1,5 @@
 use Rattle.hm_replay.proofs.Replaying.{goes_on, new_replays, replays_close}
+use Rattle.hm_replay.proofs.Entries.{all_of_trace}
 use Rattle.hm_replay.proofs.Ascending.{results_ascend}
 use Rattle.hm_replay.proofs.laws.replayed_rounds.Goals as goal
 
@@ -13,3 +14,6 @@ returns-clause-closed c = replays_close
 
 pub returns-clause-order : goal.returns-clause-order
 returns-clause-order c = results_ascend
+
+pub returns-clause-entries : goal.returns-clause-entries
+returns-clause-entries c = all_of_trace
