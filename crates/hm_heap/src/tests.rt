@@ -5,7 +5,10 @@ ghost use Rattle.hm_heap.specs.Passes.{AreOf};
 
 use crate::{Closed, Heap, Pass};
 use hm_model::{Answer, Reply, Runs};
-use hm_outside::{Gate, NoGate, NoMemory, PageMaker, Pages, PlainMaker, PlainPages, RegionId};
+use hm_outside::{
+    Gate, NoGate, NoMemory, PageFault, PageMaker, PageRefusal, Pages, PlainMaker, PlainPages,
+    RegionId,
+};
 use hm_sizes::Config;
 use std::alloc::Global;
 use std::sync::Wait;
@@ -125,7 +128,7 @@ fn first_other<R: Wait, P: Pages, G: Gate>(
     Ok(0)
 }
 
-const TABLE: [(Ask, u8, u64); 62] = [
+const TABLE: [(Ask, u8, u64); 68] = [
     (Ask::Malloc(8), 1, 8),
     (Ask::Malloc(9), 1, 24),
     (Ask::Malloc(120), 1, 120),
@@ -195,6 +198,13 @@ const TABLE: [(Ask, u8, u64); 62] = [
     (Ask::TryMalloc(8), 1, 8),
     (Ask::TryFree(60, 0), 7, 0),
     (Ask::TryFree(0, 0), 25, 0),
+    // both ends of the regions of classes and of the large space
+    (Ask::Free(0, (1 << 40) - 1), 21, 0),
+    (Ask::Free(0, (1 << 40) + (1 << 36)), 8, 0),
+    (Ask::Free(0, (1 << 40) + 196 * (1 << 36) - 1), 8, 0),
+    (Ask::Free(0, (1 << 40) + 196 * (1 << 36)), 21, 0),
+    (Ask::Free(0, (1 << 46) + (1 << 40) - 1), 17, 0),
+    (Ask::Free(0, (1 << 46) + (1 << 40)), 21, 0),
 ];
 
 #[test]
@@ -403,5 +413,108 @@ fn passes_are_joined_and_closed(rt: HostRuntime) -> Result<(), Fail> {
     assert_eq!(rt; entries_of(&closed, 7), Some(2));
     assert_eq!(rt; entries_of(&closed, 56), Some(1));
     assert_eq!(rt; entries_of(&closed, 196), Some(0));
+    Ok(())
+}
+
+/// Where memory is wanted for a split, the root goes on as before.
+#[test]
+fn a_root_goes_on_without_a_split(rt: HostRuntime) -> Result<(), Fail> {
+    let config = Config::standard();
+    let (heap, mut root) = Heap::build(rt.alloc(), config, 1, &mut PlainMaker, &NoGate)?;
+    let given = heap.malloc(&rt, &mut root, 1, 100)?;
+    assert!(rt; shown(&given) == (1, 104));
+    let split = heap.split(rt.alloc(), &mut root, 1, 1);
+    let lacking = split.is_err();
+    assert_eq!(rt; root.out(), if lacking { 0 } else { 1 });
+    if let Ok(pass) = split {
+        heap.join(&mut root, pass);
+    }
+    assert!(rt; shown(&heap.free(&rt, &mut root, 2, block_of(&given))?) == (7, 0));
+    let again = heap.split(rt.alloc(), &mut root, 1, 2)?;
+    assert_eq!(rt; again.caller(), if lacking { 1 } else { 2 });
+    heap.join(&mut root, again);
+    assert_eq!(rt; (root.caller(), root.out()), (0, 0));
+    Ok(())
+}
+
+/// Pages that tell nothing, and lend nothing but what lies at address 0.
+#[derive(Drop)]
+struct SilentPages {
+    plain: PlainPages,
+}
+
+impl Pages for SilentPages {
+    ghost use Rattle.std.specs.Prelude.{◌≡◌, false, refl};
+    ghost use Rattle.std.specs.FinMap as map;
+    ghost use Rattle.std.proofs.lemmas.Bool.{false≢true};
+    ghost use Rattle.hm_outside.specs.PlainRuns.{CanWrite, with_range};
+
+    ghost told = { λ p. false };
+
+    ghost runs = { λ p. map.empty };
+
+    ghost faults = { λ p. 0 };
+
+    ghost can_write = { λ p addr len. (addr ≡ 0) × CanWrite p.plain addr len };
+
+    ghost after_write = { λ p addr len bytes. record p { plain = with_range p.plain addr len bytes } };
+
+    ghost written = { λ p addr bytes can. record { same_telling = refl; same_count = refl; over = λ tells. absurd (false≢true tells) } };
+
+    fn make_accessible(&mut self, _first: u64, _pages: u32) -> Result<(), PageRefusal> {
+        Ok(())
+    }
+
+    fn drop_contents(&mut self, _first: u64, _pages: u32) -> Result<(), PageFault> {
+        Ok(())
+    }
+
+    fn purge(&mut self, _first: u64, _pages: u32) {}
+
+    fn bytes(&self, _addr: u64, _len: usize) -> Option<&[u8]> {
+        None
+    }
+
+    fn holds(&self, addr: u64, len: usize) -> bool {
+        addr == 0 && self.plain.holds(addr, len)
+    }
+
+    fn bytes_mut(&mut self, addr: u64, len: usize) -> &mut [u8] {
+        self.plain.bytes_mut(addr, len)
+    }
+
+    fn faults(&self) -> u64 {
+        0
+    }
+}
+
+/// Their maker.
+#[derive(Drop)]
+struct SilentMaker;
+
+impl PageMaker for SilentMaker {
+    type P = SilentPages;
+
+    fn make(&mut self, alloc: Global, _region: RegionId) -> Result<SilentPages, NoMemory> {
+        Ok(SilentPages {
+            plain: PlainPages::new(alloc),
+        })
+    }
+}
+
+const GREATEST: [(Ask, u8, u64); 5] = [
+    (Ask::Malloc(1 << 30), 1, 1 << 30),
+    (Ask::Malloc((1 << 30) + 1), 20, 0),
+    (Ask::Usable(1, 0), 13, 1 << 30),
+    (Ask::Sized(1, 1 << 30), 7, 0),
+    (Ask::Free(1, 0), 17, 0),
+];
+
+#[test]
+fn greatest_block(rt: HostRuntime) -> Result<(), Fail> {
+    let config = Config::standard();
+    let (heap, mut pass) = Heap::build(rt.alloc(), config, 1, &mut SilentMaker, &NoGate)?;
+    let other = first_other(&rt, rt.alloc(), &heap, &mut pass, &GREATEST)?;
+    assert!(rt; other == 0);
     Ok(())
 }
