@@ -4,8 +4,9 @@ ghost use Rattle.hm_heap.specs.Passes.{AreOf};
 
 use crate::{Env, run_round};
 use hm_heap::{Heap, Pass};
+use hm_model::{Answer, Entry, Reply};
 use hm_outside::{Gate, NoGate, NoMemory, Pages, PlainMaker, RegionId};
-use hm_report::{Results, report};
+use hm_report::{Results, StepResult, report};
 use hm_sizes::Config;
 use hm_trace::{Round, read_trace};
 use std::alloc::Global;
@@ -26,6 +27,8 @@ fn run_rounds<R: Threads + Wait + Sync, P: Pages, G: Gate>(
     requires of { AreOf heap.now.locks root.old.turns }
     requires root { (root.old.caller ≡ 0) × (root.old.splits ≡ 0) }
     requires few { length rounds.now ≤ 1024 }
+    ensures of { AreOf heap.now.locks root.new.turns }
+    ensures root { (root.new.caller ≡ 0) × (root.new.out ≡ root.old.out) }
 {
     let mut env = Env::build(alloc);
     let mut all = Vec::new(alloc);
@@ -171,12 +174,52 @@ fn many_scripts(alloc: Global) -> Result<Vec<u8>, NoMemory> {
     Ok(text)
 }
 
+/// Whether a result is that of an entry.
+fn is_of(told: &StepResult, entry: &Entry) -> bool {
+    match (&told.answer, &entry.reply) {
+        (
+            Some(Answer::Reply(Reply::Given { addr, usable })),
+            Reply::Given {
+                addr: kept,
+                usable: size,
+            },
+        ) => addr == kept && usable == size,
+        (Some(Answer::Reply(Reply::Freed)), Reply::Freed) => true,
+        _ => false,
+    }
+}
+
+/// How many results of a script are those of the next entries of its caller in a history.
+fn agreeing(results: &Results, entries: &[Entry], caller: u32) -> usize {
+    let own = entries.iter().filter(|entry| entry.who.caller == caller);
+    results
+        .items
+        .items()
+        .iter()
+        .zip(own)
+        .filter(|(told, entry)| is_of(told, entry))
+        .count()
+}
+
 #[test]
 fn many_scripts_at_once(rt: HostRuntime) -> Result<(), Fail> {
-    let text = many_scripts(rt.alloc())?;
-    let told = report_of(&rt, rt.alloc(), &NoGate, &text)?;
-    let lines = told.iter().filter(|byte| **byte == b'\n').count();
-    let given = told.iter().filter(|byte| **byte == b'v').count();
-    assert!(rt; lines == 16_000 && given == 8_000);
+    let alloc = rt.alloc();
+    let text = many_scripts(alloc)?;
+    let Ok(trace) = read_trace(alloc, &text) else {
+        return Err(Fail::new("no trace"));
+    };
+    let (heap, mut root) = Heap::build(alloc, Config::standard(), 1, &mut PlainMaker, &NoGate)?;
+    let results = run_rounds(&rt, alloc, &heap, &mut root, trace.rounds())?;
+    let closed = heap.close(alloc, root)?;
+    assert_eq!(rt; results.len(), 16);
+    for (index, of_script) in results.iter().enumerate() {
+        let region = 7 + 49 * (index % 4);
+        let history = closed.histories.items().get(region);
+        let entries = history
+            .map(|history| history.entries.items())
+            .unwrap_or(&[]);
+        assert_eq!(rt; of_script.items.items().len(), 1000);
+        assert_eq!(rt; agreeing(of_script, entries, index as u32 + 1), 1000);
+    }
     Ok(())
 }
