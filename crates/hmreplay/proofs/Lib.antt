@@ -1,8 +1,10 @@
-mod Addresses
-mod Closing
-mod Completed
-mod FirstRegions
-mod Pushed
-mod Putting
-mod Taking
-mod TooLong
+pub mod Taking
+pub mod Putting
+pub mod Completed
+pub mod TooLong
+pub mod Counting
+pub mod Numerals
+pub mod Valid
+pub mod Fronts
+pub mod Causes
+pub mod Outcomes

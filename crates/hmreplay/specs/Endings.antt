@@ -1,11 +1,9 @@
 -- How a run ends, with its cause.
-use Rattle.std.specs.Prelude.{◌≡◌, ◌⊎◌, ℕ, ◌≤◌, Bool, true, false, if◌then◌else◌, List, [], ◌∷◌, ◌++◌, length, codes, String, Option, Some, None}
+use Rattle.std.specs.Prelude.{◌≡◌, ◌⊎◌, ℕ, ◌≤◌, if◌then◌else◌, List, ◌∷◌, [], ◌++◌, length, codes, String, Option, Some, None}
 use Rattle.std.specs.Fmt.{decimal}
 use Rattle.std.specs.declared.alloc.Global.{Global}
 use Rattle.hm_outside.specs.declared.pages.Pages as pages
-use Rattle.hm_outside.specs.PageRuns.{PageRuns}
 use Rattle.hm_report.specs.declared.results.Results.{Results}
-use Rattle.hm_report.specs.declared.results.StepResult.{StepResult}
 use Rattle.hm_report.specs.Text.{report_text}
 use Rattle.hm_report.specs.Findings.{has_finding}
 use Rattle.hm_trace.specs.declared.fault.FaultKind.{FaultKind}
@@ -17,31 +15,33 @@ use Rattle.hm_trace.specs.Traces.{IsTrace}
 use Rattle.hm_trace.specs.Views.{ScriptView}
 use Rattle.hm_heap.specs.declared.close.Closed.{Closed}
 use Rattle.hmreplay.specs.declared.refusal.Refusal.{Refusal}
-use Rattle.hmreplay.specs.declared.refusal.Refusal.TheVariants.{Usage, NotBuilt, ReadFault, TooLong}
-use Rattle.hmreplay.specs.Words.{AreRun}
+use Rattle.hmreplay.specs.declared.refusal.Refusal.TheVariants.{Usage, ReadFault, TooLong}
+use Rattle.hmreplay.specs.declared.words.Options.{Options}
+use Rattle.hmreplay.specs.Words.{options_of}
 use Rattle.hmreplay.specs.Streams.{IsReadToEnd, IsTakenPast, IsTakenWithin, IsWritten}
-use Rattle.hmreplay.specs.Built.{is_built, steps_of}
-use Rattle.hmreplay.specs.Histories.{Closes}
+use Rattle.hmreplay.specs.Replayed.{IsReplayed}
 
 -- ---- refusals
 abbrev pub status_of : Refusal → ℕ
 status_of Usage = 2
 status_of ReadFault = 4
 status_of TooLong = 7
-status_of NotBuilt = 8
 
 abbrev pub line_of : Refusal → List ℕ
 line_of Usage = codes "fault: usage" ++ 10 ∷ []
 line_of ReadFault = codes "fault: read" ++ 10 ∷ []
 line_of TooLong = codes "fault: too long" ++ 10 ∷ []
-line_of NotBuilt = codes "fault: not built" ++ 10 ∷ []
 
--- why a run is refused before its text is read; where the words are not accepted nothing was taken from the source, and where the source failed no more than may be; a trace that is not built is refused after that
+-- the words ask for something
+abbrev pub AreAccepted : List (String Global) → Type 0
+AreAccepted words = (o : Options) × (options_of words ≡ Some o)
+
+-- why a run is refused before its text is looked at; where the words are not accepted nothing was taken from the source,
+-- and where the source failed no more than may be
 abbrev pub IsRefused : Refusal → List (String Global) → Option (List ℕ) → Option (List ℕ) → Type 0 → Type 0
-IsRefused Usage words left left' rose = (AreRun words → ⊥) × (left' ≡ left)
-IsRefused ReadFault words left left' rose = AreRun words × rose × IsTakenWithin 67108864 left left'
-IsRefused TooLong words left left' rose = AreRun words × IsTakenPast 67108864 left left'
-IsRefused NotBuilt words left left' rose = ⊥
+IsRefused Usage words left left' rose = (options_of words ≡ None) × (left' ≡ left)
+IsRefused ReadFault words left left' rose = AreAccepted words × rose × IsTakenWithin 67108864 left left'
+IsRefused TooLong words left left' rose = AreAccepted words × IsTakenPast 67108864 left left'
 
 -- ---- faults of a trace
 abbrev pub kind_text : FaultKind → List ℕ
@@ -69,31 +69,22 @@ abbrev pub fault_line : TraceFault → List ℕ
 fault_line fault = fault_start ++ fault_text fault.line fault.kind
 
 -- ---- a run
--- the results of the one script, if there is one
-abbrev pub AreOf : List (List ScriptView) → List StepResult → List Results → Type 0
-AreOf ((s ∷ []) ∷ []) items results = results ≡ record { round = 1; thread = 1; items = items } ∷ []
-AreOf rounds items results = results ≡ []
-
 -- 1 exactly where there is a finding
 abbrev pub status_after : List Results → ℕ
 status_after results = if has_finding results then 1 else 0
 
--- the trace was run and closed: these are its results
-pub record IsRun {P : Type 0} (meaning : pages.Ghosts P) (closed : Option (Closed P)) (trace : List (List ScriptView)) (results : List Results) : Type 0 where
-  pub items : List StepResult
-  pub closes : Closes meaning closed (steps_of trace) items
-  pub are_of : AreOf trace items results
-
 -- ---- endings
 module _ {P : Type 0} (meaning : pages.Ghosts P) (status : ℕ) (closed : Option (Closed P)) where
-  -- the trace was run, and the report of the history's replies was written, or a front of it where the sink failed
-  pub record RunsText (bytes : List ℕ) (held held' : Option (List ℕ)) (sink_rose : Type 0) : Type 0 where
+  -- the trace was run and the heap closed, and the report of the replies was written, or a front of it where the sink
+  -- failed
+  pub record RunsText (o : Options) (bytes : List ℕ) (held held' : Option (List ℕ)) (sink_rose : Type 0) : Type 0 where
     pub trace : List (List ScriptView)
     pub is_trace : IsTrace trace
     pub text : bytes ≡ spelling trace
-    pub built : is_built trace ≡ true
+    pub left : Closed P
+    pub closed_is : closed ≡ Some left
     pub results : List Results
-    pub run : IsRun meaning closed trace results
+    pub replayed : IsReplayed meaning o left trace results
     pub written : IsWritten status (status_after results) held held' sink_rose (report_text results)
 
   -- the text is no trace, and the line that names its first fault was written, or a front of it where the sink failed
@@ -103,25 +94,17 @@ module _ {P : Type 0} (meaning : pages.Ghosts P) (status : ℕ) (closed : Option
     pub not_closed : closed ≡ None
     pub written : IsWritten status 3 held held' sink_rose (fault_line fault)
 
-  -- the text is a trace that is not built yet
-  pub record IsUnbuilt (bytes : List ℕ) (held held' : Option (List ℕ)) (sink_rose : Type 0) : Type 0 where
-    pub trace : List (List ScriptView)
-    pub is_trace : IsTrace trace
-    pub text : bytes ≡ spelling trace
-    pub not_built : is_built trace ≡ false
-    pub not_closed : closed ≡ None
-    pub written : IsWritten status 8 held held' sink_rose (line_of NotBuilt)
-
   -- how a text that was read ends; the last case is want of memory
-  abbrev pub TextEnds : List ℕ → Option (List ℕ) → Option (List ℕ) → Type 0 → Type 0
-  TextEnds bytes held held' sink_rose =
-      RunsText bytes held held' sink_rose
+  abbrev pub TextEnds : Options → List ℕ → Option (List ℕ) → Option (List ℕ) → Type 0 → Type 0
+  TextEnds o bytes held held' sink_rose =
+      RunsText o bytes held held' sink_rose
       ⊎ IsFaulty bytes held held' sink_rose
-      ⊎ IsUnbuilt bytes held held' sink_rose
       ⊎ ((status ≡ 6) × (held' ≡ held) × (closed ≡ None))
 
-  -- the words are not accepted; or the source failed, or has too many bytes: the line that says so was written, or a front of it where the sink failed
-  pub record EndsRefused (words : List (String Global)) (left left' : Option (List ℕ)) (source_rose : Type 0) (held held' : Option (List ℕ)) (sink_rose : Type 0) : Type 0 where
+  -- the words are not accepted; or the source failed, or has too many bytes: the line that says so was written, or a
+  -- front of it where the sink failed
+  pub record EndsRefused (words : List (String Global)) (left left' : Option (List ℕ)) (source_rose : Type 0)
+      (held held' : Option (List ℕ)) (sink_rose : Type 0) : Type 0 where
     pub refusal : Refusal
     pub cause : IsRefused refusal words left left' source_rose
     pub not_closed : closed ≡ None
@@ -129,20 +112,23 @@ module _ {P : Type 0} (meaning : pages.Ghosts P) (status : ℕ) (closed : Option
 
   -- memory was wanted while the source was read: nothing was written
   pub record EndsUnread (words : List (String Global)) (held held' : Option (List ℕ)) : Type 0 where
-    pub words_are : AreRun words
+    pub words_are : AreAccepted words
     pub status_is : status ≡ 6
     pub unwritten : held' ≡ held
     pub not_closed : closed ≡ None
 
   -- the source was read to its end, and has no more bytes than may be taken
-  pub record EndsRead (words : List (String Global)) (left left' : Option (List ℕ)) (held held' : Option (List ℕ)) (sink_rose : Type 0) : Type 0 where
-    pub words_are : AreRun words
+  pub record EndsRead (words : List (String Global)) (left left' : Option (List ℕ)) (held held' : Option (List ℕ))
+      (sink_rose : Type 0) : Type 0 where
+    pub options : Options
+    pub words_are : options_of words ≡ Some options
     pub bytes : List ℕ
     pub read : IsReadToEnd left left' bytes
     pub within : length bytes ≤ 67108864
-    pub ends : TextEnds bytes held held' sink_rose
+    pub ends : TextEnds options bytes held held' sink_rose
 
-  abbrev pub Ends : List (String Global) → Option (List ℕ) → Option (List ℕ) → Type 0 → Option (List ℕ) → Option (List ℕ) → Type 0 → Type 0
+  abbrev pub Ends : List (String Global) → Option (List ℕ) → Option (List ℕ) → Type 0 → Option (List ℕ)
+      → Option (List ℕ) → Type 0 → Type 0
   Ends words left left' source_rose held held' sink_rose =
       EndsRead words left left' held held' sink_rose
       ⊎ EndsRefused words left left' source_rose held held' sink_rose

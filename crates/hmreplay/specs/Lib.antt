@@ -1,8 +1,6 @@
 pub mod Words
 pub mod Streams
-pub mod FirstRegion
-pub mod Scripts
-pub mod Requests
-pub mod Built
-pub mod Histories
+pub mod Replayed
 pub mod Endings
+pub mod Refusals
+pub mod Laws

@@ -1,9 +1,93 @@
--- The words after the program's name.
-use Rattle.std.specs.Prelude.{◌≡◌, List, [], ◌∷◌, codes, string_bytes, String}
+-- The words after the program's name: a command and its options.
+use Rattle.std.specs.Prelude.{ℕ, ◌%◌, ◌^◌, Bool, true, false, not, ◌&&◌, ◌||◌, ◌==◌, nat_lt, nat_le, if◌then◌else◌, List, [], ◌∷◌, length, codes, string_bytes, String, Option, Some, None, is_some, unwrap_or, option_and_then}
+use Rattle.std.specs.Char.{is_ascii_digit}
+use Rattle.std.specs.List.{list_all}
+use Rattle.std.specs.Str.Parse.{digits_value}
 use Rattle.std.specs.declared.alloc.Global.{Global}
+use Rattle.hm_sizes.specs.declared.config.Config.{Config}
+use Rattle.hm_sizes.specs.Configs.{standard}
+use Rattle.hm_trace.specs.Names.{is_word}
+use Rattle.hmreplay.specs.declared.words.OptionName.{OptionName}
+use Rattle.hmreplay.specs.declared.words.OptionName.TheVariants.{Seed, ClassRegion, LargeSpace}
+use Rattle.hmreplay.specs.declared.words.Options.{Options}
 
--- they are the one word `run`
-abbrev pub AreRun : List (String Global) → Type 0
-AreRun [] = ⊥
-AreRun (word ∷ []) = string_bytes word ≡ codes "run"
-AreRun (word ∷ more ∷ words) = ⊥
+-- ---- numbers
+abbrev pub are_digits : List ℕ → Bool
+are_digits bytes = list_all is_ascii_digit bytes
+
+-- 1 to 20 digits; zeros may stand first
+abbrev pub is_numeral : List ℕ → Bool
+is_numeral word = nat_le 1 (length word) && nat_le (length word) 20 && are_digits word
+
+-- the value of such a word, up to 2 ^ 64 - 1
+abbrev pub number_in : List ℕ → Option ℕ
+number_in word = if is_numeral word && nat_lt (digits_value 10 word) (2 ^ 64) then Some (digits_value 10 word) else None
+
+-- ---- options
+abbrev pub text_of : OptionName → List ℕ
+text_of Seed = codes "--seed"
+text_of ClassRegion = codes "--class-region"
+text_of LargeSpace = codes "--large-space"
+
+-- whole pages, from 1 MiB to so many bytes
+abbrev pub is_space : ℕ → ℕ → Bool
+is_space most n = n % 4096 == 0 && nat_le 1048576 n && nat_le n most
+
+-- the values that an option may have
+abbrev pub is_value : OptionName → ℕ → Bool
+is_value Seed n = true
+is_value ClassRegion n = is_space 34359738368 n
+is_value LargeSpace n = is_space 1099511627776 n
+
+-- the value that a word gives to an option, if it may
+abbrev pub value_of : OptionName → List ℕ → Option ℕ
+value_of option word = option_and_then (λ n. if is_value option n then Some n else None) (number_in word)
+
+-- the word is this option
+abbrev pub names : OptionName → List ℕ → Bool
+names option word = is_word word (text_of option)
+
+-- ---- pairs of an option and its value
+abbrev pub is_given : OptionName → List (String Global) → Bool
+is_given option [] = false
+is_given option (word ∷ []) = false
+is_given option (word ∷ value ∷ words) = names option (string_bytes word) || is_given option words
+
+-- the value given to an option
+abbrev pub given : OptionName → List (String Global) → Option ℕ
+given option [] = None
+given option (word ∷ []) = None
+given option (word ∷ value ∷ words) = if names option (string_bytes word) then value_of option (string_bytes value) else given option words
+
+-- the word is this option, its value may be the option's, and the option does not come again
+abbrev pub is_option : OptionName → List ℕ → List ℕ → List (String Global) → Bool
+is_option option word value after = names option word && is_some (value_of option value) && not (is_given option after)
+
+-- each option at most once
+abbrev pub are_options : List (String Global) → Bool
+are_options [] = true
+are_options (word ∷ []) = false
+are_options (word ∷ value ∷ words) =
+    (is_option Seed (string_bytes word) (string_bytes value) words
+    || is_option ClassRegion (string_bytes word) (string_bytes value) words
+    || is_option LargeSpace (string_bytes word) (string_bytes value) words)
+    && are_options words
+
+-- ---- words
+-- the values of the options, and those that stand where an option is not given
+abbrev pub options_in : List (String Global) → Options
+options_in words = record {
+  seed = unwrap_or (given Seed words) 0;
+  class_region = unwrap_or (given ClassRegion words) 34359738368;
+  large_space = unwrap_or (given LargeSpace words) 1099511627776;
+}
+
+-- `run` and then options; other words are not accepted
+abbrev pub options_of : List (String Global) → Option Options
+options_of [] = None
+options_of (command ∷ words) =
+    if is_word (string_bytes command) (codes "run") && are_options words then Some (options_in words) else None
+
+-- the configuration that they ask for
+abbrev pub config_of : Options → Config
+config_of o = record standard { class_region = o.class_region; large_space = o.large_space }

@@ -3,16 +3,11 @@
 //! and with 6 where there was no memory for them.
 #![tactic(auto)]
 
-mod built;
-mod heap;
 mod laws;
-mod names;
-mod places;
 mod reading;
 mod refusal;
-mod request;
+mod rounds;
 mod run;
-mod script;
 #[cfg(test)]
 mod tests;
 mod trace_fault;

@@ -1,4 +1,4 @@
-//! Why a run is refused before its script runs: the status it ends with and the line it writes.
+//! Why a run is refused before its text is looked at: the status it ends with and the line it writes.
 ghost use Rattle.std.specs.Prelude.{◌≡◌};
 
 /// Why a run is refused.
@@ -10,8 +10,6 @@ pub enum Refusal {
     ReadFault,
     /// The source has more bytes than are read.
     TooLong,
-    /// The bytes are no text that runs so far.
-    NotBuilt,
 }
 
 impl Refusal {
@@ -24,7 +22,6 @@ impl Refusal {
             Refusal::Usage => 2,
             Refusal::ReadFault => 4,
             Refusal::TooLong => 7,
-            Refusal::NotBuilt => 8,
         }
     }
 
@@ -36,7 +33,6 @@ impl Refusal {
             Refusal::Usage => b"fault: usage\n",
             Refusal::ReadFault => b"fault: read\n",
             Refusal::TooLong => b"fault: too long\n",
-            Refusal::NotBuilt => b"fault: not built\n",
         }
     }
 }

@@ -1,23 +1,23 @@
-//! The top call: the words, the source to its end, the text, the script, the report, the sink.
-ghost use Rattle.std.specs.Prelude.{◌≡◌, ◌⊎◌, Some, None, true, IfOk};
+//! The top call: the words, the source to its end, the trace, the heap and the rounds, the report, the sink.
+ghost use Rattle.std.specs.Prelude.{◌≡◌, ◌⊎◌, Some, None, true};
 ghost use Rattle.hm_outside.specs.Causes.{Rose};
 ghost use Rattle.hm_report.specs.Findings.{ascends};
 ghost use Rattle.hm_report.specs.Text.{report_text};
-ghost use Rattle.hmreplay.specs.Built.{is_built};
-ghost use Rattle.hmreplay.specs.Endings.{Ends, TextEnds, IsRun, status_of, line_of, status_after, fault_line};
+ghost use Rattle.hm_sizes.specs.Configs.{IsValid};
+ghost use Rattle.hmreplay.specs.Endings.{Ends, TextEnds, status_of, line_of, status_after, fault_line};
 ghost use Rattle.hmreplay.specs.Streams.{IsTakenWithin, IsWritten};
+ghost use Rattle.hmreplay.specs.Words.{config_of};
 
-use crate::built::{is_built, script_of};
-use crate::heap::run_region;
 use crate::reading::{ReadStop, read_all};
 use crate::refusal::Refusal;
+use crate::rounds::{Ran, run_trace};
 use crate::trace_fault::line_of_fault;
-use crate::words::are_run;
+use crate::words::{Options, read_words};
 use crate::writing::finish;
 use hm_heap::Closed;
-use hm_outside::{Gate, List, NoMemory, PageMaker, Sink, Source};
-use hm_report::{Results, has_finding, report};
-use hm_trace::{ReadRefusal, Trace, TraceFault, read_trace};
+use hm_outside::{Gate, PageMaker, Sink, Source};
+use hm_report::{has_finding, report};
+use hm_trace::{ReadRefusal, TraceFault, read_trace};
 use std::alloc::Global;
 use std::sync::Wait;
 use std::thread::Threads;
@@ -32,7 +32,8 @@ pub struct Run<P> {
 // Writes why a run is refused.
 fn refuse<K: Sink, P>(sink: &mut K, refusal: Refusal) -> Run<P>
     ensures closed { result.closed ≡ None }
-    ensures written { IsWritten result.status (status_of refusal) (K.held sink.old) (K.held sink.new) (Rose (K.faults sink.old) (K.faults sink.new)) (line_of refusal) }
+    ensures written { IsWritten result.status (status_of refusal) (K.held sink.old) (K.held sink.new)
+        (Rose (K.faults sink.old) (K.faults sink.new)) (line_of refusal) }
 {
     Run {
         status: finish(sink, refusal.status(), refusal.line()),
@@ -55,7 +56,8 @@ fn give_up<P>() -> Run<P>
 fn refuse_text<K: Sink, P>(alloc: Global, sink: &mut K, fault: &TraceFault) -> Run<P>
     ensures closed { result.closed ≡ None }
     ensures written { ((result.status ≡ 6) × (K.held sink.new ≡ K.held sink.old))
-        ⊎ IsWritten result.status 3 (K.held sink.old) (K.held sink.new) (Rose (K.faults sink.old) (K.faults sink.new)) (fault_line fault.now) }
+        ⊎ IsWritten result.status 3 (K.held sink.old) (K.held sink.new) (Rose (K.faults sink.old) (K.faults sink.new))
+        (fault_line fault.now) }
 {
     match line_of_fault(alloc, fault) {
         Ok(line) => Run {
@@ -66,52 +68,13 @@ fn refuse_text<K: Sink, P>(alloc: Global, sink: &mut K, fault: &TraceFault) -> R
     }
 }
 
-/// What a trace that was run hands out, and its results.
-#[derive(Drop)]
-struct Ran<P> {
-    closed: Closed<P>,
-    results: Vec<Results>,
-}
-
-// Runs a trace.
-fn run_trace<M: PageMaker>(
-    alloc: Global,
-    maker: &mut M,
-    trace: &Trace,
-) -> Result<Ran<M::P>, NoMemory>
-    requires { is_built trace.now ≡ true }
-    ensures run { IfOk result (λ ran. IsRun M.P.Pages (Some ran.closed) trace.now ran.results.items) }
-    ensures order { IfOk result (λ ran. ascends ran.results.items ≡ true) }
-{
-    let mut results = Vec::new(alloc);
-    match script_of(trace) {
-        Some(script) => {
-            let done = run_region(alloc, maker, script.steps())?;
-            results.push(Results {
-                round: 1,
-                thread: 1,
-                items: List::of(done.items),
-            })?;
-            Ok(Ran {
-                closed: done.closed,
-                results,
-            })
-        }
-        None => {
-            let done = run_region(alloc, maker, &[])?;
-            Ok(Ran {
-                closed: done.closed,
-                results,
-            })
-        }
-    }
-}
-
 // Writes the report of a trace that was run.
 fn write_report<K: Sink, P: Drop>(alloc: Global, sink: &mut K, ran: Ran<P>) -> Run<P>
     requires { ascends ran.results.items ≡ true }
     ensures { ((result.status ≡ 6) × (K.held sink.new ≡ K.held sink.old) × (result.closed ≡ None))
-        ⊎ ((result.closed ≡ Some ran.closed) × IsWritten result.status (status_after ran.results.items) (K.held sink.old) (K.held sink.new) (Rose (K.faults sink.old) (K.faults sink.new)) (report_text ran.results.items)) }
+        ⊎ ((result.closed ≡ Some ran.closed)
+        × IsWritten result.status (status_after ran.results.items) (K.held sink.old) (K.held sink.new)
+        (Rose (K.faults sink.old) (K.faults sink.new)) (report_text ran.results.items)) }
 {
     match report(alloc, &ran.results) {
         Ok(text) => {
@@ -126,23 +89,25 @@ fn write_report<K: Sink, P: Drop>(alloc: Global, sink: &mut K, ran: Ran<P>) -> R
 }
 
 // Runs a text that was read.
-fn run_text<K: Sink, M: PageMaker>(
+fn run_text<R: Threads + Wait + Sync, K: Sink, M: PageMaker, G: Gate>(
+    rt: &R,
     alloc: Global,
+    options: &Options,
     bytes: &[u8],
     sink: &mut K,
     maker: &mut M,
+    gate: &G,
 ) -> Run<M::P>
-    ensures { TextEnds M.P.Pages result.status result.closed bytes.now (K.held sink.old) (K.held sink.new) (Rose (K.faults sink.old) (K.faults sink.new)) }
+    requires valid { IsValid (config_of options.now) }
+    ensures { TextEnds M.P.Pages result.status result.closed options.now bytes.now (K.held sink.old) (K.held sink.new)
+        (Rose (K.faults sink.old) (K.faults sink.new)) }
 {
     let trace = match read_trace(alloc, bytes) {
         Ok(trace) => trace,
         Err(ReadRefusal::Fault(fault)) => return refuse_text(alloc, sink, &fault),
         Err(ReadRefusal::NoMemory) => return give_up(),
     };
-    if !is_built(&trace) {
-        return refuse(sink, Refusal::NotBuilt);
-    }
-    match run_trace(alloc, maker, &trace) {
+    match run_trace(rt, alloc, options, maker, gate, &trace) {
         Ok(ran) => write_report(alloc, sink, ran),
         Err(_) => give_up(),
     }
@@ -150,7 +115,7 @@ fn run_text<K: Sink, M: PageMaker>(
 
 /// Reads a trace from the source, runs it, and writes the report of its results, or one line that says
 /// why it was refused. All memory is taken before the first byte is written.
-pub fn replay<R: Wait + Threads, S: Source, K: Sink, M: PageMaker, G: Gate>(
+pub fn replay<R: Threads + Wait + Sync, S: Source, K: Sink, M: PageMaker, G: Gate>(
     rt: &R,
     alloc: Global,
     words: &[String],
@@ -160,16 +125,16 @@ pub fn replay<R: Wait + Threads, S: Source, K: Sink, M: PageMaker, G: Gate>(
     gate: &G,
 ) -> Run<M::P>
     ensures bound { IsTakenWithin 67108865 (S.left source.old) (S.left source.new) }
-    ensures ends { Ends M.P.Pages result.status result.closed words.now (S.left source.old) (S.left source.new) (Rose (S.faults source.old) (S.faults source.new))
-        (K.held sink.old) (K.held sink.new) (Rose (K.faults sink.old) (K.faults sink.new)) }
+    ensures ends { Ends M.P.Pages result.status result.closed words.now (S.left source.old) (S.left source.new)
+        (Rose (S.faults source.old) (S.faults source.new)) (K.held sink.old) (K.held sink.new)
+        (Rose (K.faults sink.old) (K.faults sink.new)) }
 {
-    let _ = rt;
-    let _ = gate;
-    if !are_run(words) {
-        return refuse(sink, Refusal::Usage);
-    }
+    let options = match read_words(words) {
+        Some(options) => options,
+        None => return refuse(sink, Refusal::Usage),
+    };
     match read_all(alloc, source) {
-        Ok(bytes) => run_text(alloc, &bytes, sink, maker),
+        Ok(bytes) => run_text(rt, alloc, &options, &bytes, sink, maker, gate),
         Err(ReadStop::NoMemory) => give_up(),
         Err(ReadStop::Fault) => refuse(sink, Refusal::ReadFault),
         Err(ReadStop::TooLong) => refuse(sink, Refusal::TooLong),

@@ -5,178 +5,181 @@ use crate::run::{Run, replay};
 use hm_frames::FrameMaker;
 use hm_model::Runs;
 use hm_outside::{
-    FailingMaker, NoGate, NoMemory, PageMaker, PlainMaker, PlainPages, RegionId, Source,
-    SourceFault, VecSink, VecSource,
+    FailingMaker, Gate, NoGate, PageMaker, PlainMaker, PlainPages, RegionId, Source, SourceFault,
+    VecSink, VecSource,
 };
 use std::alloc::Global;
 use std::sync::Wait;
+use std::sync::atomic::{AtomicU64, Ordering};
 use std::test::Fail;
-use std::thread::Threads;
+use std::thread::{self, Threads};
 
+/// Words, the steps of thread 1 of round 1 with what may follow them, the two reports that may be written, and
+/// the status. The traces of `examples/` are among them.
 struct Row {
-    word: &'static str,
-    input: &'static str,
-    /// The call of the source that fails, or 0.
-    source_fails: u64,
-    /// The room of the sink, and the most that it takes at a time.
-    room: usize,
-    piece: usize,
+    words: &'static str,
+    steps: &'static str,
     output: &'static str,
+    other: &'static str,
     status: u8,
 }
 
-const ROWS: [Row; 9] = [
+const ROWS: [Row; 20] = [
     Row {
-        word: "run",
-        input: "hmtrace 1\nend\n",
-        source_fails: 0,
-        room: 99,
-        piece: 99,
-        output: "",
-        status: 0,
-    },
-    Row {
-        word: "run",
-        input: "hmtrace 1\nround\nthread 1\nmalloc x 100\nfree x\nend\n",
-        source_fails: 0,
-        room: 99,
-        piece: 3,
+        words: "run",
+        steps: "malloc x 100\nfree x\n",
         output: "1.1.1 given 104\n1.1.2 freed\n",
+        other: "1.1.1 given 104\n1.1.2 freed\n",
         status: 0,
     },
     Row {
-        word: "runn",
-        input: "hmtrace 1\nend\n",
-        source_fails: 0,
-        room: 99,
-        piece: 1,
-        output: "fault: usage\n",
-        status: 2,
+        words: "run",
+        steps: "malloc x 0\nwrite x 1 41\nfree x\n",
+        output: "1.1.1 given 0\n1.1.2 trap at +0\n1.1.3 freed\n",
+        other: "1.1.1 given 0\n1.1.2 trap at +0\n1.1.3 freed\n",
+        status: 1,
     },
     Row {
-        word: "run",
-        input: "hmtrace 1\nround\n",
-        source_fails: 0,
-        room: 99,
-        piece: 99,
-        output: "fault: trace line 3 NoEnd\n",
-        status: 3,
+        words: "run",
+        steps: "malloc a 8\nmalloc b 9\nmalloc c 120\nmalloc d 121\n",
+        output: "1.1.1 given 8\n1.1.2 given 24\n1.1.3 given 120\n1.1.4 given 152\n",
+        other: "1.1.1 given 8\n1.1.2 given 24\n1.1.3 given 120\n1.1.4 given 152\n",
+        status: 0,
     },
     Row {
-        word: "run",
-        input: "hmtrace 1\nround\nthread 1\nmalloc x 100\nfree x\nend\n",
-        source_fails: 2,
-        room: 99,
-        piece: 99,
-        output: "fault: read\n",
-        status: 4,
+        words: "run",
+        steps: "malloc a 131064\nmalloc b 131065\nmalloc c 1073741825\n",
+        output: "1.1.1 given 131064\n1.1.2 given 163840\n1.1.3 too large\n",
+        other: "1.1.1 given 131064\n1.1.2 given 163840\n1.1.3 too large\n",
+        status: 0,
     },
     Row {
-        word: "run",
-        input: "hmtrace 1\nround\nthread 1\nmalloc x 100\nfree x\nend\n",
-        source_fails: 0,
-        room: 5,
-        piece: 5,
-        output: "1.1.1",
-        status: 5,
+        words: "run",
+        steps: "malloc x 100\nfree x\nfree x\nsize x\n",
+        output: "1.1.1 given 104\n1.1.2 freed\n1.1.3 double free\n1.1.4 double free\n",
+        other: "1.1.1 given 104\n1.1.2 freed\n1.1.3 double free\n1.1.4 double free\n",
+        status: 1,
     },
     Row {
-        word: "runn",
-        input: "hmtrace 1\nend\n",
-        source_fails: 0,
-        room: 99,
-        piece: 0,
-        output: "",
-        status: 5,
+        words: "run",
+        steps: "malloc x 100\nfree x+8\nfree x\n",
+        output: "1.1.1 given 104\n1.1.2 no slot\n1.1.3 freed\n",
+        other: "1.1.1 given 104\n1.1.2 no slot\n1.1.3 freed\n",
+        status: 1,
     },
     Row {
-        word: "run",
-        input: "hmtrace 1\nround\nthread 2\nend\n",
-        source_fails: 0,
-        room: 99,
-        piece: 3,
-        output: "fault: not built\n",
-        status: 8,
+        words: "run",
+        steps: "malloc x 20000\nfree x+20480\nfree x+40960\n",
+        output: "1.1.1 given 20472\n1.1.2 no slot\n1.1.3 unused\n",
+        other: "1.1.1 given 20472\n1.1.2 no slot\n1.1.3 unused\n",
+        status: 1,
     },
     Row {
-        word: "run",
-        input: "hmtrace 1\nround\nround\nend\n",
-        source_fails: 0,
-        room: 99,
-        piece: 3,
-        output: "fault: not built\n",
-        status: 8,
+        words: "run",
+        steps: "malloc x 100\nwrite x+104 1 00\nfree x\n",
+        output: "1.1.1 given 104\n1.1.2 written\n1.1.3 freed\n",
+        other: "1.1.1 given 104\n1.1.2 written\n1.1.3 freed\n",
+        status: 0,
+    },
+    Row {
+        words: "run",
+        steps: "malloc x 100\nwrite x+104 8 41\nfree x\nfree x\n",
+        output: "1.1.1 given 104\n1.1.2 written\n1.1.3 canary at 0\n1.1.4 canary at 0\n",
+        other: "1.1.1 given 104\n1.1.2 written\n1.1.3 canary at 0\n1.1.4 canary at 0\n",
+        status: 1,
+    },
+    Row {
+        words: "run",
+        steps: "malloc a 130000\nmalloc b 130000\nmalloc c 130000\nfree a\nwrite a 4 41\nfree b\nfree c\nmalloc d 130000\nmalloc e 130000\n",
+        output: "1.1.1 given 131064\n1.1.2 given 131064\n1.1.3 given 131064\n1.1.4 freed\n1.1.5 written\n1.1.6 freed\n1.1.7 freed\n1.1.8 overwritten at 0 found 41\n1.1.9 given 131064\n",
+        other: "1.1.1 given 131064\n1.1.2 given 131064\n1.1.3 given 131064\n1.1.4 freed\n1.1.5 written\n1.1.6 freed\n1.1.7 freed\n1.1.8 overwritten at 0 found 41\n1.1.9 given 131064\n",
+        status: 1,
+    },
+    Row {
+        words: "run",
+        steps: "malloc z 130000\nmalloc a 130000\nmalloc b 130000\nmalloc c 130000\nfree z\nfree a\nwrite a 4 41\nfree b\nfree c\nmalloc d 130000\nmalloc e 130000\nread a 1\n",
+        output: "1.1.1 given 131064\n1.1.2 given 131064\n1.1.3 given 131064\n1.1.4 given 131064\n1.1.5 freed\n1.1.6 freed\n1.1.7 written\n1.1.8 freed\n1.1.9 freed\n1.1.10 given 131064\n1.1.11 given 131064\n1.1.12 trap at +0\n",
+        other: "1.1.1 given 131064\n1.1.2 given 131064\n1.1.3 given 131064\n1.1.4 given 131064\n1.1.5 freed\n1.1.6 freed\n1.1.7 written\n1.1.8 freed\n1.1.9 freed\n1.1.10 given 131064\n1.1.11 given 131064\n1.1.12 trap at +0\n",
+        status: 1,
+    },
+    Row {
+        words: "run --class-region 1048576",
+        steps: "malloc a 130000\nmalloc b 130000\nmalloc c 130000\nmalloc d 130000\nmalloc e 130000\n",
+        output: "1.1.1 given 131064\n1.1.2 given 131064\n1.1.3 given 131064\n1.1.4 given 131064\n1.1.5 exhausted\n",
+        other: "1.1.1 given 131064\n1.1.2 given 131064\n1.1.3 given 131064\n1.1.4 given 131064\n1.1.5 exhausted\n",
+        status: 0,
+    },
+    Row {
+        words: "run --large-space 1048576",
+        steps: "malloc x 500000\nmalloc y 500000\nfree x\nmalloc z 500000\n",
+        output: "1.1.1 given 524288\n1.1.2 no space\n1.1.3 freed\n1.1.4 no space\n",
+        other: "1.1.1 given 524288\n1.1.2 no space\n1.1.3 freed\n1.1.4 no space\n",
+        status: 0,
+    },
+    Row {
+        words: "run",
+        steps: "malloc x 100\nsfree x 105\nsfree x 97\nmalloc y 200000\nsfree y 100000\nsfree y 220000\n",
+        output: "1.1.1 given 104\n1.1.2 wrong size 112 128\n1.1.3 freed\n1.1.4 given 229376\n1.1.5 wrong size 229376 114688\n1.1.6 freed\n",
+        other: "1.1.1 given 104\n1.1.2 wrong size 112 128\n1.1.3 freed\n1.1.4 given 229376\n1.1.5 wrong size 229376 114688\n1.1.6 freed\n",
+        status: 1,
+    },
+    Row {
+        words: "run",
+        steps: "malloc x 100\nwrite x 3 41\nrealloc y x 104\nrealloc z y 105\nread z 105\naligned p 64 100\naligned q 4096 1\naligned r 3 10\ncalloc s 9223372036854775808 2\n",
+        output: "1.1.1 given 104\n1.1.2 written\n1.1.3 kept 104\n1.1.4 given 120\n1.1.5 bytes 41*3 00*102\n1.1.6 given 120\n1.1.7 given 4088\n1.1.8 bad alignment\n1.1.9 overflow\n",
+        other: "1.1.1 given 104\n1.1.2 written\n1.1.3 kept 104\n1.1.4 given 120\n1.1.5 bytes 41*3 00*102\n1.1.6 given 120\n1.1.7 given 4088\n1.1.8 bad alignment\n1.1.9 overflow\n",
+        status: 0,
+    },
+    Row {
+        words: "run",
+        steps: "malloc x 100\nround\nthread 1\nfree x\nthread 2\nfree x\n",
+        output: "1.1.1 given 104\n2.1.1 freed\n2.2.1 double free\n",
+        other: "1.1.1 given 104\n2.1.1 double free\n2.2.1 freed\n",
+        status: 1,
+    },
+    Row {
+        words: "run",
+        steps: "free null\nfree @1000\nfree q\nsize null\n",
+        output: "1.1.1 nothing\n1.1.2 outside\n1.1.3 skipped\n1.1.4 size 0\n",
+        other: "1.1.1 nothing\n1.1.2 outside\n1.1.3 skipped\n1.1.4 size 0\n",
+        status: 1,
+    },
+    Row {
+        words: "run",
+        steps: "malloc x 100\nwrite x+104 8 41\nrealloc y x 200\n",
+        output: "1.1.1 given 104\n1.1.2 written\n1.1.3 half moved 216: canary at 0\n",
+        other: "1.1.1 given 104\n1.1.2 written\n1.1.3 half moved 216: canary at 0\n",
+        status: 1,
+    },
+    Row {
+        words: "run",
+        steps: "malloc y 200000\nread y+229376 1\nfree y+8\nfree y\nfree y\n",
+        output: "1.1.1 given 229376\n1.1.2 trap at +0\n1.1.3 not live\n1.1.4 freed\n1.1.5 not live\n",
+        other: "1.1.1 given 229376\n1.1.2 trap at +0\n1.1.3 not live\n1.1.4 freed\n1.1.5 not live\n",
+        status: 1,
+    },
+    Row {
+        words: "run",
+        steps: "malloc buf 4096\nmalloc s 13\nwrite s 13 61\nthread 2\ncalloc tab 10 24\naligned page 4096 8192\nround\nthread 1\nrealloc tab tab 480\nfree page\nthread 2\nread s 14\nsize buf\nfree s\nfree buf\n",
+        output: "1.1.1 given 5112\n1.1.2 given 24\n1.1.3 written\n1.2.1 given 248\n1.2.2 given 12280\n2.1.1 given 504\n2.1.2 freed\n2.2.1 bytes 61*13 00*1\n2.2.2 size 5112\n2.2.3 freed\n2.2.4 freed\n",
+        other: "1.1.1 given 5112\n1.1.2 given 24\n1.1.3 written\n1.2.1 given 248\n1.2.2 given 12280\n2.1.1 given 504\n2.1.2 freed\n2.2.1 bytes 61*13 00*1\n2.2.2 size 5112\n2.2.3 freed\n2.2.4 freed\n",
+        status: 0,
     },
 ];
 
-/// The steps of one thread, what is written, and the status.
-const SCRIPTS: [(&str, &str, u8); 19] = [
-    (
-        "malloc x 100\nfree x\nfree x\nsize x\n",
-        "1.1.1 given 104\n1.1.2 freed\n1.1.3 double free\n1.1.4 double free\n",
-        1,
-    ),
-    (
-        "free y\nmalloc y 89\nmalloc y 104\nfree y\n",
-        "1.1.1 skipped\n1.1.2 given 104\n1.1.3 given 104\n1.1.4 freed\n",
-        0,
-    ),
-    (
-        "write y+8 1 41\nread y 1\nsize y-8\n",
-        "1.1.1 skipped\n1.1.2 skipped\n1.1.3 skipped\n",
-        0,
-    ),
-    (
-        "malloc x 100\nfree x+8\nfree x\n",
-        "1.1.1 given 104\n1.1.2 no slot\n1.1.3 freed\n",
-        1,
-    ),
-    (
-        "malloc x 100\nwrite x+104 1 00\nfree x\n",
-        "1.1.1 given 104\n1.1.2 written\n1.1.3 freed\n",
-        0,
-    ),
-    (
-        "malloc x 100\nwrite x+104 8 41\nfree x\nfree x\n",
-        "1.1.1 given 104\n1.1.2 written\n1.1.3 canary at 0\n1.1.4 canary at 0\n",
-        1,
-    ),
-    (
-        "malloc x 100\nwrite x 1 41\nread x 2\nsize x\n",
-        "1.1.1 given 104\n1.1.2 written\n1.1.3 bytes 41*1 00*1\n1.1.4 size 104\n",
-        0,
-    ),
-    (
-        "malloc x 100\nwrite x+112 2 ff\nread x+111 4\n",
-        "1.1.1 given 104\n1.1.2 written\n1.1.3 bytes ca*1 ff*2 00*1\n",
-        0,
-    ),
-    (
-        "malloc x 100\nread x+1300 108\nread x+1300 109\nwrite x+1407 2 41\nread x+1407 1\n",
-        "1.1.1 given 104\n1.1.2 bytes 00*108\n1.1.3 trap at +108\n1.1.4 trap at +1\n1.1.5 bytes 00*1\n",
-        1,
-    ),
-    (
-        "malloc x 100\nfree x+4096\nsize x-4096\nread x-4096 1\n",
-        "1.1.1 given 104\n1.1.2 no slot\n1.1.3 no slot\n1.1.4 trap at +0\n",
-        1,
-    ),
-    ("malloc x 88\n", "fault: not built\n", 8),
-    ("malloc x 105\n", "fault: not built\n", 8),
-    ("malloc x 100\nfree x+4097\n", "fault: not built\n", 8),
-    ("malloc x 100\nread x-4097 1\n", "fault: not built\n", 8),
-    ("free null\n", "fault: not built\n", 8),
-    ("size null\n", "fault: not built\n", 8),
-    ("write @1000 1 41\n", "fault: not built\n", 8),
-    ("malloc x 100\nsfree x 100\n", "fault: not built\n", 8),
-    ("calloc x 1 100\n", "fault: not built\n", 8),
-];
+fn words(alloc: Global, words: &str) -> Result<Vec<String>, Fail> {
+    let mut all = Vec::new(alloc);
+    for word in words.split(' ') {
+        all.push(String::from_str(alloc, word)?)?;
+    }
+    Ok(all)
+}
 
-fn source(alloc: Global, bytes: Vec<u8>, piece: usize, fails: u64) -> Result<VecSource, Fail> {
+fn source(alloc: Global, bytes: &[u8], piece: usize, fails: u64) -> Result<VecSource, Fail> {
     let mut fail_calls = Vec::new(alloc);
     fail_calls.push(fails)?;
     Ok(VecSource {
-        bytes,
+        bytes: Vec::from_slice(alloc, bytes)?,
         piece,
         fail_calls,
         calls: 0,
@@ -185,79 +188,166 @@ fn source(alloc: Global, bytes: Vec<u8>, piece: usize, fails: u64) -> Result<Vec
     })
 }
 
-fn words(alloc: Global, word: &str) -> Result<Vec<String>, Fail> {
-    let mut words = Vec::new(alloc);
-    words.push(String::from_str(alloc, word)?)?;
-    Ok(words)
-}
-
-// Runs over a source and a sink in memory.
-fn run_over<R: Wait + Threads, S: Source, M: PageMaker>(
+// Runs a text. What is written is in the sink.
+fn run_text<R: Threads + Wait + Sync, M: PageMaker, G: Gate>(
     rt: &R,
     alloc: Global,
-    word: &str,
-    source: &mut S,
+    asked: &str,
+    text: &[u8],
     sink: &mut VecSink,
     maker: &mut M,
+    gate: &G,
 ) -> Result<Run<M::P>, Fail> {
-    let words = words(alloc, word)?;
-    Ok(replay(rt, alloc, &words, source, sink, maker, &NoGate))
+    let words = words(alloc, asked)?;
+    let mut source = source(alloc, text, 65_536, 0)?;
+    Ok(replay(rt, alloc, &words, &mut source, sink, maker, gate))
 }
 
-#[test]
-fn statuses_and_output(rt: HostRuntime) -> Result<(), Fail> {
-    let alloc = rt.alloc();
-    for row in &ROWS {
-        let bytes = Vec::from_slice(alloc, row.input.as_bytes())?;
-        let mut source = source(alloc, bytes, 8, row.source_fails)?;
-        let mut sink = VecSink::build(alloc, row.room, row.piece, Vec::new(alloc))?;
-        let run = run_over(
-            &rt,
-            alloc,
-            row.word,
-            &mut source,
-            &mut sink,
-            &mut PlainMaker,
-        )?;
-        assert_eq!(rt; run.status, row.status, "{}", row.input);
-        assert_eq!(rt;
-            sink.held.as_slice(),
-            row.output.as_bytes(),
-            "{}",
-            row.input
-        );
-    }
-    Ok(())
+fn text_of(alloc: Global, steps: &str) -> Result<String, Fail> {
+    Ok(format!(in alloc; "hmtrace 1\nround\nthread 1\n{steps}end\n")?)
 }
 
-// Runs the steps of one thread. What is written is in the sink.
-fn run_steps<R: Wait + Threads, M: PageMaker>(
+// Runs the steps of a row, and compares what is written with its reports.
+fn check_row<R: Threads + Wait + Sync, M: PageMaker>(
     rt: &R,
     alloc: Global,
-    steps: &str,
-    sink: &mut VecSink,
+    row: &Row,
     maker: &mut M,
-) -> Result<u8, Fail> {
-    let text = format!(in alloc; "hmtrace 1\nround\nthread 1\n{steps}end\n")?;
-    let bytes = Vec::from_slice(alloc, text.as_bytes())?;
-    let mut source = source(alloc, bytes, 65_536, 0)?;
-    let run = run_over(rt, alloc, "run", &mut source, sink, maker)?;
-    Ok(run.status)
+) -> Result<bool, Fail> {
+    let mut sink = VecSink::build(alloc, 999, 99, Vec::new(alloc))?;
+    let text = text_of(alloc, row.steps)?;
+    let run = run_text(rt, alloc, row.words, text.as_bytes(), &mut sink, maker, &NoGate)?;
+    let written = sink.held.as_slice();
+    let is_told = written == row.output.as_bytes() || written == row.other.as_bytes();
+    Ok(is_told && run.status == row.status && run.closed.is_some())
 }
 
 // Pages in raw memory and plain ones give the same bytes.
 #[test]
-fn scripts(rt: HostRuntime) -> Result<(), Fail> {
+fn traces(rt: HostRuntime) -> Result<(), Fail> {
     let alloc = rt.alloc();
-    for (steps, output, status) in SCRIPTS {
-        let mut plain = VecSink::build(alloc, 999, 999, Vec::new(alloc))?;
-        let over_plain = run_steps(&rt, alloc, steps, &mut plain, &mut PlainMaker)?;
-        assert_eq!(rt; over_plain, status, "{steps}");
-        assert_eq!(rt; plain.held.as_slice(), output.as_bytes(), "{steps}");
-        let mut raw = VecSink::build(alloc, 999, 999, Vec::new(alloc))?;
-        let over_raw = run_steps(&rt, alloc, steps, &mut raw, &mut FrameMaker)?;
-        assert_eq!(rt; over_raw, status, "{steps}");
-        assert_eq!(rt; raw.held.as_slice(), output.as_bytes(), "{steps}");
+    for row in &ROWS {
+        assert!(rt; check_row(&rt, alloc, row, &mut PlainMaker)?, "{}", row.steps);
+        assert!(rt; check_row(&rt, alloc, row, &mut FrameMaker)?, "{}", row.steps);
+    }
+    Ok(())
+}
+
+/// Words and a text, the call of the source that fails, or 0, the room of the sink and the most that it takes at
+/// a time, what is written, and the status.
+struct Ending {
+    words: &'static str,
+    text: &'static [u8],
+    source_fails: u64,
+    room: usize,
+    piece: usize,
+    output: &'static [u8],
+    status: u8,
+}
+
+const ENDINGS: [Ending; 6] = [
+    Ending {
+        words: "run",
+        text: b"hmtrace 1\nend\n",
+        source_fails: 0,
+        room: 99,
+        piece: 99,
+        output: b"",
+        status: 0,
+    },
+    Ending {
+        words: "run",
+        text: b"hmtrace 1\nround\n",
+        source_fails: 0,
+        room: 99,
+        piece: 3,
+        output: b"fault: trace line 3 NoEnd\n",
+        status: 3,
+    },
+    Ending {
+        words: "run",
+        text: b"hmtrace 1\nround\nthread 1\nmalloc x 100\nfree x\nend\n",
+        source_fails: 2,
+        room: 99,
+        piece: 99,
+        output: b"fault: read\n",
+        status: 4,
+    },
+    Ending {
+        words: "run",
+        text: b"hmtrace 1\nround\nthread 1\nmalloc x 100\nfree x\nend\n",
+        source_fails: 0,
+        room: 5,
+        piece: 5,
+        output: b"1.1.1",
+        status: 5,
+    },
+    Ending {
+        words: "runn",
+        text: b"hmtrace 1\nend\n",
+        source_fails: 0,
+        room: 99,
+        piece: 1,
+        output: b"fault: usage\n",
+        status: 2,
+    },
+    Ending {
+        words: "runn",
+        text: b"hmtrace 1\nend\n",
+        source_fails: 0,
+        room: 99,
+        piece: 0,
+        output: b"",
+        status: 5,
+    },
+];
+
+#[test]
+fn endings(rt: HostRuntime) -> Result<(), Fail> {
+    let alloc = rt.alloc();
+    for ending in &ENDINGS {
+        let asked = words(alloc, ending.words)?;
+        let mut source = source(alloc, ending.text, 8, ending.source_fails)?;
+        let mut sink = VecSink::build(alloc, ending.room, ending.piece, Vec::new(alloc))?;
+        let run = replay(&rt, alloc, &asked, &mut source, &mut sink, &mut PlainMaker, &NoGate);
+        assert_eq!(rt; run.status, ending.status);
+        assert_eq!(rt; sink.held.as_slice(), ending.output);
+    }
+    Ok(())
+}
+
+/// Words that are accepted with an empty trace, and the status.
+const WORDS: [(&str, u8); 21] = [
+    ("run --seed 7", 0),
+    ("run --seed 0007 --large-space 1048576", 0),
+    ("run --large-space 1099511627776 --seed 18446744073709551615 --class-region 34359738368", 0),
+    ("run --class-region 00000000000001048576", 0),
+    ("run --seed 18446744073709551616", 2),
+    ("run --seed 000000000000000000007", 2),
+    ("run --seed=7", 2),
+    ("run --seed +7", 2),
+    ("run --seed -7", 2),
+    ("run --seed 7 --seed 7", 2),
+    ("run --seed 7 --class-region 1048576 --seed 7", 2),
+    ("run --seed", 2),
+    ("run --class-region 1048577", 2),
+    ("run --class-region 1044480", 2),
+    ("run --class-region 34359742464", 2),
+    ("run --large-space 1099511631872", 2),
+    ("run --", 2),
+    ("run ", 2),
+    ("run --help 1", 2),
+    ("help", 2),
+    ("--seed 7 run", 2),
+];
+
+#[test]
+fn accepted_words(rt: HostRuntime) -> Result<(), Fail> {
+    let alloc = rt.alloc();
+    for (asked, status) in WORDS {
+        let mut sink = VecSink::build(alloc, 99, 99, Vec::new(alloc))?;
+        let run = run_text(&rt, alloc, asked, b"hmtrace 1\nend\n", &mut sink, &mut PlainMaker, &NoGate)?;
+        assert_eq!(rt; run.status, status, "{asked}");
     }
     Ok(())
 }
@@ -266,9 +356,8 @@ fn scripts(rt: HostRuntime) -> Result<(), Fail> {
 fn too_long(rt: HostRuntime) -> Result<(), Fail> {
     let alloc = rt.alloc();
     let bytes = vec![in alloc; 0x23u8; 67_108_865]?;
-    let mut source = source(alloc, bytes, 65_536, 0)?;
     let mut sink = VecSink::build(alloc, 99, 99, Vec::new(alloc))?;
-    let run = run_over(&rt, alloc, "run", &mut source, &mut sink, &mut PlainMaker)?;
+    let run = run_text(&rt, alloc, "run", &bytes, &mut sink, &mut PlainMaker, &NoGate)?;
     assert_eq!(rt; run.status, 7);
     assert_eq!(rt; sink.held.as_slice(), b"fault: too long\n".as_slice());
     Ok(())
@@ -277,8 +366,7 @@ fn too_long(rt: HostRuntime) -> Result<(), Fail> {
 #[test]
 fn failed_page(rt: HostRuntime) -> Result<(), Fail> {
     let alloc = rt.alloc();
-    let text = "hmtrace 1\nround\nthread 1\nmalloc x 100\nmalloc y 100\nend\n";
-    let mut source = source(alloc, Vec::from_slice(alloc, text.as_bytes())?, 8, 0)?;
+    let text = text_of(alloc, "malloc x 100\nmalloc y 100\n")?;
     let mut sink = VecSink::build(alloc, 99, 99, Vec::new(alloc))?;
     let mut fail_calls = Vec::new(alloc);
     fail_calls.push(1)?;
@@ -286,52 +374,136 @@ fn failed_page(rt: HostRuntime) -> Result<(), Fail> {
         region: RegionId(7),
         fail_calls,
     };
-    let run = run_over(&rt, alloc, "run", &mut source, &mut sink, &mut maker)?;
+    let run = run_text(&rt, alloc, "run", text.as_bytes(), &mut sink, &mut maker, &NoGate)?;
     assert_eq!(rt; run.status, 0);
-    assert_eq!(rt;
-        sink.held.as_slice(),
-        b"1.1.1 pages failed\n1.1.2 given 104\n".as_slice()
-    );
+    assert_eq!(rt; sink.held.as_slice(), b"1.1.1 pages failed\n1.1.2 given 104\n".as_slice());
     let closed = run.closed.ok_or("closed")?;
-    for history in closed.histories.items() {
-        let mut counts = Vec::new(alloc);
-        for entry in history.entries.items() {
-            counts.push(entry.faults_before)?;
-            counts.push(entry.faults_after)?;
-        }
-        assert_eq!(rt; counts.as_slice(), [0, 1, 1, 1].as_slice());
+    let history = closed.histories.items().get(7).ok_or("region 7")?;
+    let mut counts = Vec::new(alloc);
+    for entry in history.entries.items() {
+        counts.push(entry.faults_before)?;
+        counts.push(entry.faults_after)?;
     }
+    assert_eq!(rt; counts.as_slice(), [0, 1, 1, 1].as_slice());
     Ok(())
 }
 
-// A script that allots half as many blocks as it has steps, and then frees them.
-fn long_script(alloc: Global, steps: u32) -> Result<Vec<u8>, Fail> {
-    let mut text = String::new(alloc);
-    text.push_str("hmtrace 1\nround\nthread 1\n")?;
-    for i in 0..steps / 2 {
-        text.push_str(format!(in alloc; "malloc n{i} 100\n")?.as_str())?;
+/// A gate that holds the first call in each of two regions until both were entered, or for 10,000,000 turns.
+#[derive(Drop)]
+struct Meeting {
+    small: AtomicU64,
+    great: AtomicU64,
+    missed: AtomicU64,
+}
+
+impl Meeting {
+    fn wait_for(&self, word: &AtomicU64) {
+        for _ in 0u32..10_000_000 {
+            if word.load(Ordering::SeqCst) > 0 {
+                return;
+            }
+            thread::yield_now();
+        }
+        self.missed.fetch_add(1, Ordering::SeqCst);
     }
-    for i in 0..steps - steps / 2 {
-        text.push_str(format!(in alloc; "free n{i}\n")?.as_str())?;
+}
+
+impl Gate for Meeting {
+    fn inside(&self, region: RegionId, _caller: u32) {
+        if region.0 == 1 {
+            self.small.fetch_add(1, Ordering::SeqCst);
+            self.wait_for(&self.great);
+        }
+        if region.0 == 77 {
+            self.great.fetch_add(1, Ordering::SeqCst);
+            self.wait_for(&self.small);
+        }
     }
-    text.push_str("end\n")?;
-    Ok(Vec::from_slice(alloc, text.as_bytes())?)
 }
 
 #[test]
-fn long_scripts(rt: HostRuntime) -> Result<(), Fail> {
+fn threads_of_a_round_run_at_once(rt: HostRuntime) -> Result<(), Fail> {
     let alloc = rt.alloc();
-    for (steps, status, entries) in [(1_000, 0, 1_000), (5_001, 0, 5_000)] {
-        let mut source = source(alloc, long_script(alloc, steps)?, 65_536, 0)?;
-        let mut sink = VecSink::build(alloc, 1_048_576, 65_536, Vec::new(alloc))?;
-        let run = run_over(&rt, alloc, "run", &mut source, &mut sink, &mut PlainMaker)?;
-        assert_eq!(rt; run.status, status);
-        if let Some(closed) = run.closed {
-            for history in closed.histories.items() {
-                assert_eq!(rt; history.entries.items().len(), entries);
-            }
+    let gate = Meeting {
+        small: AtomicU64::new(0),
+        great: AtomicU64::new(0),
+        missed: AtomicU64::new(0),
+    };
+    let text = text_of(alloc, "malloc a 8\nthread 2\nmalloc b 4000\n")?;
+    let mut sink = VecSink::build(alloc, 99, 99, Vec::new(alloc))?;
+    let run = run_text(&rt, alloc, "run", text.as_bytes(), &mut sink, &mut PlainMaker, &gate)?;
+    assert_eq!(rt; run.status, 0);
+    assert_eq!(rt; gate.missed.load(Ordering::SeqCst), 0);
+    assert_eq!(rt; sink.held.as_slice(), b"1.1.1 given 8\n1.2.1 given 4088\n".as_slice());
+    Ok(())
+}
+
+// A round of 16 threads: each allots 50 blocks and frees them.
+fn many_threads(alloc: Global) -> Result<String, Fail> {
+    let mut text = String::new(alloc);
+    text.push_str("hmtrace 1\nround\n")?;
+    for thread in 1..17 {
+        text.push_str(format!(in alloc; "thread {thread}\n")?.as_str())?;
+        for i in 0..50 {
+            text.push_str(format!(in alloc; "malloc t{thread}n{i} 100\n")?.as_str())?;
+        }
+        for i in 0..50 {
+            text.push_str(format!(in alloc; "free t{thread}n{i}\n")?.as_str())?;
         }
     }
+    text.push_str("end\n")?;
+    Ok(text)
+}
+
+#[test]
+fn sixteen_threads(rt: HostRuntime) -> Result<(), Fail> {
+    let alloc = rt.alloc();
+    let text = many_threads(alloc)?;
+    let mut expected = String::new(alloc);
+    for thread in 1..17 {
+        for i in 1..101 {
+            let told = if i < 51 { "given 104" } else { "freed" };
+            expected.push_str(format!(in alloc; "1.{thread}.{i} {told}\n")?.as_str())?;
+        }
+    }
+    let mut sink = VecSink::build(alloc, 65_536, 999, Vec::new(alloc))?;
+    let run = run_text(&rt, alloc, "run", text.as_bytes(), &mut sink, &mut FrameMaker, &NoGate)?;
+    assert_eq!(rt; run.status, 0);
+    assert_eq!(rt; sink.held.as_slice(), expected.as_bytes());
+    let closed = run.closed.ok_or("closed")?;
+    let mut entries = 0;
+    for history in closed.histories.items() {
+        entries += history.entries.items().len();
+    }
+    assert_eq!(rt; closed.histories.items().len(), 197);
+    assert_eq!(rt; entries, 1_600);
+    Ok(())
+}
+
+// The report of a run, and where region 7 begins.
+fn run_numbered<R: Threads + Wait + Sync>(
+    rt: &R,
+    alloc: Global,
+    asked: &str,
+) -> Result<(Vec<u8>, u64), Fail> {
+    let text = text_of(alloc, "malloc x 100\nfree x\nmalloc y 100\nsize y\n")?;
+    let mut sink = VecSink::build(alloc, 99, 99, Vec::new(alloc))?;
+    let run = run_text(rt, alloc, asked, text.as_bytes(), &mut sink, &mut PlainMaker, &NoGate)?;
+    let closed = run.closed.ok_or("closed")?;
+    let history = closed.histories.items().get(7).ok_or("region 7")?;
+    Ok((sink.held, history.first))
+}
+
+#[test]
+fn the_number_moves_blocks(rt: HostRuntime) -> Result<(), Fail> {
+    let alloc = rt.alloc();
+    let (plain, first) = run_numbered(&rt, alloc, "run")?;
+    let (zero, at_zero) = run_numbered(&rt, alloc, "run --seed 0")?;
+    let (seven, at_seven) = run_numbered(&rt, alloc, "run --seed 7")?;
+    let (last, at_last) = run_numbered(&rt, alloc, "run --seed 18446744073709551615")?;
+    assert!(rt; first == at_zero && at_zero != at_seven && at_seven != at_last && at_last != at_zero);
+    assert!(rt; plain.as_slice() == zero.as_slice() && zero.as_slice() == seven.as_slice());
+    assert!(rt; seven.as_slice() == last.as_slice());
     Ok(())
 }
 
@@ -363,39 +535,21 @@ impl Source for NotingSource<'_> {
     }
 }
 
-/// A maker that notes the regions for which it is asked.
-#[derive(Drop)]
-struct NotingMaker {
-    regions: Vec<RegionId>,
-}
-
-impl PageMaker for NotingMaker {
-    type P = PlainPages;
-
-    fn make(&mut self, alloc: Global, region: RegionId) -> Result<PlainPages, NoMemory> {
-        self.regions.push(region)?;
-        Ok(PlainPages::new(alloc))
-    }
-}
-
-// A buffer has at most 65,536 bytes, the end is asked for once, and the region is 7.
+// A buffer has at most 65,536 bytes, and the end is asked for once.
 #[test]
 fn what_is_asked(rt: HostRuntime) -> Result<(), Fail> {
     let alloc = rt.alloc();
-    let text = long_script(alloc, 6_000)?;
+    let text = vec![in alloc; 0x23u8; 200_000]?;
+    let asked = words(alloc, "run")?;
     let mut source = NotingSource {
         left: &text,
         longest: 0,
         ended: false,
     };
-    let mut sink = VecSink::build(alloc, 1_048_576, 65_536, Vec::new(alloc))?;
-    let mut maker = NotingMaker {
-        regions: Vec::new(alloc),
-    };
-    let run = run_over(&rt, alloc, "run", &mut source, &mut sink, &mut maker)?;
-    assert_eq!(rt; run.status, 0);
+    let mut sink = VecSink::build(alloc, 99, 99, Vec::new(alloc))?;
+    let run = replay(&rt, alloc, &asked, &mut source, &mut sink, &mut PlainMaker, &NoGate);
+    assert_eq!(rt; run.status, 3);
     assert!(rt; source.longest <= 65_536);
-    assert_eq!(rt; maker.regions.as_slice(), [RegionId(7)].as_slice());
     Ok(())
 }
 

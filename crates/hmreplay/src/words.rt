@@ -1,13 +1,178 @@
-//! The words after the program's name.
-ghost use Rattle.std.specs.Prelude.{◌↔◌, IsTrue};
-ghost use Rattle.hmreplay.specs.Words.{AreRun};
+//! The words after the program's name: the command `run` and its options.
+ghost use Rattle.std.specs.Prelude.{◌≡◌, IfSome};
+ghost use Rattle.hm_sizes.specs.Configs.{IsValid};
+ghost use Rattle.hmreplay.specs.Words.{are_digits, is_numeral, number_in, is_space, is_value, value_of, names, given, is_given, is_option, are_options, options_in, options_of, config_of};
 
-/// Whether they are the one word `run`.
-pub fn are_run(words: &[String]) -> bool
-    ensures { IsTrue result ↔ AreRun words.now }
+use hm_sizes::Config;
+
+/// An option, which has a value behind it.
+#[derive(Clone, Copy, Debug, PartialEq, Eq)]
+pub enum OptionName {
+    Seed,
+    ClassRegion,
+    LargeSpace,
+}
+
+/// What the words ask for: the number of the run, and the bytes of a class region and of the large space.
+#[derive(Clone, Copy, Debug, PartialEq, Eq, Drop)]
+pub struct Options {
+    pub seed: u64,
+    pub class_region: u64,
+    pub large_space: u64,
+}
+
+impl Options {
+    /// The configuration of the heap.
+    pub fn config(&self) -> Config
+        ensures { result ≡ config_of self.now }
+    {
+        Config {
+            class_region: self.class_region,
+            large_space: self.large_space,
+            ..Config::standard()
+        }
+    }
+}
+
+fn are_digits(bytes: &[u8]) -> bool
+    ensures { result ≡ are_digits bytes.now }
+{
+    bytes.iter().all(u8::is_ascii_digit)
+}
+
+// Whether a word is 1 to 20 digits.
+fn is_numeral(word: &str) -> bool
+    ensures { result ≡ is_numeral word.now }
+{
+    1 <= word.len() && word.len() <= 20 && are_digits(word.as_bytes())
+}
+
+// The value of such a word, up to 2^64 - 1.
+fn number(word: &str) -> Option<u64>
+    ensures { result ≡ number_in word.now }
+{
+    if is_numeral(word) {
+        u64::from_str_radix(word, 10).ok()
+    } else {
+        None
+    }
+}
+
+// Whether these are whole pages, from 1 MiB to so many bytes.
+fn is_space(most: u64, number: u64) -> bool
+    ensures { result ≡ is_space most number }
+{
+    number % 4096 == 0 && 1_048_576 <= number && number <= most
+}
+
+// Whether an option may have this value.
+fn is_value(option: OptionName, number: u64) -> bool
+    ensures { result ≡ is_value option number }
+{
+    match option {
+        OptionName::Seed => true,
+        OptionName::ClassRegion => is_space(34_359_738_368, number),
+        OptionName::LargeSpace => is_space(1_099_511_627_776, number),
+    }
+}
+
+// The value that a word gives to an option, if it may.
+fn value_of(option: OptionName, word: &str) -> Option<u64>
+    ensures { result ≡ value_of option word.now }
+{
+    let number = number(word)?;
+    if is_value(option, number) {
+        Some(number)
+    } else {
+        None
+    }
+}
+
+// Whether a word is this option.
+fn names(option: OptionName, word: &str) -> bool
+    ensures { result ≡ names option word.now }
+{
+    let text: &[u8] = match option {
+        OptionName::Seed => b"--seed",
+        OptionName::ClassRegion => b"--class-region",
+        OptionName::LargeSpace => b"--large-space",
+    };
+    word.as_bytes() == text
+}
+
+// Whether the option stands among pairs of an option and its value.
+fn is_given(option: OptionName, words: &[String]) -> bool
+    ensures { result ≡ is_given option words.now }
+{
+    let mut rest = words;
+    'pairs: while let [word, _, after @ ..] = rest {
+        if names(option, word) {
+            return true;
+        }
+        rest = after;
+    }
+    false
+}
+
+// The value given to an option.
+fn given(option: OptionName, words: &[String]) -> Option<u64>
+    ensures { result ≡ given option words.now }
+{
+    let mut rest = words;
+    'pairs: while let [word, value, after @ ..] = rest {
+        if names(option, word) {
+            return value_of(option, value);
+        }
+        rest = after;
+    }
+    None
+}
+
+// Whether a word is this option, its value may be the option's, and the option does not come again.
+fn is_option(option: OptionName, word: &str, value: &str, after: &[String]) -> bool
+    ensures { result ≡ is_option option word.now value.now after.now }
+{
+    names(option, word) && value_of(option, value).is_some() && !is_given(option, after)
+}
+
+// Whether the words are pairs of an option and its value, each option at most once.
+fn are_options(words: &[String]) -> bool
+    ensures { result ≡ are_options words.now }
+{
+    let mut rest = words;
+    'pairs: while let [word, value, after @ ..] = rest {
+        let is_known = is_option(OptionName::Seed, word, value, after)
+            || is_option(OptionName::ClassRegion, word, value, after)
+            || is_option(OptionName::LargeSpace, word, value, after);
+        if !is_known {
+            return false;
+        }
+        rest = after;
+    }
+    rest.is_empty()
+}
+
+// The values of options, and those that stand where an option is not given.
+fn options_in(words: &[String]) -> Options
+    ensures exact { result ≡ options_in words.now }
+    ensures valid { IsValid (config_of result) }
+{
+    Options {
+        seed: given(OptionName::Seed, words).unwrap_or(0),
+        class_region: given(OptionName::ClassRegion, words).unwrap_or(34_359_738_368),
+        large_space: given(OptionName::LargeSpace, words).unwrap_or(1_099_511_627_776),
+    }
+}
+
+/// What the words ask for, or None where they are not accepted.
+pub fn read_words(words: &[String]) -> Option<Options>
+    ensures exact { result ≡ options_of words.now }
+    ensures valid { IfSome result (λ o. IsValid (config_of o)) }
 {
     match words {
-        [word] => word.as_str() == "run",
-        _ => false,
+        [command, options @ ..] if command.as_bytes() == b"run".as_slice() && are_options(options) => {
+            Some(options_in(options))
+        }
+        _ => None,
     }
 }

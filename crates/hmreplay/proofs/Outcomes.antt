@@ -1,0 +1,94 @@
+-- What the closing of a heap hands out, and the laws of its histories.
+use Rattle.std.proofs.Common.{◌≡◌, ℕ, ◌+◌, ◌*◌, ◌<◌, ◌≤◌, Bool, cond, nat_lt, List, [], ◌∷◌, ◌++◌, length, map, slice_index_or, refl, sym, ◌∙◌, ap, subst, arith}
+use Rattle.std.proofs.lemmas.Bool.Decides.{nat_tests}
+use Rattle.hm_outside.specs.declared.pages.Pages as pages
+use Rattle.hm_model.specs.declared.entry.Entry.{Entry}
+use Rattle.hm_report.specs.declared.results.Results.{Results}
+use Rattle.hm_sizes.specs.declared.config.Config.{Config}
+use Rattle.hm_sizes.specs.Homes.{region_count}
+use Rattle.hm_sizes.specs.Origins.{Origin, large_region_number}
+use Rattle.hm_trace.specs.Views.{ScriptView}
+use Rattle.hm_turn.specs.Known.{Lock, Known, IsWhole}
+use Rattle.hm_heap.specs.declared.close.Closed.{Closed}
+use Rattle.hm_heap.specs.declared.close.History.{History}
+use Rattle.hm_heap.specs.Closes.{IsEnd, Closes}
+use Rattle.hm_heap.specs.Lawful.{IsRegionOf, IsLawful}
+use Rattle.hm_heap.specs.Laws as heap_laws
+use Rattle.hm_heap.specs.Passes.{PassView, AreOf, region_at}
+use Rattle.hm_replay.specs.Names.{Names}
+use Rattle.hm_replay.specs.Replays.{HasReplayed, ReplaysClose, EntriesAreOfTrace}
+use Rattle.hm_replay.proofs.Turns.{map_index, some_of}
+use Rattle.hmreplay.specs.declared.words.Options.{Options}
+use Rattle.hmreplay.specs.Words.{config_of}
+use Rattle.hmreplay.specs.Replayed.{origin_at, AreEnds, IsReplayed}
+use Rattle.hmreplay.specs.Laws.{Begins, RegionsApart}
+use Rattle.hmreplay.proofs.Fronts.{lawful_front}
+
+module _ {P : Type 0} (meaning : pages.Ghosts P) where
+  -- ---- closing
+  ends : (o : Options) (locks : List Lock) (turns : List Known) (hs : List History) (ps : List P)
+      → AreOf locks turns → length locks ≡ region_count (config_of o) + 1 → Closes meaning (config_of o) o.seed turns hs ps → AreEnds meaning o hs ps
+  ends o locks turns hs ps of count closes = record {
+    histories = closes.histories ∙ (of.same ∙ count);
+    pages = closes.pages ∙ sym closes.histories;
+    each = λ r h p below.
+        let below' : r < length turns = omega (arith, below, closes.histories) in
+        let one = closes.each r (some_of turns r below') h p below' in
+        subst (λ (told : Bool). IsEnd meaning (record { config = config_of o; number = o.seed; region = region_at (config_of o) r; told = told }) (slice_index_or hs r h) (slice_index_or ps r p))
+        (sym one.end.told_is) one.end;
+  }
+
+  pub replayed : (o : Options) (c : Config) (number : ℕ) (locks : List Lock) (p : PassView) (closed : Closed P)
+      (trace : List (List ScriptView)) (results : List Results) (last : Names)
+      → ReplaysClose → EntriesAreOfTrace → c ≡ config_of o → number ≡ o.seed
+      → AreOf locks p.turns → length locks ≡ region_count (config_of o) + 1 → HasReplayed c p trace results last
+      → Closes meaning c number p.turns closed.histories closed.pages → IsReplayed meaning o closed trace results
+  replayed o c number locks p closed trace results last close of_trace c_is number_is of count ran closes =
+      let shut = subst (λ (n : ℕ). Closes meaning (config_of o) n p.turns closed.histories closed.pages) number_is
+          (subst (λ (d : Config). Closes meaning d number p.turns closed.histories closed.pages) c_is closes) in
+      let done = subst (λ (d : Config). HasReplayed d p trace results last) c_is ran in
+      let whole = close (config_of o) p closed.histories trace results last done shut.histories
+          (λ r t h below. (shut.each r t h (page_at closed.pages r (omega (arith, below, shut.pages))) below).whole) in
+      record {
+        ends = ends o locks p.turns closed.histories closed.pages of count shut;
+        names = last;
+        rounds = whole;
+        entries = of_trace (config_of o) closed.histories trace results last whole;
+      }
+    where
+      page_at : (ps : List P) (r : ℕ) → r < length ps → P
+      page_at ps r below = some_of ps r below
+
+  -- ---- what the histories begin with
+  module _ (o : Options) (hs : List History) (ps : List P) (place : ℕ) (p : P) (entries : List Entry) (begins : Begins meaning o hs ps place entries) where
+    history : History
+    history = some_of hs place begins.below
+
+    end : IsEnd meaning (origin_at meaning o place (slice_index_or ps place p)) (slice_index_or hs place history) (slice_index_or ps place p)
+    end = begins.ends.each place history p begins.below
+
+    pub is_region : IsRegionOf (origin_at meaning o place (slice_index_or ps place p))
+    is_region = end.sound.is_region
+
+    pub lawful : IsLawful (origin_at meaning o place (slice_index_or ps place p)) entries
+    lawful = lawful_front (origin_at meaning o place (slice_index_or ps place p)) entries begins.later
+        (subst (λ (es : List Entry). IsLawful (origin_at meaning o place (slice_index_or ps place p)) es)
+        (sym (map_index (λ (h : History). h.entries) hs place history [] begins.below) ∙ begins.is) end.sound.lawful)
+
+    pub place_below : place < region_count (config_of o) + 1
+    place_below = omega (arith, begins.below, begins.ends.histories)
+
+  -- two places of one region are one
+  one_place : (count r s : ℕ) → count ≤ 196 → r < count + 1 → s < count + 1 → cond (nat_lt r count) r 196 ≡ cond (nat_lt s count) s 196 → r ≡ s
+  one_place count r s most r_below s_below same = grind (arith, nat_tests)
+
+  few_regions : (c : Config) → c.arenas ≤ 4 → region_count c ≤ 196
+  few_regions c most = omega (arith, most)
+
+  pub regions_apart : heap_laws.RegionsApart → RegionsApart meaning
+  regions_apart apart o hs ps place other p entries theirs begins their_begins a b q one two =
+      let of = is_region o hs ps place p entries begins in
+      one_place (region_count (config_of o)) place other (few_regions (config_of o) of.valid.arenas_most)
+      (place_below o hs ps place p entries begins) (place_below o hs ps other p theirs their_begins)
+      (apart (origin_at meaning o place (slice_index_or ps place p)) (origin_at meaning o other (slice_index_or ps other p)) entries theirs a b q refl
+      of (is_region o hs ps other p theirs their_begins) (lawful o hs ps place p entries begins) (lawful o hs ps other p theirs their_begins) one two)

@@ -1,0 +1,44 @@
+-- What a run of a trace leaves: the history of each region, beside its pages.
+use Rattle.std.specs.Prelude.{◌≡◌, ◌+◌, ◌<◌, ℕ, List, length, slice_index_or}
+use Rattle.hm_outside.specs.declared.pages.Pages as pages
+use Rattle.hm_report.specs.declared.results.Results.{Results}
+use Rattle.hm_sizes.specs.Homes.{region_count}
+use Rattle.hm_sizes.specs.Origins.{Origin}
+use Rattle.hm_trace.specs.Views.{ScriptView}
+use Rattle.hm_heap.specs.declared.close.Closed.{Closed}
+use Rattle.hm_heap.specs.declared.close.History.{History}
+use Rattle.hm_heap.specs.Closes.{IsEnd}
+use Rattle.hm_heap.specs.Passes.{region_at}
+use Rattle.hm_replay.specs.Names.{Names}
+use Rattle.hm_replay.specs.Replays.{AreReplayed}
+use Rattle.hm_replay.specs.Rounds.{IsOfTrace, EachIs}
+use Rattle.hmreplay.specs.declared.words.Options.{Options}
+use Rattle.hmreplay.specs.Words.{config_of}
+
+module _ {P : Type 0} (meaning : pages.Ghosts P) where
+  -- the region at a place: its configuration and number are those of the words, and these are its pages
+  abbrev pub origin_at : Options → ℕ → P → Origin
+  origin_at o place kept = record {
+    config = config_of o;
+    number = o.seed;
+    region = region_at (config_of o) place;
+    told = meaning.told kept;
+  }
+
+  -- there is a history for each region, by ascending number, beside its pages: it is legal, and its choices are drawn from
+  -- the words of the region's stream; its count of faults is the pages' own; where they tell, their runs and bytes are what
+  -- the history says
+  pub record AreEnds (o : Options) (hs : List History) (ps : List P) : Type 0 where
+    pub histories : length hs ≡ region_count (config_of o) + 1
+    pub pages : length ps ≡ length hs
+    pub each : (r : ℕ) (h : History) (p : P) → r < length hs
+        → IsEnd meaning (origin_at o r (slice_index_or ps r p)) (slice_index_or hs r h) (slice_index_or ps r p)
+
+  -- beside that: the histories hold each script's calls once, in order and round by round, with these results; and each
+  -- entry is of a step of a script
+  pub record IsReplayed (o : Options) (closed : Closed P) (trace : List (List ScriptView)) (results : List Results) : Type 0 where
+    pub ends : AreEnds o closed.histories closed.pages
+    pub names : Names
+    pub rounds : AreReplayed (config_of o) closed.histories trace results names
+    pub entries : (r : ℕ) (h : History) → r < length closed.histories
+        → EachIs (IsOfTrace 1 1 trace) (slice_index_or closed.histories r h).entries

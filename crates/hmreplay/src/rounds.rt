@@ -1,0 +1,75 @@
+//! The rounds of a trace on a heap, which is built for them and closed after them.
+ghost use Rattle.std.specs.Prelude.{◌≡◌, true, IfOk};
+ghost use Rattle.hm_sizes.specs.Configs.{IsValid};
+ghost use Rattle.hm_report.specs.Findings.{ascends};
+ghost use Rattle.hm_trace.specs.Traces.{IsTrace};
+ghost use Rattle.hm_heap.specs.Founds.{Founds};
+ghost use Rattle.hm_heap.specs.Passes.{AreOf, first_pass};
+ghost use Rattle.hm_replay.specs.Replays.{HasReplayed};
+ghost use Rattle.hmreplay.specs.Replayed.{IsReplayed};
+ghost use Rattle.hmreplay.specs.Words.{config_of};
+
+use crate::words::Options;
+use hm_heap::{Closed, Heap, Pass};
+use hm_outside::{Gate, NoMemory, PageMaker, Pages};
+use hm_replay::{Env, replayed_rounds, run_round, small_rounds};
+use hm_report::Results;
+use hm_trace::{Round, Trace};
+use std::alloc::Global;
+use std::sync::Wait;
+use std::thread::Threads;
+
+/// What a trace that was run hands out, and its results.
+#[derive(Drop)]
+pub struct Ran<P> {
+    pub closed: Closed<P>,
+    pub results: Vec<Results>,
+}
+
+// Runs the rounds in order, each with the names that the one before has left. The laws are called for their
+// contracts.
+fn run_rounds<R: Threads + Wait + Sync, P: Pages, G: Gate>(
+    rt: &R,
+    alloc: Global,
+    heap: &Heap<'_, P, G>,
+    root: &mut Pass,
+    rounds: &[Round],
+) -> Result<Vec<Results>, NoMemory>
+    requires of { AreOf heap.now.locks root.old.turns }
+    requires first { root.old ≡ first_pass root.old.turns }
+    requires founds { Founds heap.now.locks root.old.turns }
+    requires trace { IsTrace rounds.now }
+    ensures of { AreOf heap.now.locks root.new.turns }
+    ensures root { (root.new.caller ≡ 0) × (root.new.out ≡ 0) }
+    ensures ran { IfOk result (λ results. (last : _) × HasReplayed heap.now.config root.new rounds.now results.items last) }
+{
+    replayed_rounds();
+    small_rounds();
+    let mut env = Env::build(alloc);
+    let mut all = Vec::new(alloc);
+    for (index, round) in rounds.iter().enumerate() {
+        let mut results = run_round(rt, alloc, heap, root, index as u32 + 1, round, &mut env)?;
+        all.append(&mut results)?;
+    }
+    Ok(all)
+}
+
+/// Runs a trace on a new heap.
+pub fn run_trace<R: Threads + Wait + Sync, M: PageMaker, G: Gate>(
+    rt: &R,
+    alloc: Global,
+    options: &Options,
+    maker: &mut M,
+    gate: &G,
+    trace: &Trace,
+) -> Result<Ran<M::P>, NoMemory>
+    requires valid { IsValid (config_of options.now) }
+    ensures replayed { IfOk result (λ ran. IsReplayed M.P.Pages options.now ran.closed trace.now ran.results.items) }
+    ensures order { IfOk result (λ ran. ascends ran.results.items ≡ true) }
+{
+    replayed_rounds();
+    let (heap, mut root) = Heap::build(alloc, options.config(), options.seed, maker, gate)?;
+    let results = run_rounds(rt, alloc, &heap, &mut root, trace.rounds())?;
+    let closed = heap.close(alloc, root)?;
+    Ok(Ran { closed, results })
+}
