@@ -1,5 +1,5 @@
 -- What an allowed entry refuses has its cause, and where the cause holds nothing else is answered.
-use Rattle.std.proofs.Common.{◌≡◌, ℕ, ◌<◌, Bool, true, false, cond, not, ◌&&◌, ◌||◌, List, [], ◌∷◌, length, Option, Some, None, is_some, unwrap_or, refl, sym, ◌∙◌, ap, subst, true≢false}
+use Rattle.std.proofs.Common.{◌≡◌, ℕ, Bool, true, false, cond, not, ◌||◌, List, [], ◌∷◌, length, Option, Some, None, is_some, unwrap_or, refl, sym, ◌∙◌, ap, subst, true≢false}
 use Rattle.std.specs.Prelude.{◌↔◌, IsTrue, ◌==◌, option_map}
 use Rattle.std.specs.List.{list_any}
 use mathlib.Core.Logic.{inl, inr}
@@ -11,9 +11,7 @@ use Rattle.hm_model.specs.declared.entry.Reply.{Reply}
 use Rattle.hm_model.specs.declared.entry.Reply.TheVariants.{Given, Overwritten, Exhausted, NoSpace, PagesFailed, Freed, NoSlot, Unused, DoubleFree, WrongSize, Canary, Usable, Bytes, Filled, Trap, NotLive}
 use Rattle.hm_model.specs.Maps.{at, has, keys}
 use Rattle.hm_model.specs.Runs.{expand}
-use Rattle.hm_sizes.specs.declared.shape.Shape.{Shape}
 use Rattle.hm_model.proofs.Lists.{eq_same}
-use Rattle.hm_class_rules.specs.Bytes as slabs
 use Rattle.hm_class_rules.specs.Rules as class
 use Rattle.hm_class_rules.specs.State as class_state
 use Rattle.hm_class_rules.specs.State.{Slab}

@@ -1,7 +1,6 @@
 -- A trace is run.
 use Rattle.std.proofs.Common.{◌≡◌, ◌⊎◌, ℕ, ◌≤◌, Bool, true, false, cond, inl, inr, List, ◌++◌, length, Option, Some, None, String, Global, sym, ◌∙◌, ap, arith, append-nil, length-append}
 use Rattle.hm_outside.specs.declared.pages.Pages as pages
-use Rattle.hm_trace.specs.declared.fault.TraceFault.{TraceFault}
 use Rattle.hm_trace.specs.Faults.{text_fault}
 use Rattle.hm_trace.specs.Spelling.{spelling}
 use Rattle.hm_trace.specs.Traces.{IsTrace}
@@ -15,7 +14,6 @@ use Rattle.hmreplay.specs.declared.refusal.Refusal.TheVariants.{Usage, ReadFault
 use Rattle.hmreplay.specs.Endings.{Ends, TextEnds, AreAccepted, IsRefused, status_after}
 use Rattle.hmreplay.specs.Streams.{IsReadToEnd, IsTakenPast, IsWritten}
 use Rattle.hmreplay.specs.declared.words.Options.{Options}
-use Rattle.hmreplay.specs.Words.{options_of}
 
 abbrev EndsRun : ℕ → Type 0
 EndsRun status = (status ≡ 0) ⊎ (status ≡ 1) ⊎ (status ≡ 6)

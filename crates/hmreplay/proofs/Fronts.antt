@@ -1,5 +1,5 @@
 -- What a lawful history begins with is lawful.
-use Rattle.std.proofs.Common.{◌≡◌, ℕ, zero, suc, List, [], ◌∷◌, ◌++◌, length, append_assoc, refl, ap, sym, ◌∙◌}
+use Rattle.std.proofs.Common.{◌≡◌, ℕ, List, [], ◌∷◌, ◌++◌, length, append_assoc, refl, ap, sym, ◌∙◌}
 use Rattle.hm_choice.specs.Stream.{Words, after_word}
 use Rattle.hm_model.specs.declared.entry.Entry.{Entry}
 use Rattle.hm_model.specs.Machine.{Legal_split}
@@ -12,7 +12,7 @@ use Rattle.hm_class_rules.specs.Steps as class_steps
 use Rattle.hm_large.specs.Draws as large_draws
 use Rattle.hm_large.specs.Rules as large
 use Rattle.hm_large.specs.State as large_state
-use Rattle.hm_heap.specs.Lawful.{arena_of, class_in, class_terms, large_terms, IsLawful}
+use Rattle.hm_heap.specs.Lawful.{arena_of, class_terms, large_terms, IsLawful}
 
 all_words_append : (es fs : List Entry) → all_words (es ++ fs) ≡ all_words es ++ all_words fs
 all_words_append [] fs = refl

@@ -1,14 +1,13 @@
 -- What the closing of a heap hands out, and the laws of its histories.
-use Rattle.std.proofs.Common.{◌≡◌, ℕ, ◌+◌, ◌*◌, ◌<◌, ◌≤◌, Bool, cond, nat_lt, List, [], ◌∷◌, ◌++◌, length, map, slice_index_or, refl, sym, ◌∙◌, ap, subst, arith}
+use Rattle.std.proofs.Common.{◌≡◌, ℕ, ◌+◌, ◌<◌, ◌≤◌, Bool, cond, nat_lt, List, [], length, slice_index_or, refl, sym, ◌∙◌, subst, arith}
 use Rattle.std.proofs.lemmas.Bool.Decides.{nat_tests}
 use Rattle.hm_outside.specs.declared.pages.Pages as pages
 use Rattle.hm_model.specs.declared.entry.Entry.{Entry}
 use Rattle.hm_report.specs.declared.results.Results.{Results}
 use Rattle.hm_sizes.specs.declared.config.Config.{Config}
 use Rattle.hm_sizes.specs.Homes.{region_count}
-use Rattle.hm_sizes.specs.Origins.{Origin, large_region_number}
 use Rattle.hm_trace.specs.Views.{ScriptView}
-use Rattle.hm_turn.specs.Known.{Lock, Known, IsWhole}
+use Rattle.hm_turn.specs.Known.{Lock, Known}
 use Rattle.hm_heap.specs.declared.close.Closed.{Closed}
 use Rattle.hm_heap.specs.declared.close.History.{History}
 use Rattle.hm_heap.specs.Closes.{IsEnd, Closes}
@@ -45,10 +44,10 @@ module _ {P : Type 0} (meaning : pages.Ghosts P) where
       → Closes meaning c number p.turns closed.histories closed.pages → IsReplayed meaning o closed trace results
   replayed o c number locks p closed trace results last close of_trace c_is number_is of count ran closes =
       let shut = subst (λ (n : ℕ). Closes meaning (config_of o) n p.turns closed.histories closed.pages) number_is
-          (subst (λ (d : Config). Closes meaning d number p.turns closed.histories closed.pages) c_is closes) in
+      (subst (λ (d : Config). Closes meaning d number p.turns closed.histories closed.pages) c_is closes) in
       let done = subst (λ (d : Config). HasReplayed d p trace results last) c_is ran in
       let whole = close (config_of o) p closed.histories trace results last done shut.histories
-          (λ r t h below. (shut.each r t h (page_at closed.pages r (omega (arith, below, shut.pages))) below).whole) in
+      (λ r t h below. (shut.each r t h (page_at closed.pages r (omega (arith, below, shut.pages))) below).whole) in
       record {
         ends = ends o locks p.turns closed.histories closed.pages of count shut;
         names = last;

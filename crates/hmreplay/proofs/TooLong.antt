@@ -1,5 +1,5 @@
 -- Status 7 comes exactly where more bytes are taken than may be.
-use Rattle.std.proofs.Common.{◌≡◌, ◌⊎◌, ℕ, ◌<◌, ◌≤◌, Bool, true, false, cond, inl, inr, List, length, Option, Some, String, Global, refl, sym, ◌∙◌, ap, arith}
+use Rattle.std.proofs.Common.{◌≡◌, ◌⊎◌, ℕ, ◌<◌, Bool, true, false, cond, inl, inr, List, length, Option, Some, String, Global, refl, sym, ◌∙◌, ap, arith}
 use Rattle.hm_outside.specs.declared.pages.Pages as pages
 use Rattle.hm_report.specs.Findings.{has_finding}
 use Rattle.hm_heap.specs.declared.close.Closed.{Closed}

@@ -1,5 +1,5 @@
 -- Options that are accepted ask for a valid configuration.
-use Rattle.std.proofs.Common.{◌≡◌, ℕ, ◌%◌, ◌^◌, ◌≤◌, Bool, true, false, cond, ◌&&◌, ◌==◌, nat_le, List, [], ◌∷◌, Option, Some, None, unwrap_or, String, Global, refl, sym, ◌∙◌, subst, arith}
+use Rattle.std.proofs.Common.{◌≡◌, ℕ, ◌%◌, ◌≤◌, Bool, true, false, cond, ◌&&◌, ◌==◌, nat_le, List, [], ◌∷◌, Option, Some, None, unwrap_or, String, Global, refl, sym, subst, arith}
 use Rattle.std.specs.Prelude.{string_bytes, option_and_then, IfSome}
 use Rattle.std.proofs.lemmas.Bool.{and_parts}
 use Rattle.std.proofs.lemmas.Bool.Decides.{nat_tests}
@@ -55,9 +55,9 @@ pub valid : (words : List (String Global)) (seed class_region large_space : ℕ)
     → IsValid (config_of (record { seed = seed; class_region = class_region; large_space = large_space }))
 valid words seed class_region large_space region_is large_is =
     let region = space 34359738368 class_region
-        (subst (λ (n : ℕ). is_value ClassRegion n ≡ true) (sym region_is) (or_else ClassRegion (given ClassRegion words) 34359738368 (given_is ClassRegion words) refl)) in
+    (subst (λ (n : ℕ). is_value ClassRegion n ≡ true) (sym region_is) (or_else ClassRegion (given ClassRegion words) 34359738368 (given_is ClassRegion words) refl)) in
     let large = space 1099511627776 large_space
-        (subst (λ (n : ℕ). is_value LargeSpace n ≡ true) (sym large_is) (or_else LargeSpace (given LargeSpace words) 1099511627776 (given_is LargeSpace words) refl)) in
+    (subst (λ (n : ℕ). is_value LargeSpace n ≡ true) (sym large_is) (or_else LargeSpace (given LargeSpace words) 1099511627776 (given_is LargeSpace words) refl)) in
     record {
       arenas_some = omega arith;
       arenas_most = omega arith;

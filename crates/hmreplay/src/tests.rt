@@ -216,7 +216,15 @@ fn check_row<R: Threads + Wait + Sync, M: PageMaker>(
 ) -> Result<bool, Fail> {
     let mut sink = VecSink::build(alloc, 999, 99, Vec::new(alloc))?;
     let text = text_of(alloc, row.steps)?;
-    let run = run_text(rt, alloc, row.words, text.as_bytes(), &mut sink, maker, &NoGate)?;
+    let run = run_text(
+        rt,
+        alloc,
+        row.words,
+        text.as_bytes(),
+        &mut sink,
+        maker,
+        &NoGate,
+    )?;
     let written = sink.held.as_slice();
     let is_told = written == row.output.as_bytes() || written == row.other.as_bytes();
     Ok(is_told && run.status == row.status && run.closed.is_some())
@@ -227,8 +235,16 @@ fn check_row<R: Threads + Wait + Sync, M: PageMaker>(
 fn traces(rt: HostRuntime) -> Result<(), Fail> {
     let alloc = rt.alloc();
     for row in &ROWS {
-        assert!(rt; check_row(&rt, alloc, row, &mut PlainMaker)?, "{}", row.steps);
-        assert!(rt; check_row(&rt, alloc, row, &mut FrameMaker)?, "{}", row.steps);
+        assert!(rt;
+            check_row(&rt, alloc, row, &mut PlainMaker)?,
+            "{}",
+            row.steps
+        );
+        assert!(rt;
+            check_row(&rt, alloc, row, &mut FrameMaker)?,
+            "{}",
+            row.steps
+        );
     }
     Ok(())
 }
@@ -309,7 +325,15 @@ fn endings(rt: HostRuntime) -> Result<(), Fail> {
         let asked = words(alloc, ending.words)?;
         let mut source = source(alloc, ending.text, 8, ending.source_fails)?;
         let mut sink = VecSink::build(alloc, ending.room, ending.piece, Vec::new(alloc))?;
-        let run = replay(&rt, alloc, &asked, &mut source, &mut sink, &mut PlainMaker, &NoGate);
+        let run = replay(
+            &rt,
+            alloc,
+            &asked,
+            &mut source,
+            &mut sink,
+            &mut PlainMaker,
+            &NoGate,
+        );
         assert_eq!(rt; run.status, ending.status);
         assert_eq!(rt; sink.held.as_slice(), ending.output);
     }
@@ -320,7 +344,10 @@ fn endings(rt: HostRuntime) -> Result<(), Fail> {
 const WORDS: [(&str, u8); 21] = [
     ("run --seed 7", 0),
     ("run --seed 0007 --large-space 1048576", 0),
-    ("run --large-space 1099511627776 --seed 18446744073709551615 --class-region 34359738368", 0),
+    (
+        "run --large-space 1099511627776 --seed 18446744073709551615 --class-region 34359738368",
+        0,
+    ),
     ("run --class-region 00000000000001048576", 0),
     ("run --seed 18446744073709551616", 2),
     ("run --seed 000000000000000000007", 2),
@@ -346,7 +373,15 @@ fn accepted_words(rt: HostRuntime) -> Result<(), Fail> {
     let alloc = rt.alloc();
     for (asked, status) in WORDS {
         let mut sink = VecSink::build(alloc, 99, 99, Vec::new(alloc))?;
-        let run = run_text(&rt, alloc, asked, b"hmtrace 1\nend\n", &mut sink, &mut PlainMaker, &NoGate)?;
+        let run = run_text(
+            &rt,
+            alloc,
+            asked,
+            b"hmtrace 1\nend\n",
+            &mut sink,
+            &mut PlainMaker,
+            &NoGate,
+        )?;
         assert_eq!(rt; run.status, status, "{asked}");
     }
     Ok(())
@@ -357,7 +392,15 @@ fn too_long(rt: HostRuntime) -> Result<(), Fail> {
     let alloc = rt.alloc();
     let bytes = vec![in alloc; 0x23u8; 67_108_865]?;
     let mut sink = VecSink::build(alloc, 99, 99, Vec::new(alloc))?;
-    let run = run_text(&rt, alloc, "run", &bytes, &mut sink, &mut PlainMaker, &NoGate)?;
+    let run = run_text(
+        &rt,
+        alloc,
+        "run",
+        &bytes,
+        &mut sink,
+        &mut PlainMaker,
+        &NoGate,
+    )?;
     assert_eq!(rt; run.status, 7);
     assert_eq!(rt; sink.held.as_slice(), b"fault: too long\n".as_slice());
     Ok(())
@@ -374,9 +417,20 @@ fn failed_page(rt: HostRuntime) -> Result<(), Fail> {
         region: RegionId(7),
         fail_calls,
     };
-    let run = run_text(&rt, alloc, "run", text.as_bytes(), &mut sink, &mut maker, &NoGate)?;
+    let run = run_text(
+        &rt,
+        alloc,
+        "run",
+        text.as_bytes(),
+        &mut sink,
+        &mut maker,
+        &NoGate,
+    )?;
     assert_eq!(rt; run.status, 0);
-    assert_eq!(rt; sink.held.as_slice(), b"1.1.1 pages failed\n1.1.2 given 104\n".as_slice());
+    assert_eq!(rt;
+        sink.held.as_slice(),
+        b"1.1.1 pages failed\n1.1.2 given 104\n".as_slice()
+    );
     let closed = run.closed.ok_or("closed")?;
     let history = closed.histories.items().get(7).ok_or("region 7")?;
     let mut counts = Vec::new(alloc);
@@ -431,10 +485,21 @@ fn threads_of_a_round_run_at_once(rt: HostRuntime) -> Result<(), Fail> {
     };
     let text = text_of(alloc, "malloc a 8\nthread 2\nmalloc b 4000\n")?;
     let mut sink = VecSink::build(alloc, 99, 99, Vec::new(alloc))?;
-    let run = run_text(&rt, alloc, "run", text.as_bytes(), &mut sink, &mut PlainMaker, &gate)?;
+    let run = run_text(
+        &rt,
+        alloc,
+        "run",
+        text.as_bytes(),
+        &mut sink,
+        &mut PlainMaker,
+        &gate,
+    )?;
     assert_eq!(rt; run.status, 0);
     assert_eq!(rt; gate.missed.load(Ordering::SeqCst), 0);
-    assert_eq!(rt; sink.held.as_slice(), b"1.1.1 given 8\n1.2.1 given 4088\n".as_slice());
+    assert_eq!(rt;
+        sink.held.as_slice(),
+        b"1.1.1 given 8\n1.2.1 given 4088\n".as_slice()
+    );
     Ok(())
 }
 
@@ -467,13 +532,21 @@ fn sixteen_threads(rt: HostRuntime) -> Result<(), Fail> {
         }
     }
     let mut sink = VecSink::build(alloc, 65_536, 999, Vec::new(alloc))?;
-    let run = run_text(&rt, alloc, "run", text.as_bytes(), &mut sink, &mut FrameMaker, &NoGate)?;
+    let run = run_text(
+        &rt,
+        alloc,
+        "run",
+        text.as_bytes(),
+        &mut sink,
+        &mut FrameMaker,
+        &NoGate,
+    )?;
     assert_eq!(rt; run.status, 0);
     assert_eq!(rt; sink.held.as_slice(), expected.as_bytes());
     let closed = run.closed.ok_or("closed")?;
-    let mut entries = 0;
+    let mut entries = 0usize;
     for history in closed.histories.items() {
-        entries += history.entries.items().len();
+        entries = entries.saturating_add(history.entries.items().len());
     }
     assert_eq!(rt; closed.histories.items().len(), 197);
     assert_eq!(rt; entries, 1_600);
@@ -488,7 +561,15 @@ fn run_numbered<R: Threads + Wait + Sync>(
 ) -> Result<(Vec<u8>, u64), Fail> {
     let text = text_of(alloc, "malloc x 100\nfree x\nmalloc y 100\nsize y\n")?;
     let mut sink = VecSink::build(alloc, 99, 99, Vec::new(alloc))?;
-    let run = run_text(rt, alloc, asked, text.as_bytes(), &mut sink, &mut PlainMaker, &NoGate)?;
+    let run = run_text(
+        rt,
+        alloc,
+        asked,
+        text.as_bytes(),
+        &mut sink,
+        &mut PlainMaker,
+        &NoGate,
+    )?;
     let closed = run.closed.ok_or("closed")?;
     let history = closed.histories.items().get(7).ok_or("region 7")?;
     Ok((sink.held, history.first))
@@ -501,7 +582,9 @@ fn the_number_moves_blocks(rt: HostRuntime) -> Result<(), Fail> {
     let (zero, at_zero) = run_numbered(&rt, alloc, "run --seed 0")?;
     let (seven, at_seven) = run_numbered(&rt, alloc, "run --seed 7")?;
     let (last, at_last) = run_numbered(&rt, alloc, "run --seed 18446744073709551615")?;
-    assert!(rt; first == at_zero && at_zero != at_seven && at_seven != at_last && at_last != at_zero);
+    assert!(rt;
+        first == at_zero && at_zero != at_seven && at_seven != at_last && at_last != at_zero
+    );
     assert!(rt; plain.as_slice() == zero.as_slice() && zero.as_slice() == seven.as_slice());
     assert!(rt; seven.as_slice() == last.as_slice());
     Ok(())
@@ -547,7 +630,15 @@ fn what_is_asked(rt: HostRuntime) -> Result<(), Fail> {
         ended: false,
     };
     let mut sink = VecSink::build(alloc, 99, 99, Vec::new(alloc))?;
-    let run = replay(&rt, alloc, &asked, &mut source, &mut sink, &mut PlainMaker, &NoGate);
+    let run = replay(
+        &rt,
+        alloc,
+        &asked,
+        &mut source,
+        &mut sink,
+        &mut PlainMaker,
+        &NoGate,
+    );
     assert_eq!(rt; run.status, 3);
     assert!(rt; source.longest <= 65_536);
     Ok(())

@@ -170,7 +170,8 @@ pub fn read_words(words: &[String]) -> Option<Options>
     ensures valid { IfSome result (λ o. IsValid (config_of o)) }
 {
     match words {
-        [command, options @ ..] if command.as_bytes() == b"run".as_slice() && are_options(options) => {
+        [command, options @ ..]
+            if command.as_bytes() == b"run".as_slice() && are_options(options) => {
             Some(options_in(options))
         }
         _ => None,

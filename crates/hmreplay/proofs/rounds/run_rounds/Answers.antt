@@ -43,7 +43,7 @@ loop-index-preserved g c =
     let ran = subst (λ (n : ℕ). RunsRound config (ended_in q.turns) (p.splits + 1) n (held c.loop-index.env) (held c.loop-index.env) round these (held c.run_round.new.env)) number made.ran in
     let more = c.replayed_rounds.ensures.more config p q (take i rounds) round c.loop-index.all.items these (held c.loop-index.env) (held c.run_round.new.env) before.ran made.root made.splits ran in
     let taken : take (i + 1) rounds ≡ take i rounds ++ round ∷ [] =
-        take_more rounds i round (omega arith) ∙ ap (λ (r : List ScriptView). take i rounds ++ r ∷ []) (sym c.index-rounds-index.is) in
+    take_more rounds i round (omega arith) ∙ ap (λ (r : List ScriptView). take i rounds ++ r ∷ []) (sym c.index-rounds-index.is) in
     record {
       of = made.of;
       caller = ap (λ (v : PassView). v.caller) made.root.same ∙ before.caller;
