@@ -77,8 +77,3 @@ pub gained_all : (ts us : List Known) (Is : Own → Own → Type 0) → ((place 
 gained_all ts us Is fresh g = subst (λ (xs : Own). Is xs used_up)
     (ext (λ place. g.own place ++ []) (mine_of us) (λ place. append-nil (g.own place) ∙ (ap (λ z. z ++ g.own place) (sym (fresh place)) ∙ sym (g.mine place))))
     (g.is used_up)
-
-pub ran_all : {V : Type 0} (items : V → List StepResult) (ts us : List Known) (r : Result V NoMemory) (t : Terms) (steps : List StepView) (names last : Names) → ((place : ℕ) → mine_of ts place ≡ [])
-    → IfOk r (λ rs. Gains ts us (Runs t 1 names steps (items rs) last)) → IfOk r (λ rs. IsRun t names steps (items rs) last (mine_of us))
-ran_all items ts us (Err e) t steps names last fresh g = tt
-ran_all items ts us (Ok rs) t steps names last fresh g = gained_all ts us (Runs t 1 names steps (items rs) last) fresh g
