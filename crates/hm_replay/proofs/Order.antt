@@ -1,5 +1,5 @@
 -- Rounds stand one after another in each history.
-use Rattle.std.proofs.Common.{◌≡◌, ℕ, ◌<◌, Bool, true, false, cond, List, [], ◌∷◌, ◌++◌, length, slice_index_or, arith, refl, ap, ◌∙◌, sym, subst, suc}
+use Rattle.std.proofs.Common.{◌≡◌, ℕ, ◌<◌, Bool, true, false, cond, List, [], ◌∷◌, ◌++◌, length, slice_index_or, arith, refl, ◌∙◌, sym, subst, suc}
 use Rattle.std.proofs.lemmas.Grind.{common_steps}
 use lib.Dec.{ltb}
 use Rattle.hm_model.specs.declared.entry.Entry.{Entry}

@@ -1,5 +1,5 @@
 -- One more step of a script.
-use Rattle.std.proofs.Common.{◌≡◌, ℕ, ◌+◌, ◌<◌, zero, suc, Bool, true, get_or, List, [], ◌∷◌, ◌++◌, append-nil, length, Option, Some, None, Result, Ok, Err, refl, sym, ◌∙◌, ap, subst, arith}
+use Rattle.std.proofs.Common.{◌≡◌, ℕ, ◌+◌, ◌<◌, zero, suc, Bool, true, get_or, List, [], ◌∷◌, ◌++◌, append-nil, length, Option, Some, None, Result, refl, sym, ◌∙◌, ap, subst, arith}
 use Rattle.std.specs.Prelude.{IfOk}
 use Rattle.std.specs.List.{list_all}
 use Rattle.std.proofs.lemmas.Bool.{and_parts}
@@ -14,7 +14,7 @@ use Rattle.hm_heap.specs.Parts.{who_of}
 use Rattle.hm_replay.specs.Names.{Names}
 use Rattle.hm_replay.specs.Uses.{Own, used_up}
 use Rattle.hm_replay.specs.Steps.{Terms, who_at, Answers, skipped, IsStepPlan, Steps, base_of, names_after}
-use Rattle.hm_replay.specs.Scripts.{Runs, IsRun}
+use Rattle.hm_replay.specs.Scripts.{Runs}
 use Rattle.hm_replay.specs.Gains.{Gains, mine_of}
 use Rattle.hm_replay.proofs.Gaining.{ext, gains_as, gains_none}
 
