@@ -1,5 +1,5 @@
 -- Rounds stand one after another in each history.
-use Rattle.std.proofs.Common.{◌≡◌, ℕ, ◌<◌, Bool, true, false, cond, List, [], ◌∷◌, ◌++◌, length, slice_index_or, arith, refl, ap, ◌∙◌, sym, subst, suc}
+use Rattle.std.proofs.Common.{◌≡◌, ℕ, ◌<◌, Bool, true, false, cond, List, [], ◌∷◌, ◌++◌, length, slice_index_or, arith, refl, ◌∙◌, sym, subst, suc}
 use Rattle.std.proofs.lemmas.Grind.{common_steps}
 use lib.Dec.{ltb}
 use Rattle.hm_model.specs.declared.entry.Entry.{Entry}
@@ -29,7 +29,3 @@ no_more (x ∷ xs) ys e = no_more xs ys cc
 pub calls_append : (a b : List Entry) (c : ℕ) → calls_of (a ++ b) c ≡ calls_of a c ++ calls_of b c
 calls_append [] b c = refl
 calls_append (e ∷ a) b c = let ih : calls_of (a ++ b) c ≡ calls_of a c ++ calls_of b c = calls_append a b c in grind (arith, common_steps, ih)
-
--- a caller whose calls were all seen has none in what comes after
-pub round_before : (h s : List Entry) (p : StartsWith h s) (c : ℕ) → calls_of s c ≡ calls_of h c → calls_of p.0 c ≡ []
-round_before h s p c e = no_more (calls_of s c) (calls_of p.0 c) (sym (calls_append s p.0 c) ∙ (ap (λ (z : List Entry). calls_of z c) (sym p.1) ∙ sym e))

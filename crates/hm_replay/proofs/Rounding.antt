@@ -2,7 +2,7 @@
 use Rattle.std.proofs.Common.{◌≡◌, ◌≢◌, ℕ, ◌+◌, ◌-◌, ◌<◌, ◌≤◌, ◌⊎◌, Bool, true, false, ◌==◌, cond, List, [], ◌∷◌, length, slice_index_or, map, Option, Some, None, IfSome, Result, Ok, Err, IfOk, arith, refl, ap, ◌∙◌, sym, subst, zero, suc}
 use Rattle.std.proofs.lemmas.Grind.{common_steps}
 use Rattle.std.proofs.lemmas.Bool.{cases_lt}
-use Rattle.std.proofs.lemmas.List.{append-nil, length-map}
+use Rattle.std.proofs.lemmas.List.{length-map}
 use Rattle.std.specs.Result.{result_ok}
 use mathlib.Core.Logic.{inl, inr}
 use Rattle.hm_outside.specs.declared.memory.NoMemory.{NoMemory}
@@ -242,17 +242,6 @@ all_see_more locks count total p z h fewer g r t l =
     let g' = gathered locks count p z h g in
     sees_more (p.splits + 1) count total (slice_index_or p.turns r t) (slice_index_or z.turns r t) fewer (h.each r t b) (g.first r t l) (g.knows r t l) (g'.knows r t l')
     (λ c. g.joined r c t l) (λ c. g'.joined r c t l')
-
-leaves_none : (total : ℕ) (p q : PassView) → q ≡ p → LeavesRoot total p q
-leaves_none total p q e = subst (λ (z : PassView). LeavesRoot total p z) (sym e) (record {
-  same = refl;
-  stays = record { as_many = refl; mine = λ place. refl; others = λ c o place. refl };
-  gathered = λ g. g;
-  seen = λ g r t l. record { more = []; is = sym (append-nil (slice_index_or p.turns r t).knows.seen); callers = tt };
-})
-
-pub nothing_left : (total : ℕ) (p : PassView) → LeavesRoot total p p
-nothing_left total p = leaves_none total p p refl
 
 pub leaves : {X : Type 0} (result_of : Worker → X) (locks : List Lock) (total : ℕ) (p q z : PassView) (ws : List Worker) (rs : List X) → AreOf locks p.turns → HasParted locks (length ws) p q → AreWorked locks (p.splits + 1) ws → AllGoOn locks p ws → length ws ≤ total
     → FinishedTo result_of locks q z ws rs → LeavesRoot total p z

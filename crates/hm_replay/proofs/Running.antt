@@ -1,5 +1,5 @@
 -- One more step of a script.
-use Rattle.std.proofs.Common.{◌≡◌, ℕ, ◌+◌, ◌<◌, zero, suc, Bool, true, get_or, List, [], ◌∷◌, ◌++◌, append-nil, length, Option, Some, None, Result, Ok, Err, refl, sym, ◌∙◌, ap, subst, arith}
+use Rattle.std.proofs.Common.{◌≡◌, ℕ, ◌+◌, ◌<◌, zero, suc, Bool, true, get_or, List, [], ◌∷◌, ◌++◌, append-nil, length, Option, Some, None, Result, refl, sym, ◌∙◌, ap, subst, arith}
 use Rattle.std.specs.Prelude.{IfOk}
 use Rattle.std.specs.List.{list_all}
 use Rattle.std.proofs.lemmas.Bool.{and_parts}
@@ -14,7 +14,7 @@ use Rattle.hm_heap.specs.Parts.{who_of}
 use Rattle.hm_replay.specs.Names.{Names}
 use Rattle.hm_replay.specs.Uses.{Own, used_up}
 use Rattle.hm_replay.specs.Steps.{Terms, who_at, Answers, skipped, IsStepPlan, Steps, base_of, names_after}
-use Rattle.hm_replay.specs.Scripts.{Runs, IsRun}
+use Rattle.hm_replay.specs.Scripts.{Runs}
 use Rattle.hm_replay.specs.Gains.{Gains, mine_of}
 use Rattle.hm_replay.proofs.Gaining.{ext, gains_as, gains_none}
 
@@ -77,8 +77,3 @@ pub gained_all : (ts us : List Known) (Is : Own → Own → Type 0) → ((place 
 gained_all ts us Is fresh g = subst (λ (xs : Own). Is xs used_up)
     (ext (λ place. g.own place ++ []) (mine_of us) (λ place. append-nil (g.own place) ∙ (ap (λ z. z ++ g.own place) (sym (fresh place)) ∙ sym (g.mine place))))
     (g.is used_up)
-
-pub ran_all : {V : Type 0} (items : V → List StepResult) (ts us : List Known) (r : Result V NoMemory) (t : Terms) (steps : List StepView) (names last : Names) → ((place : ℕ) → mine_of ts place ≡ [])
-    → IfOk r (λ rs. Gains ts us (Runs t 1 names steps (items rs) last)) → IfOk r (λ rs. IsRun t names steps (items rs) last (mine_of us))
-ran_all items ts us (Err e) t steps names last fresh g = tt
-ran_all items ts us (Ok rs) t steps names last fresh g = gained_all ts us (Runs t 1 names steps (items rs) last) fresh g

@@ -18,8 +18,8 @@ use Rattle.hm_replay.specs.Rounds.{RunsRound, RunsRounds, InRounds, script_count
 
 -- the first pass after these rounds, which were the first ones: the results are those of the scripts, and each turn has
 -- seen their entries round by round, and no others
-pub record HasReplayed (c : Config) (p : PassView) (rounds : List (List ScriptView)) (results : List Results) (last : Names)
-    : Type 0 where
+pub record HasReplayed (c : Config) (p : PassView) (rounds : List (List ScriptView)) (results : List Results)
+    (last : Names) : Type 0 where
   pub splits : p.splits ≡ script_count rounds
   pub gathered : IsGathered p
   pub own : (place : ℕ) → mine_of p.turns place ≡ []
@@ -53,8 +53,8 @@ RoundsGoOn = (c : Config) (p q : PassView) (rounds : List (List ScriptView)) (sc
 
 -- of the histories that go on from what the first pass has seen, with nothing of others
 abbrev pub ReplaysClose : Type 0
-ReplaysClose = (c : Config) (p : PassView) (hs : List History) (rounds : List (List ScriptView)) (results : List Results)
-    (last : Names)
+ReplaysClose = (c : Config) (p : PassView) (hs : List History) (rounds : List (List ScriptView))
+    (results : List Results) (last : Names)
     → HasReplayed c p rounds results last
     → length hs ≡ length p.turns
     → ((r : ℕ) (t : Known) (h : History) → r < length p.turns
@@ -63,7 +63,8 @@ ReplaysClose = (c : Config) (p : PassView) (hs : List History) (rounds : List (L
 
 -- of each entry of the histories: it is of a step of a script
 abbrev pub EntriesAreOfTrace : Type 0
-EntriesAreOfTrace = (c : Config) (hs : List History) (rounds : List (List ScriptView)) (results : List Results) (last : Names)
+EntriesAreOfTrace = (c : Config) (hs : List History) (rounds : List (List ScriptView)) (results : List Results)
+    (last : Names)
     → AreReplayed c hs rounds results last
     → (r : ℕ) (h : History) → r < length hs → EachIs (IsOfTrace 1 1 rounds) (slice_index_or hs r h).entries
 
@@ -73,7 +74,8 @@ RoundsAreSmall = (scripts : List ScriptView) → is_round scripts ≡ true → l
 
 -- of the results' order, which is that of a report
 abbrev pub ResultsAscend : Type 0
-ResultsAscend = (c : Config) (own : ℕ → Own) (rounds : List (List ScriptView)) (results : List Results) (names last : Names)
+ResultsAscend = (c : Config) (own : ℕ → Own) (rounds : List (List ScriptView)) (results : List Results)
+    (names last : Names)
     → list_all is_round rounds ≡ true
     → RunsRounds c own 1 1 names rounds results last
     → ascends results ≡ true

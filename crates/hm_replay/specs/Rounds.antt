@@ -30,8 +30,8 @@ abbrev pub RunsRound : Config → (ℕ → Own) → ℕ → ℕ → Names → Na
     → Type 0
 RunsRound c own caller round names now [] results after = (results ≡ []) × (after ≡ now)
 RunsRound c own caller round names now (s ∷ scripts) results after =
-    RunsScript (record { config = c; caller = caller; round = round; thread = s.thread }) (own caller) names now s results
-    (λ next later. RunsRound c own (caller + 1) round names next scripts later after)
+    RunsScript (record { config = c; caller = caller; round = round; thread = s.thread }) (own caller) names now s
+    results (λ next later. RunsRound c own (caller + 1) round names next scripts later after)
 
 -- ---- the rounds of a trace
 -- the round was run with these names, and the rest goes on with the names after it

@@ -54,14 +54,14 @@ pub record HasParted (locks : List Lock) (count : ℕ) (p q : PassView) : Type 0
       → HasCut (p.splits + 1) count (slice_index_or p.turns r t) (slice_index_or q.turns r t)
 
 -- the pass of a script that has not begun
-pub record IsStarted (locks : List Lock) (caller round : ℕ) (root p : PassView) (s : ScriptView) (names now : Names) : Type 0
-  where
-    pub seen : (r : ℕ) (t : Known) → r < length locks
-        → (slice_index_or p.turns r t).knows.seen ≡ (slice_index_or root.turns r t).knows.seen
-    pub caller_is : p.caller ≡ caller
-    pub round_is : p.round ≡ round
-    pub ready : IsReady locks p s
-    pub names_are : now ≡ names
+pub record IsStarted (locks : List Lock) (caller round : ℕ) (root p : PassView) (s : ScriptView) (names now : Names)
+    : Type 0 where
+  pub seen : (r : ℕ) (t : Known) → r < length locks
+      → (slice_index_or p.turns r t).knows.seen ≡ (slice_index_or root.turns r t).knows.seen
+  pub caller_is : p.caller ≡ caller
+  pub round_is : p.round ≡ round
+  pub ready : IsReady locks p s
+  pub names_are : now ≡ names
 
 abbrev pub IsBegun : List Lock → ℕ → ℕ → PassView → Names → Worker → Type 0
 IsBegun locks caller round root names w = IsStarted locks caller round root w.pass w.script.now names (held w.env)

@@ -34,7 +34,8 @@ fn malloc<R: Wait, P: Pages, G: Gate>(
     ensures same { pass.new ≡ record pass.old { turns = pass.new.turns } }
     ensures of { AreOf heap.now.locks pass.new.turns }
     ensures grew { AllGrew pass.old.turns pass.new.turns }
-    ensures gains { IfOk result (GainsAnswer (IsMallocPlan heap.now.config pass.old.thread size) pass.old pass.new number) }
+    ensures gains { IfOk result
+        (GainsAnswer (IsMallocPlan heap.now.config pass.old.thread size) pass.old pass.new number) }
     ensures reach { IfOk result AnswerInReach }
 {
     let tried = heap.try_malloc(pass, number, size)?;
@@ -56,7 +57,8 @@ fn free<R: Wait, P: Pages, G: Gate>(
     ensures same { pass.new ≡ record pass.old { turns = pass.new.turns } }
     ensures of { AreOf heap.now.locks pass.new.turns }
     ensures grew { AllGrew pass.old.turns pass.new.turns }
-    ensures gains { IfOk result (GainsAnswer (λ plan. plan ≡ free_plan heap.now.config addr None) pass.old pass.new number) }
+    ensures gains { IfOk result
+        (GainsAnswer (λ plan. plan ≡ free_plan heap.now.config addr None) pass.old pass.new number) }
 {
     let tried = heap.try_free(pass, number, addr)?;
     if is_busy(&tried) {
@@ -82,7 +84,8 @@ fn write<R: Wait, P: Pages, G: Gate>(
     ensures same { pass.new ≡ record pass.old { turns = pass.new.turns } }
     ensures of { AreOf heap.now.locks pass.new.turns }
     ensures grew { AllGrew pass.old.turns pass.new.turns }
-    ensures gains { IfOk result (GainsAnswer (λ plan. plan ≡ write_plan heap.now.config addr (same_runs byte len)) pass.old pass.new number) }
+    ensures gains { IfOk result
+        (GainsAnswer (λ plan. plan ≡ write_plan heap.now.config addr (same_runs byte len)) pass.old pass.new number) }
 {
     let runs = Runs::same(alloc, byte, len)?;
     heap.write(rt, pass, number, addr, &runs)
@@ -104,7 +107,8 @@ pub(crate) fn call<R: Wait, P: Pages, G: Gate>(
     ensures same { pass.new ≡ record pass.old { turns = pass.new.turns } }
     ensures of { AreOf heap.now.locks pass.new.turns }
     ensures grew { AllGrew pass.old.turns pass.new.turns }
-    ensures gains { IfOk result (GainsAnswer (IsStepPlan heap.now.config pass.old.thread (step_view step.now) base) pass.old pass.new number) }
+    ensures gains { IfOk result
+        (GainsAnswer (IsStepPlan heap.now.config pass.old.thread (step_view step.now) base) pass.old pass.new number) }
     ensures reach { IfOk result (SetsInReach (step_view step.now)) }
 {
     match step {

@@ -47,11 +47,17 @@ fn work<R: Threads + Wait + Sync, P: Pages, G: Gate>(
     threads: usize,
 )
     requires threads { 0 < threads }
-    requires ready { (i : ℕ) (w : _) → i < length workers.old.items → IsReady heap.now.locks (slice_index_or workers.old.items i w).pass (slice_index_or workers.old.items i w).script.now }
+    requires ready { (i : ℕ) (w : _) → i < length workers.old.items
+        → IsReady heap.now.locks (slice_index_or workers.old.items i w).pass
+        (slice_index_or workers.old.items i w).script.now }
     ensures len { vec_len workers.new ≡ vec_len workers.old }
-    ensures script { (i : ℕ) (w : _) → i < length workers.old.items → (slice_index_or workers.new.items i w).script ≡ (slice_index_or workers.old.items i w).script }
-    ensures run { (i : ℕ) (w : _) → i < length workers.old.items → HasRun heap.now.locks (slice_index_or workers.old.items i w).pass (slice_index_or workers.new.items i w).pass }
-    ensures made { (i : ℕ) (w : _) → i < length workers.old.items → KeepsMade heap.now.config (slice_index_or workers.old.items i w) (slice_index_or workers.new.items i w) }
+    ensures script { (i : ℕ) (w : _) → i < length workers.old.items
+        → (slice_index_or workers.new.items i w).script ≡ (slice_index_or workers.old.items i w).script }
+    ensures run { (i : ℕ) (w : _) → i < length workers.old.items
+        → HasRun heap.now.locks (slice_index_or workers.old.items i w).pass
+        (slice_index_or workers.new.items i w).pass }
+    ensures made { (i : ℕ) (w : _) → i < length workers.old.items
+        → KeepsMade heap.now.config (slice_index_or workers.old.items i w) (slice_index_or workers.new.items i w) }
 {
     for_each_mut(
         rt,
@@ -78,8 +84,11 @@ fn start<'s, P: Pages, G: Gate>(
     requires few { root.old.splits + length scripts.now < 2 ^ 32 }
     requires room { (workers.old.items ≡ []) × (length scripts.now ≤ vec_capacity workers.old) }
     ensures root { HasParted heap.now.locks (vec_len workers.new) root.old root.new }
-    ensures workers { (i : ℕ) (w : _) → i < vec_len workers.new → IsBegun heap.now.locks (root.old.splits + 1 + i) number root.old (held env.now) (slice_index_or workers.new.items i w) }
-    ensures scripts { (i : ℕ) (w : _) (s : _) → i < vec_len workers.new → (slice_index_or workers.new.items i w).script.now ≡ slice_index_or scripts.now i s }
+    ensures workers { (i : ℕ) (w : _) → i < vec_len workers.new
+        → IsBegun heap.now.locks (root.old.splits + 1 + i) number root.old (held env.now)
+        (slice_index_or workers.new.items i w) }
+    ensures scripts { (i : ℕ) (w : _) (s : _) → i < vec_len workers.new
+        → (slice_index_or workers.new.items i w).script.now ≡ slice_index_or scripts.now i s }
     ensures all { OnOk result (vec_len workers.new ≡ length scripts.now) }
     ensures some { vec_len workers.new ≤ length scripts.now }
 {
@@ -105,7 +114,8 @@ fn finish<P: Pages, G: Gate>(
 )
     requires of { AreOf heap.now.locks root.old.turns }
     requires root { root.old.caller ≡ 0 }
-    requires passes { (i : ℕ) (w : _) → i < vec_len workers → AreOf heap.now.locks (slice_index_or workers.items i w).pass.turns }
+    requires passes { (i : ℕ) (w : _) → i < vec_len workers
+        → AreOf heap.now.locks (slice_index_or workers.items i w).pass.turns }
     requires room { (found.old.items ≡ []) × (vec_len workers ≤ vec_capacity found.old) }
     ensures { FinishedTo (λ w. w.results) heap.now.locks root.old root.new workers.entry.items found.new.items }
 {
@@ -158,7 +168,8 @@ pub fn run_round<R: Threads + Wait + Sync, P: Pages, G: Gate>(
     ensures of { AreOf heap.now.locks root.new.turns }
     ensures root { LeavesRoot (length round.now) root.old root.new }
     ensures splits { IfOk result (λ _. root.new.splits ≡ root.old.splits + length round.now) }
-    ensures ran { IfOk result (λ results. RunsRound heap.now.config (ended_in root.new.turns) (root.old.splits + 1) number (held env.old) (held env.old) round.now results.items (held env.new)) }
+    ensures ran { IfOk result (λ results. RunsRound heap.now.config (ended_in root.new.turns) (root.old.splits + 1)
+        number (held env.old) (held env.old) round.now results.items (held env.new)) }
     ensures memory { OnErr result (env.new ≡ env.old) }
 {
     let scripts = round.scripts();

@@ -67,7 +67,8 @@ fn run_steps<R: Wait, P: Pages, G: Gate>(
     ensures same { pass.new ≡ record pass.old { turns = pass.new.turns } }
     ensures of { AreOf heap.now.locks pass.new.turns }
     ensures grew { AllGrew pass.old.turns pass.new.turns }
-    ensures ran { IfOk result (λ rs. GainsResults heap.now pass.old pass.new (held env.old) (steps_view steps.now) rs.items (held env.new)) }
+    ensures ran { IfOk result (λ rs. GainsResults heap.now pass.old pass.new (held env.old) (steps_view steps.now)
+        rs.items (held env.new)) }
 {
     let mut results = Vec::new(alloc);
     for (index, step) in steps.iter().enumerate() {
@@ -93,7 +94,8 @@ pub fn run_script<R: Wait, P: Pages, G: Gate>(
     ensures of { AreOf heap.now.locks pass.new.turns }
     ensures grew { AllGrew pass.old.turns pass.new.turns }
     ensures results { IfOk result (λ rs. (rs.round ≡ pass.old.round) × (rs.thread ≡ script.now.thread)) }
-    ensures ran { IfOk result (λ rs. IsRun (terms_of heap.now pass.old) (held env.old) script.now.steps rs.items (held env.new) (mine_of pass.new.turns)) }
+    ensures ran { IfOk result (λ rs. IsRun (terms_of heap.now pass.old) (held env.old) script.now.steps rs.items
+        (held env.new) (mine_of pass.new.turns)) }
 {
     let items = run_steps(rt, alloc, heap, pass, env, script.steps())?;
     Ok(Results {
