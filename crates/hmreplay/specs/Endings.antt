@@ -36,8 +36,8 @@ line_of TooLong = codes "fault: too long" ++ 10 ∷ []
 abbrev pub AreAccepted : List (String Global) → Type 0
 AreAccepted words = (o : Options) × (options_of words ≡ Some o)
 
--- why a run is refused before its text is looked at; where the words are not accepted nothing was taken from the source,
--- and where the source failed no more than may be
+-- why a run is refused before its text is looked at; where the words are not accepted nothing was taken from the
+-- source, and where the source failed no more than may be
 abbrev pub IsRefused : Refusal → List (String Global) → Option (List ℕ) → Option (List ℕ) → Type 0 → Type 0
 IsRefused Usage words left left' rose = (options_of words ≡ None) × (left' ≡ left)
 IsRefused ReadFault words left left' rose = AreAccepted words × rose × IsTakenWithin 67108864 left left'

@@ -81,15 +81,16 @@ module _ {P : Type 0} (meaning : pages.Ghosts P) where
 
   -- ---- what is given is zero, or its overwrite is told
   abbrev pub SlotsAreZero : Type 0
-  SlotsAreZero = (o : Options) (hs : List History) (ps : List P) (place : ℕ) (p : P) (before : List Entry) (given : Entry)
-      (a k : ℕ)
+  SlotsAreZero = (o : Options) (hs : List History) (ps : List P) (place : ℕ) (p : P) (before : List Entry)
+      (given : Entry) (a k : ℕ)
       → BeginsClass o hs ps place p (before ++ given ∷ []) → class_laws.IsGivenAt given a
       → IsTrue (class_at o ps place p).told → k < usable (class_at o ps place p).shape
-      → byte_at (class_at o ps place p).shape (class.state (class_at o ps place p) (before ++ given ∷ [])) (a + k) ≡ Some 0
+      → byte_at (class_at o ps place p).shape (class.state (class_at o ps place p) (before ++ given ∷ [])) (a + k)
+      ≡ Some 0
 
   abbrev pub BlocksAreZero : Type 0
-  BlocksAreZero = (o : Options) (hs : List History) (ps : List P) (place : ℕ) (p : P) (before : List Entry) (given : Entry)
-      (a asked guard k : ℕ)
+  BlocksAreZero = (o : Options) (hs : List History) (ps : List P) (place : ℕ) (p : P) (before : List Entry)
+      (given : Entry) (a asked guard k : ℕ)
       → BeginsLarge o hs ps place p (before ++ given ∷ []) → large_laws.IsGivenAt given a asked guard
       → k < blocks.size_for asked
       → blocks.byte_at (large.state (large_at o ps place p) (before ++ given ∷ [])).live (a + k) ≡ Some 0

@@ -39,8 +39,8 @@ module _ (t : class.Terms) (s : class_state.State) where
   abbrev pub found_in : Choices → ℕ → Option (ℕ × ℕ)
   found_in c a = class.reuse_finds t.config t.shape (opened t.shape c.opened c.canary s) a
 
-  -- a place is told as overwritten where one of its usable bytes is not zero, and given where none is; a page fails only
-  -- where the count of faults rose
+  -- a place is told as overwritten where one of its usable bytes is not zero, and given where none is; a page fails
+  -- only where the count of faults rose
   pub record RefusesAllot (c : Choices) (before now : ℕ) (reply : Reply) : Type 0 where
     pub exhausted : (reply ≡ Exhausted)
         ↔ (class.NoneServes t.shape s × (class_state.unopened t.shape s.shut s.next ≡ None))

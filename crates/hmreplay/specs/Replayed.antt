@@ -25,9 +25,9 @@ module _ {P : Type 0} (meaning : pages.Ghosts P) where
     told = meaning.told kept;
   }
 
-  -- there is a history for each region, by ascending number, beside its pages: it is legal, and its choices are drawn from
-  -- the words of the region's stream; its count of faults is the pages' own; where they tell, their runs and bytes are what
-  -- the history says
+  -- there is a history for each region, by ascending number, beside its pages: it is legal, and its choices are drawn
+  -- from the words of the region's stream; its count of faults is the pages' own; where they tell, their runs and bytes
+  -- are what the history says
   pub record AreEnds (o : Options) (hs : List History) (ps : List P) : Type 0 where
     pub histories : length hs ≡ region_count (config_of o) + 1
     pub pages : length ps ≡ length hs
@@ -36,7 +36,8 @@ module _ {P : Type 0} (meaning : pages.Ghosts P) where
 
   -- beside that: the histories hold each script's calls once, in order and round by round, with these results; and each
   -- entry is of a step of a script
-  pub record IsReplayed (o : Options) (closed : Closed P) (trace : List (List ScriptView)) (results : List Results) : Type 0 where
+  pub record IsReplayed (o : Options) (closed : Closed P) (trace : List (List ScriptView)) (results : List Results)
+      : Type 0 where
     pub ends : AreEnds o closed.histories closed.pages
     pub names : Names
     pub rounds : AreReplayed (config_of o) closed.histories trace results names

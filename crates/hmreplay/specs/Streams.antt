@@ -19,6 +19,8 @@ IsTakenWithin most before after = (bytes : List ℕ) × Taken before after bytes
 abbrev pub IsFrontPut : Option (List ℕ) → Option (List ℕ) → List ℕ → Type 0
 IsFrontPut before after text = (n : ℕ) × (n < length text) × Put before after (take n text)
 
--- the text was put and the status is the one planned; or the status is 5, the sink's count rose and a front of the text was put
+-- the text was put and the status is the one planned; or the status is 5, the sink's count rose and a front of the text
+-- was put
 abbrev pub IsWritten : ℕ → ℕ → Option (List ℕ) → Option (List ℕ) → Type 0 → List ℕ → Type 0
-IsWritten status planned before after rose text = ((status ≡ planned) × Put before after text) ⊎ ((status ≡ 5) × rose × IsFrontPut before after text)
+IsWritten status planned before after rose text =
+    ((status ≡ planned) × Put before after text) ⊎ ((status ≡ 5) × rose × IsFrontPut before after text)

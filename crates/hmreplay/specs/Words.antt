@@ -57,7 +57,8 @@ is_given option (word ∷ value ∷ words) = names option (string_bytes word) ||
 abbrev pub given : OptionName → List (String Global) → Option ℕ
 given option [] = None
 given option (word ∷ []) = None
-given option (word ∷ value ∷ words) = if names option (string_bytes word) then value_of option (string_bytes value) else given option words
+given option (word ∷ value ∷ words) =
+    if names option (string_bytes word) then value_of option (string_bytes value) else given option words
 
 -- the word is this option, its value may be the option's, and the option does not come again
 abbrev pub is_option : OptionName → List ℕ → List ℕ → List (String Global) → Bool

@@ -3,6 +3,8 @@
 //! and with 6 where there was no memory for them.
 #![tactic(auto)]
 
+#[cfg(test)]
+mod hostile_tests;
 mod laws;
 mod reading;
 mod refusal;

@@ -41,7 +41,8 @@ fn run_rounds<R: Threads + Wait + Sync, P: Pages, G: Gate>(
     requires trace { IsTrace rounds.now }
     ensures of { AreOf heap.now.locks root.new.turns }
     ensures root { (root.new.caller ≡ 0) × (root.new.out ≡ 0) }
-    ensures ran { IfOk result (λ results. (last : _) × HasReplayed heap.now.config root.new rounds.now results.items last) }
+    ensures ran { IfOk result (λ results. (last : _)
+        × HasReplayed heap.now.config root.new rounds.now results.items last) }
 {
     replayed_rounds();
     small_rounds();

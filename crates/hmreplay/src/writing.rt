@@ -26,7 +26,8 @@ fn write_all<K: Sink>(sink: &mut K, text: &[u8]) -> Result<(), SinkFault>
 
 /// Writes the text and answers the status that is planned, or 5 where the sink fails.
 pub fn finish<K: Sink>(sink: &mut K, planned: u8, text: &[u8]) -> u8
-    ensures { IsWritten result planned (K.held sink.old) (K.held sink.new) (Rose (K.faults sink.old) (K.faults sink.new)) text.now }
+    ensures { IsWritten result planned (K.held sink.old) (K.held sink.new)
+        (Rose (K.faults sink.old) (K.faults sink.new)) text.now }
 {
     match write_all(sink, text) {
         Ok(()) => planned,
