@@ -30,8 +30,8 @@ frame ls ls' k prev last (x ∷ xs) linked same =
 loose_out : (ls : Links) (k : ListName) (prev last : Option ℕ) (xs : List ℕ) (x : ℕ) → Linked ls k prev last xs → slice_get ls x ≡ Some None → among x xs ≡ false
 loose_out ls k prev last xs x linked loose =
     false_from_ne_true (among x xs) (λ is.
-      let it = member ls k prev last xs x linked is in
-      none-some it.0 (same_Some None (Some it.0) (sym loose ∙ it.1)))
+    let it = member ls k prev last xs x linked is in
+    none-some it.0 (same_Some None (Some it.0) (sym loose ∙ it.1)))
 
 -- one link is edited, and a slab gets one
 abbrev pub joined : Links → Option ℕ → (Link → Link) → ℕ → Link → Links
@@ -84,9 +84,9 @@ not_edited : (ls : Links) (j k : ListName) (prev last before behind : Option ℕ
 not_edited ls j k prev last before behind xs ys None y differs linked other is in_other = refl
 not_edited ls j k prev last before behind xs ys (Some z) y differs linked other is in_other =
     ne_eqb z y (λ e.
-      let one = member ls k prev last xs z linked is in
-      let two = member ls j before behind ys y other in_other in
-      differs (sym two.2 ∙ sym (list_at ls z y one.0 two.0 one.1 two.1 e) ∙ one.2))
+    let one = member ls k prev last xs z linked is in
+    let two = member ls j before behind ys y other in_other in
+    differs (sym two.2 ∙ sym (list_at ls z y one.0 two.0 one.1 two.1 e) ∙ one.2))
 
 other_stays : (ls : Links) (j k : ListName) (ends : Ends) (prev last o : Option ℕ) (xs ys : List ℕ) (f : Link → Link) (x : ℕ) (l : Link) → j ≢ k → l.list ≡ k
     → KeepsList f → Linked ls k prev last xs → IsMember o xs → x < length ls → slice_get ls x ≡ Some None → IsChain ls j ends ys → IsChain (joined ls o f x l) j ends ys
@@ -96,7 +96,7 @@ other_stays ls j k ends prev last o xs ys f x l differs names keeps linked is be
       count = chain.count;
       linked =
           frame ls (joined ls o f x l) j None ends.last ys chain.linked (λ y there.
-            at_kept ls o f x y l (λ e. among_not y x ys out there (sym e)) (not_edited ls j k prev last None ends.last xs ys o y differs linked chain.linked is there));
+          at_kept ls o f x y l (λ e. among_not y x ys out there (sym e)) (not_edited ls j k prev last None ends.last xs ys o y differs linked chain.linked is there));
       distinct = chain.distinct;
       all = all_joined ls o f x l j ys keeps below (λ e. absurd (differs (sym e ∙ names))) (λ y m n at name. chain.all y m at name);
     }
@@ -107,10 +107,10 @@ last_some ls k prev last c r linked =
     elim (last_is ls k (Some c) last r linked.1) as (λ _. (z : ℕ) × (last ≡ Some z) × (among z (c ∷ r) ≡ true)) [
       | inl e ↦ (c, e, among_head c c r refl)
       | inr w ↦ (
-          w.0,
-          w.1,
-          elim (cases_eq c w.0) as (λ _. among w.0 (c ∷ r) ≡ true) [ inl e ↦ among_head w.0 c r e | inr n ↦ among_tail w.0 c r n ∙ w.2 ],
-        )
+        w.0,
+        w.1,
+        elim (cases_eq c w.0) as (λ _. among w.0 (c ∷ r) ≡ true) [ inl e ↦ among_head w.0 c r e | inr n ↦ among_tail w.0 c r n ∙ w.2 ],
+      )
     ]
 
 before_rest : (ls : Links) (k : ListName) (last first : Option ℕ) (x : ℕ) (l : Link) (xs : List ℕ) → Linked ls k None last xs → first ≡ front xs → AreDistinct xs
@@ -123,9 +123,9 @@ before_rest ls k last first x l (c ∷ r) linked is distinct out =
     let rest_out : among x r ≡ false = sym (among_tail x c r c_x) ∙ out in (
       at_edited ls c first (precedes (Some x)) x c l (record { list = k; previous = None; next = front r }) c_x is refl linked.0,
       subst (λ o. Linked (joined ls first (precedes (Some x)) x l) k (Some c) o r) same
-      (frame ls (joined ls first (precedes (Some x)) x l) k (Some c) last r linked.1 (λ y there.
-        at_kept ls first (precedes (Some x)) x y l (λ e. among_not y x r rest_out there (sym e))
-        (ap (λ (p : Option ℕ). stands p y) is ∙ ne_eqb c y (among_not y c r distinct.0 there)))),
+          (frame ls (joined ls first (precedes (Some x)) x l) k (Some c) last r linked.1 (λ y there.
+          at_kept ls first (precedes (Some x)) x y l (λ e. among_not y x r rest_out there (sym e))
+          (ap (λ (p : Option ℕ). stands p y) is ∙ ne_eqb c y (among_not y c r distinct.0 there)))),
     )
 
 first_member : (ends : Ends) (xs : List ℕ) → ends.first ≡ front xs → IsMember ends.first xs
@@ -174,7 +174,7 @@ behind_all : (ls : Links) (k : ListName) (last : Option ℕ) (x : ℕ) → x < l
     → Linked (joined ls last (follows (Some x)) x (record { list = k; previous = last; next = None })) k prev (Some x) (xs ++ x ∷ [])
 behind_all ls k last x below prev [] linked distinct out = (
   at_new ls last (follows (Some x)) x (record { list = k; previous = last; next = None }) below
-  ∙ ap (λ (o : Option ℕ). Some (Some (record { list = k; previous = o; next = None }))) linked,
+      ∙ ap (λ (o : Option ℕ). Some (Some (record { list = k; previous = o; next = None }))) linked,
   refl,
 )
 behind_all ls k last x below prev (a ∷ []) linked distinct out =
@@ -239,8 +239,8 @@ chains_more ls all lists chains k = record {
   count = (chains k).count;
   linked =
       frame ls (ls ++ None ∷ []) k None (ends_in all k).last (list_in lists k) (chains k).linked (λ y there.
-        let it = member ls k None (ends_in all k).last (list_in lists k) y (chains k).linked there in
-        get-append_left ls (None ∷ []) y (slice_get_within ls y (Some it.0) it.1));
+      let it = member ls k None (ends_in all k).last (list_in lists k) y (chains k).linked there in
+      get-append_left ls (None ∷ []) y (slice_get_within ls y (Some it.0) it.1));
   distinct = (chains k).distinct;
   all = λ y m at name.
       elim (cases_lt y (length ls)) as (λ _. among y (list_in lists k) ≡ true) [

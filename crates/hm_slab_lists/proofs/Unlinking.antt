@@ -106,11 +106,11 @@ skips_all ls all lists x lx chains at y differs =
     ∙ ap (λ (g : Slot). if stands lx.next y then each (precedes lx.previous) g else g) (get-edited ls lx.previous (follows lx.next) y)
     ∙ both_edits (stands lx.previous y) (stands lx.next y) lx.previous lx.next x lx (slice_get ls y)
     (λ l here. agree (stands lx.next y) x lx.previous l.previous
-      (λ back. true_stands lx.next y (previous_next ls all lists x y lx l chains at here back))
-      (λ to. next_previous ls all lists x y lx l chains at here (stands_true lx.next y to)))
+    (λ back. true_stands lx.next y (previous_next ls all lists x y lx l chains at here back))
+    (λ to. next_previous ls all lists x y lx l chains at here (stands_true lx.next y to)))
     (λ l here. agree (stands lx.previous y) x lx.next l.next
-      (λ to. true_stands lx.previous y (next_previous ls all lists y x l lx chains here at to))
-      (λ back. previous_next ls all lists y x l lx chains here at (stands_true lx.previous y back)))
+    (λ to. true_stands lx.previous y (next_previous ls all lists y x l lx chains here at to))
+    (λ back. previous_next ls all lists y x l lx chains here at (stands_true lx.previous y back)))
 
 -- ---- the lists then
 front-without : (ls : Links) (k : ListName) (prev last : Option ℕ) (x : ℕ) (lx : Link) (xs : List ℕ) → At ls x lx → Linked ls k prev last xs → AreDistinct xs
@@ -135,14 +135,14 @@ linked-without ls ls' k last x lx at skip prev (a ∷ r) linked distinct =
       | inl e ↦
           let is : lx.previous ≡ prev = previous_at ls x a lx (record { list = k; previous = prev; next = front r }) at linked.0 (sym e) in
           let from : skipped x lx.previous (Some a) ≡ skipped x lx.previous prev =
-              skipped_same x a lx.previous e ∙ sym (skipped_itself x lx.previous) ∙ ap (skipped x lx.previous) is in
+          skipped_same x a lx.previous e ∙ sym (skipped_itself x lx.previous) ∙ ap (skipped x lx.previous) is in
           subst (Linked ls' k (skipped x lx.previous prev) (skipped x lx.previous last)) (sym (without_skip x a r e))
           (subst (λ o. Linked ls' k o (skipped x lx.previous last) (without x r)) from rest)
       | inr n ↦
           subst (Linked ls' k (skipped x lx.previous prev) (skipped x lx.previous last)) (sym (without_keep x a r n)) (
             skip a n ∙ ap (each (skips x lx)) linked.0
-            ∙ ap (λ (o : Option ℕ). Some (Some (record { list = k; previous = skipped x lx.previous prev; next = o })))
-            (front-without ls k (Some a) last x lx r at linked.1 distinct.1),
+                ∙ ap (λ (o : Option ℕ). Some (Some (record { list = k; previous = skipped x lx.previous prev; next = o })))
+                (front-without ls k (Some a) last x lx r at linked.1 distinct.1),
             subst (λ o. Linked ls' k o (skipped x lx.previous last) (without x r)) (skipped_other x a lx.previous n) rest,
           )
     ]
@@ -168,8 +168,8 @@ all_then ls ls' k x lx xs skip loose all y m at is =
 not_in : (ls : Links) (k : ListName) (prev last : Option ℕ) (xs : List ℕ) (x : ℕ) (lx : Link) → Linked ls k prev last xs → At ls x lx → lx.list ≢ k → among x xs ≡ false
 not_in ls k prev last xs x lx linked at differs =
     false_from_ne_true (among x xs) (λ is.
-      let it = member ls k prev last xs x linked is in
-      differs (list_at ls x x lx it.0 at it.1 refl ∙ it.2))
+    let it = member ls k prev last xs x linked is in
+    differs (list_at ls x x lx it.0 at it.1 refl ∙ it.2))
 
 last_stays : (ls : Links) (k : ListName) (last : Option ℕ) (xs : List ℕ) (x : ℕ) (to : Option ℕ) → Linked ls k None last xs → among x xs ≡ false → skipped x to last ≡ last
 last_stays ls k last xs x to linked out =
@@ -181,7 +181,7 @@ last_stays ls k last xs x to linked out =
           ∙ sym w.1
     ]
 
-gone_in : (x : ℕ) (lists : Lists) (k : ListName) → list_in (gone x lists) k ≡ without x (list_in lists k)
+pub gone_in : (x : ℕ) (lists : Lists) (k : ListName) → list_in (gone x lists) k ≡ without x (list_in lists k)
 gone_in x lists Partial = refl
 gone_in x lists Empty = refl
 gone_in x lists Full = refl

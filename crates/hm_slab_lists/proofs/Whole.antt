@@ -238,15 +238,15 @@ pub is_in : (slabs : List Slab) (all : AllEnds) (k : ListName) (x : ℕ) (l : Li
 is_in slabs all k x l true kept at there back = sym ((kept.chains k).all x l at (there refl))
 is_in slabs all k x l false kept at there back =
     sym (false_from_ne_true (among x (list_in (lists_of (links_of slabs) all) k)) (λ is.
-      let it = member (links_of slabs) k None (ends_in all k).last (list_in (lists_of (links_of slabs) all) k) x (kept.chains k).linked is in
-      both_ways false refl (back (list_at (links_of slabs) x x l it.0 at it.1 refl ∙ it.2))))
+    let it = member (links_of slabs) k None (ends_in all k).last (list_in (lists_of (links_of slabs) all) k) x (kept.chains k).linked is in
+    both_ways false refl (back (list_at (links_of slabs) x x l it.0 at it.1 refl ∙ it.2))))
 
 pub is_loose : (slabs : List Slab) (all : AllEnds) (k : ListName) (x : ℕ) → IsChained slabs all → slice_get (links_of slabs) x ≡ Some None
     → among x (list_in (lists_of (links_of slabs) all) k) ≡ false
 is_loose slabs all k x kept loose =
     false_from_ne_true (among x (list_in (lists_of (links_of slabs) all) k)) (λ is.
-      let it = member (links_of slabs) k None (ends_in all k).last (list_in (lists_of (links_of slabs) all) k) x (kept.chains k).linked is in
-      none-some it.0 (same_Some None (Some it.0) (sym loose ∙ it.1)))
+    let it = member (links_of slabs) k None (ends_in all k).last (list_in (lists_of (links_of slabs) all) k) x (kept.chains k).linked is in
+    none-some it.0 (same_Some None (Some it.0) (sym loose ∙ it.1)))
 
 -- the link of a slab that was read
 pub read_link : (slabs : List Slab) (x : ℕ) (slab : Slab) → x < length slabs → slab ≡ get_or slabs x slab → slice_get (links_of slabs) x ≡ Some slab.link

@@ -4,3 +4,8 @@ pub mod Ends
 pub mod Lending
 pub mod Links
 pub mod Lists
+pub mod Named
+pub mod Numbers
+pub mod Sources
+pub mod Table
+pub mod TableLending

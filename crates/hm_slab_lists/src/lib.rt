@@ -5,4 +5,10 @@
 mod chains;
 mod ends;
 mod links;
+mod numbers;
 mod slab;
+mod slab_lists;
+#[cfg(test)]
+mod tests;
+
+pub use slab_lists::{Place, SlabLists};

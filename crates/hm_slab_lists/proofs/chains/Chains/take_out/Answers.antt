@@ -28,39 +28,39 @@ pub invariant_of-self : goal.invariant_of-self
 invariant_of-self c =
     subst (λ (l : List Slab). IsChained l c.set.new.self) (sym (shown_is c.self.inside.slabs.items c.deref_mut.result.now c.unlink.new.slabs c.self.inside.slabs.len c.unlink.ensures.metas c.deref_mut.ensures.len))
     (chained c.unlink.new.slabs c.set.new.self (gone c.args.at (lists_of (links_of c.self.inside.slabs.items) c.self.inside.ends))
-      (out_done c.self.inside.slabs.items c.deref_mut.result.now c.unlink.new.slabs c.self.inside.ends c.set.new.self c.of-ends.result c.without.result c.args.at c.in-Some.link c.self.invariant
-        (below_items c.self.inside.slabs.items c.self.inside.ends (c.self.inside.slabs.cap - c.self.inside.slabs.len) c.args.at c.args.self.now c.self.view_is c.requires)
-        (read_link c.self.inside.slabs.items c.args.at c.index.result.now (below_items c.self.inside.slabs.items c.self.inside.ends (c.self.inside.slabs.cap - c.self.inside.slabs.len) c.args.at c.args.self.now c.self.view_is c.requires) c.index.ensures ∙ ap (λ (l : Option Link). Some l) c.in-Some.is)
-        c.deref_mut.ensures.value c.of-ends.ensures c.unlink.ensures.links c.without.ensures c.set.ensures))
+    (out_done c.self.inside.slabs.items c.deref_mut.result.now c.unlink.new.slabs c.self.inside.ends c.set.new.self c.of-ends.result c.without.result c.args.at c.in-Some.link c.self.invariant
+    (below_items c.self.inside.slabs.items c.self.inside.ends (c.self.inside.slabs.cap - c.self.inside.slabs.len) c.args.at c.args.self.now c.self.view_is c.requires)
+    (read_link c.self.inside.slabs.items c.args.at c.index.result.now (below_items c.self.inside.slabs.items c.self.inside.ends (c.self.inside.slabs.cap - c.self.inside.slabs.len) c.args.at c.args.self.now c.self.view_is c.requires) c.index.ensures ∙ ap (λ (l : Option Link). Some l) c.in-Some.is)
+    c.deref_mut.ensures.value c.of-ends.ensures c.unlink.ensures.links c.without.ensures c.set.ensures))
 
 pub returns-in-Some-clause-changed : goal.returns-in-Some-clause-changed
 returns-in-Some-clause-changed c =
     seen c.self.inside.slabs.items c.unlink.new.slabs _ c.self.inside.ends c.set.new.self (c.self.inside.slabs.cap - c.self.inside.slabs.len) c.args.self.now (gone c.args.at) (shown_is c.self.inside.slabs.items c.deref_mut.result.now c.unlink.new.slabs c.self.inside.slabs.len c.unlink.ensures.metas c.deref_mut.ensures.len)
     (c.unlink.ensures.metas ∙ ap metas_of c.deref_mut.ensures.value)
-      (out_done c.self.inside.slabs.items c.deref_mut.result.now c.unlink.new.slabs c.self.inside.ends c.set.new.self c.of-ends.result c.without.result c.args.at c.in-Some.link c.self.invariant
-        (below_items c.self.inside.slabs.items c.self.inside.ends (c.self.inside.slabs.cap - c.self.inside.slabs.len) c.args.at c.args.self.now c.self.view_is c.requires)
-        (read_link c.self.inside.slabs.items c.args.at c.index.result.now (below_items c.self.inside.slabs.items c.self.inside.ends (c.self.inside.slabs.cap - c.self.inside.slabs.len) c.args.at c.args.self.now c.self.view_is c.requires) c.index.ensures ∙ ap (λ (l : Option Link). Some l) c.in-Some.is)
-        c.deref_mut.ensures.value c.of-ends.ensures c.unlink.ensures.links c.without.ensures c.set.ensures) c.self.view_is
+    (out_done c.self.inside.slabs.items c.deref_mut.result.now c.unlink.new.slabs c.self.inside.ends c.set.new.self c.of-ends.result c.without.result c.args.at c.in-Some.link c.self.invariant
+    (below_items c.self.inside.slabs.items c.self.inside.ends (c.self.inside.slabs.cap - c.self.inside.slabs.len) c.args.at c.args.self.now c.self.view_is c.requires)
+    (read_link c.self.inside.slabs.items c.args.at c.index.result.now (below_items c.self.inside.slabs.items c.self.inside.ends (c.self.inside.slabs.cap - c.self.inside.slabs.len) c.args.at c.args.self.now c.self.view_is c.requires) c.index.ensures ∙ ap (λ (l : Option Link). Some l) c.in-Some.is)
+    c.deref_mut.ensures.value c.of-ends.ensures c.unlink.ensures.links c.without.ensures c.set.ensures) c.self.view_is
 
 pub returns-in-Some-clause-loose : goal.returns-in-Some-clause-loose
 returns-in-Some-clause-loose c =
     subst (λ (v : Chained). IsLoose c.args.at v.lists) (sym (seen c.self.inside.slabs.items c.unlink.new.slabs _ c.self.inside.ends c.set.new.self (c.self.inside.slabs.cap - c.self.inside.slabs.len) c.args.self.now (gone c.args.at) (shown_is c.self.inside.slabs.items c.deref_mut.result.now c.unlink.new.slabs c.self.inside.slabs.len c.unlink.ensures.metas c.deref_mut.ensures.len)
     (c.unlink.ensures.metas ∙ ap metas_of c.deref_mut.ensures.value)
-      (out_done c.self.inside.slabs.items c.deref_mut.result.now c.unlink.new.slabs c.self.inside.ends c.set.new.self c.of-ends.result c.without.result c.args.at c.in-Some.link c.self.invariant
-        (below_items c.self.inside.slabs.items c.self.inside.ends (c.self.inside.slabs.cap - c.self.inside.slabs.len) c.args.at c.args.self.now c.self.view_is c.requires)
-        (read_link c.self.inside.slabs.items c.args.at c.index.result.now (below_items c.self.inside.slabs.items c.self.inside.ends (c.self.inside.slabs.cap - c.self.inside.slabs.len) c.args.at c.args.self.now c.self.view_is c.requires) c.index.ensures ∙ ap (λ (l : Option Link). Some l) c.in-Some.is)
-        c.deref_mut.ensures.value c.of-ends.ensures c.unlink.ensures.links c.without.ensures c.set.ensures) c.self.view_is))
+    (out_done c.self.inside.slabs.items c.deref_mut.result.now c.unlink.new.slabs c.self.inside.ends c.set.new.self c.of-ends.result c.without.result c.args.at c.in-Some.link c.self.invariant
+    (below_items c.self.inside.slabs.items c.self.inside.ends (c.self.inside.slabs.cap - c.self.inside.slabs.len) c.args.at c.args.self.now c.self.view_is c.requires)
+    (read_link c.self.inside.slabs.items c.args.at c.index.result.now (below_items c.self.inside.slabs.items c.self.inside.ends (c.self.inside.slabs.cap - c.self.inside.slabs.len) c.args.at c.args.self.now c.self.view_is c.requires) c.index.ensures ∙ ap (λ (l : Option Link). Some l) c.in-Some.is)
+    c.deref_mut.ensures.value c.of-ends.ensures c.unlink.ensures.links c.without.ensures c.set.ensures) c.self.view_is))
     (gone_loose c.args.at c.args.self.now.lists)
 
 pub returns-in_default-clause-changed : goal.returns-in_default-clause-changed
 returns-in_default-clause-changed c =
     ap (λ (l : Lists). with_lists l c.args.self.now) (sym (gone_none c.args.at c.args.self.now.lists
     (λ k. sym (ap (λ (v : Chained). among c.args.at (list_in v.lists k)) c.self.view_is)
-      ∙ is_loose c.self.inside.slabs.items c.self.inside.ends k c.args.at c.self.invariant
-      (read_link c.self.inside.slabs.items c.args.at c.index.result.now (below_items c.self.inside.slabs.items c.self.inside.ends (c.self.inside.slabs.cap - c.self.inside.slabs.len) c.args.at c.args.self.now c.self.view_is c.requires) c.index.ensures ∙ ap (λ (l : Option Link). Some l) c.in_default.is))))
+    ∙ is_loose c.self.inside.slabs.items c.self.inside.ends k c.args.at c.self.invariant
+    (read_link c.self.inside.slabs.items c.args.at c.index.result.now (below_items c.self.inside.slabs.items c.self.inside.ends (c.self.inside.slabs.cap - c.self.inside.slabs.len) c.args.at c.args.self.now c.self.view_is c.requires) c.index.ensures ∙ ap (λ (l : Option Link). Some l) c.in_default.is))))
 
 pub returns-in_default-clause-loose : goal.returns-in_default-clause-loose
 returns-in_default-clause-loose c =
     λ k. sym (ap (λ (v : Chained). among c.args.at (list_in v.lists k)) c.self.view_is)
-      ∙ is_loose c.self.inside.slabs.items c.self.inside.ends k c.args.at c.self.invariant
-      (read_link c.self.inside.slabs.items c.args.at c.index.result.now (below_items c.self.inside.slabs.items c.self.inside.ends (c.self.inside.slabs.cap - c.self.inside.slabs.len) c.args.at c.args.self.now c.self.view_is c.requires) c.index.ensures ∙ ap (λ (l : Option Link). Some l) c.in_default.is)
+    ∙ is_loose c.self.inside.slabs.items c.self.inside.ends k c.args.at c.self.invariant
+    (read_link c.self.inside.slabs.items c.args.at c.index.result.now (below_items c.self.inside.slabs.items c.self.inside.ends (c.self.inside.slabs.cap - c.self.inside.slabs.len) c.args.at c.args.self.now c.self.view_is c.requires) c.index.ensures ∙ ap (λ (l : Option Link). Some l) c.in_default.is)

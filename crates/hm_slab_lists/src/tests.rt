@@ -1,0 +1,2 @@
+//! The calls once each.
+//! Expected answers follow from the calls before.
