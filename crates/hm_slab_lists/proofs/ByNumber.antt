@@ -1,18 +1,18 @@
 -- What is kept of each slab, by its number.
-use Rattle.std.proofs.Common.{◌≡◌, ◌≢◌, ℕ, zero, suc, ◌+◌, ◌<◌, ◌≤◌, inl, inr, Bool, true, false, cond, List, [], ◌∷◌, ◌++◌, length, refl, sym, ap, subst, ◌∙◌, arith}
-use Rattle.std.proofs.Math.ListN.{set, length-set}
+use Rattle.std.proofs.Common.{◌≡◌, ◌≢◌, ℕ, zero, suc, ◌+◌, ◌<◌, ◌≤◌, inl, inr, true, false, cond, List, [], ◌∷◌, ◌++◌, length, refl, sym, ap, ◌∙◌, arith}
+use Rattle.std.proofs.Math.ListN.{set}
 use Rattle.std.proofs.lemmas.Bool.{cases_lt, cond-true, cond-false}
 use Rattle.std.proofs.lemmas.Bool.Decides.{nat_tests}
 use Rattle.std.proofs.lemmas.Cmp.{nat_cmp_total}
 use Rattle.std.proofs.lemmas.Option.{slice_get_past}
-use Rattle.std.specs.Prelude.{Option, Some, None, slice_get}
+use Rattle.std.specs.Prelude.{Some, None, slice_get}
 use Rattle.std.specs.Ordering.{nat_cmp, eq_by_cmp}
 use Rattle.std.specs.FinMap as finite
 use Rattle.std.specs.FinMap.{find, get-from_entries, get-insert, same_map, nat_cmp-IsAntisymmetric}
 use Rattle.hm_slab_meta.specs.Uses.{SlabUse}
 use Rattle.hm_slab_lists.specs.Numbers.{nth_slab}
-use Rattle.hm_slab_lists.specs.Table.{Metas, entries, metas_by_number}
-use Rattle.hm_slab_lists.proofs.Numbering.{same_place}
+use Rattle.hm_slab_lists.specs.Table.{entries, metas_by_number}
+use Rattle.hm_slab_lists.proofs.Numbering.{same_index}
 use Rattle.hm_slab_lists.proofs.Places.{get-set_same}
 
 tie_is : (a b : ℕ) → eq_by_cmp nat_cmp a b ≡ true → a ≡ b
@@ -38,13 +38,13 @@ last_there [] x = refl
 last_there (y ∷ xs) x = last_there xs x
 
 module _ (g : ℕ) (some : 1 ≤ g) (few : g ≤ 8) where
-  find_place : (metas : List SlabUse) (i k q : ℕ) → i + k ≡ q → find nat_cmp (nth_slab g q) (entries g i metas) ≡ slice_get metas k
-  find_place [] i k q at = refl
-  find_place (m ∷ metas) i zero q at =
+  find_index : (metas : List SlabUse) (i k q : ℕ) → i + k ≡ q → find nat_cmp (nth_slab g q) (entries g i metas) ≡ slice_get metas k
+  find_index [] i k q at = refl
+  find_index (m ∷ metas) i zero q at =
       let e : q ≡ i = omega (arith, at) in here (nth_slab g q) (nth_slab g i) m (entries g (suc i) metas) (ap (nth_slab g) e)
-  find_place (m ∷ metas) i (suc k) q at =
-      there (nth_slab g q) (nth_slab g i) m (entries g (suc i) metas) (λ e. let s = same_place g q i some few e in omega (arith, at, s))
-      ∙ find_place metas (suc i) k q (omega (arith, at))
+  find_index (m ∷ metas) i (suc k) q at =
+      there (nth_slab g q) (nth_slab g i) m (entries g (suc i) metas) (λ e. let s = same_index g q i some few e in omega (arith, at, s))
+      ∙ find_index metas (suc i) k q (omega (arith, at))
 
   find_none : (metas : List SlabUse) (i n : ℕ) → ((k : ℕ) → i ≤ k → k < i + length metas → nth_slab g k ≢ n) → find nat_cmp n (entries g i metas) ≡ None
   find_none [] i n none = refl
@@ -74,12 +74,12 @@ module _ (g : ℕ) (some : 1 ≤ g) (few : g ≤ 8) where
   gets metas q = get-from_entries nat_cmp_total (entries g 0 metas) q
 
   -- what a place found for a number answers
-  pub get_by_place : (metas : List SlabUse) (p n : ℕ) → (p < length metas → nth_slab g p ≡ n)
+  pub get_by_index : (metas : List SlabUse) (p n : ℕ) → (p < length metas → nth_slab g p ≡ n)
       → ((q : ℕ) → q < length metas → nth_slab g q ≡ n → p ≡ q) → finite.get (metas_by_number g metas) n ≡ slice_get metas p
-  get_by_place metas p n found opened =
+  get_by_index metas p n found opened =
       gets metas n
       ∙ elim (cases_lt p (length metas)) as (λ _. find nat_cmp n (entries g 0 metas) ≡ slice_get metas p) [
-        | inl lt ↦ ap (λ q. find nat_cmp q (entries g 0 metas)) (sym (found lt)) ∙ find_place metas 0 p p (omega arith)
+        | inl lt ↦ ap (λ q. find nat_cmp q (entries g 0 metas)) (sym (found lt)) ∙ find_index metas 0 p p (omega arith)
         | inr ge ↦
             find_none metas 0 n (λ k le lt e. let s = opened k (omega (arith, lt)) e in omega (arith, s, ge, lt))
             ∙ sym (slice_get_past metas p ge)
@@ -99,11 +99,11 @@ module _ (g : ℕ) (some : 1 ≤ g) (few : g ≤ 8) where
   pub insert_last : (metas : List SlabUse) (m : SlabUse) → metas_by_number g (metas ++ m ∷ []) ≡ finite.insert (metas_by_number g metas) (nth_slab g (length metas)) m
   insert_last metas m =
       inserted metas (metas ++ m ∷ []) (nth_slab g (length metas)) m
-      (find_place (metas ++ m ∷ []) 0 (length metas) (length metas) (omega arith) ∙ last_there metas m)
+      (find_index (metas ++ m ∷ []) 0 (length metas) (length metas) (omega arith) ∙ last_there metas m)
       (λ q n. let e : 0 + length metas ≡ length metas = omega arith in find_more metas 0 q m (λ s. n (s ∙ ap (nth_slab g) e)))
 
   pub insert_set : (metas : List SlabUse) (p : ℕ) (w : SlabUse) → p < length metas → metas_by_number g (set metas p w) ≡ finite.insert (metas_by_number g metas) (nth_slab g p) w
   insert_set metas p w below =
       inserted metas (set metas p w) (nth_slab g p) w
-      (find_place (set metas p w) 0 p p (omega arith) ∙ get-set_same metas p w below)
+      (find_index (set metas p w) 0 p p (omega arith) ∙ get-set_same metas p w below)
       (λ q n. let e : 0 + p ≡ p = omega arith in find_set metas 0 p q w (λ s. n (s ∙ ap (nth_slab g) e)))

@@ -1,14 +1,14 @@
 -- A slab that is in no list is put before the first of a list, or behind the last; every other list stays.
-use Rattle.std.proofs.Common.{◌≡◌, ◌≢◌, ℕ, zero, suc, ◌+◌, ◌<◌, ◌≤◌, ◌⊎◌, inl, inr, Bool, true, false, List, [], ◌∷◌, ◌++◌, length, refl, sym, ap, subst, ◌∙◌, arith, length-append}
-use Rattle.std.proofs.Math.ListN.{set, length-set}
+use Rattle.std.proofs.Common.{◌≡◌, ◌≢◌, ℕ, ◌<◌, inl, inr, Bool, true, false, List, [], ◌∷◌, ◌++◌, length, refl, sym, ap, subst, ◌∙◌, arith, length-append}
+use Rattle.std.proofs.Math.ListN.{set}
 use Rattle.std.proofs.lemmas.Bool.{cases_eq, cases_lt, both_ways, eq-eqb, ne_eqb, cond-true, cond-false, false_from_ne_true}
 use Rattle.std.proofs.lemmas.Option.{none-some, same_Some, slice_get_within}
-use Rattle.std.specs.Prelude.{◌==◌, if◌then◌else◌, Option, Some, None, slice_get}
+use Rattle.std.specs.Prelude.{if◌then◌else◌, Option, Some, None, slice_get}
 use Rattle.hm_slab_lists.specs.declared.slab.Link.{Link}
 use Rattle.hm_slab_lists.specs.declared.slab.ListName.{ListName}
 use Rattle.hm_slab_lists.specs.declared.ends.Ends.{Ends}
 use Rattle.hm_slab_lists.specs.declared.ends.AllEnds.{AllEnds}
-use Rattle.hm_slab_lists.specs.Ends.{or_place, longer_front, longer_back, ends_in, with_ends}
+use Rattle.hm_slab_lists.specs.Ends.{or_else, longer_front, longer_back, ends_in, with_ends}
 use Rattle.hm_slab_lists.specs.Links.{Links, front, follows, precedes, edited, linked_first, linked_last, IsBelow, Linked, AreDistinct, IsChain, AreChains}
 use Rattle.hm_slab_lists.specs.Lists.{Lists, among, list_in, headed, ended}
 use Rattle.hm_slab_lists.proofs.Places.{get-set_same, get-set_other, get-append_left, get-append_last, cases_name, ends_same, ends_other, list_same, list_other}
@@ -114,11 +114,11 @@ last_some ls k prev last c r linked =
     ]
 
 before_rest : (ls : Links) (k : ListName) (last first : Option ℕ) (x : ℕ) (l : Link) (xs : List ℕ) → Linked ls k None last xs → first ≡ front xs → AreDistinct xs
-    → among x xs ≡ false → Linked (joined ls first (precedes (Some x)) x l) k (Some x) (or_place last x) xs
-before_rest ls k last first x l [] linked is distinct out = ap (λ o. or_place o x) linked
+    → among x xs ≡ false → Linked (joined ls first (precedes (Some x)) x l) k (Some x) (or_else last x) xs
+before_rest ls k last first x l [] linked is distinct out = ap (λ o. or_else o x) linked
 before_rest ls k last first x l (c ∷ r) linked is distinct out =
     let end = last_some ls k None last c r linked in
-    let same : last ≡ or_place last x = end.1 ∙ sym (ap (λ o. or_place o x) end.1) in
+    let same : last ≡ or_else last x = end.1 ∙ sym (ap (λ o. or_else o x) end.1) in
     let c_x : c ≢ x = λ e. both_ways (among x (c ∷ r)) out (among_head x c r e) in
     let rest_out : among x r ≡ false = sym (among_tail x c r c_x) ∙ out in (
       at_edited ls c first (precedes (Some x)) x c l (record { list = k; previous = None; next = front r }) c_x is refl linked.0,
@@ -194,9 +194,9 @@ last_member : (ls : Links) (k : ListName) (last : Option ℕ) (xs : List ℕ) �
 last_member ls k last [] linked = subst (λ o. IsMember o []) (sym linked) tt
 last_member ls k last (c ∷ r) linked = let end = last_some ls k None last c r linked in subst (λ o. IsMember o (c ∷ r)) (sym end.1) end.2
 
-front-last : (first : Option ℕ) (x : ℕ) (xs : List ℕ) → first ≡ front xs → or_place first x ≡ front (xs ++ x ∷ [])
-front-last first x [] is = ap (λ o. or_place o x) is
-front-last first x (c ∷ r) is = ap (λ o. or_place o x) is
+front-last : (first : Option ℕ) (x : ℕ) (xs : List ℕ) → first ≡ front xs → or_else first x ≡ front (xs ++ x ∷ [])
+front-last first x [] is = ap (λ o. or_else o x) is
+front-last first x (c ∷ r) is = ap (λ o. or_else o x) is
 
 chain_ended : (ls : Links) (k : ListName) (ends : Ends) (xs : List ℕ) (x : ℕ) → IsChain ls k ends xs → x < length ls → slice_get ls x ≡ Some None
     → IsChain (linked_last ls k ends x) k (longer_back x ends) (xs ++ x ∷ [])

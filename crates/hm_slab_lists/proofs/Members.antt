@@ -1,8 +1,8 @@
 -- Whether a slab is in a list, and the list without it.
-use Rattle.std.proofs.Common.{◌≡◌, ◌≢◌, ℕ, zero, suc, ◌+◌, ◌<◌, ◌≤◌, ◌⊎◌, inl, inr, Bool, true, false, List, [], ◌∷◌, ◌++◌, length, refl, sym, ap, subst, ◌∙◌, arith}
-use Rattle.std.proofs.lemmas.Bool.{cases_eq, cases_Bool, both_ways, eq-eqb, ne_eqb, eqb-true, cond-true, cond-false, or_left, or_cases, not_from_true, not_from_false}
-use Rattle.std.specs.Prelude.{◌==◌, ◌||◌, not, Option, Some, None}
-use Rattle.hm_slab_lists.specs.Links.{front, AreDistinct}
+use Rattle.std.proofs.Common.{◌≡◌, ◌≢◌, ℕ, suc, ◌+◌, ◌⊎◌, inl, inr, true, false, List, [], ◌∷◌, ◌++◌, length, refl, sym, ap, subst, ◌∙◌, arith}
+use Rattle.std.proofs.lemmas.Bool.{cases_eq, both_ways, eq-eqb, ne_eqb, eqb-true, cond-true, cond-false, or_left, or_cases, not_from_true, not_from_false}
+use Rattle.std.specs.Prelude.{◌==◌, ◌||◌, not}
+use Rattle.hm_slab_lists.specs.Links.{AreDistinct}
 use Rattle.hm_slab_lists.specs.Lists.{among, without}
 
 pub among_head : (n m : ℕ) (xs : List ℕ) → m ≡ n → among n (m ∷ xs) ≡ true

@@ -1,13 +1,12 @@
 -- The links of lists: whose member has which link, and neighbours point at one another.
-use Rattle.std.proofs.Common.{◌≡◌, ◌≢◌, ℕ, zero, suc, ◌⊎◌, inl, inr, Bool, true, false, List, [], ◌∷◌, length, refl, sym, ap, ◌∙◌, arith}
+use Rattle.std.proofs.Common.{◌≡◌, ℕ, ◌⊎◌, inl, inr, true, false, List, [], ◌∷◌, length, refl, sym, ap, ◌∙◌}
 use Rattle.std.proofs.lemmas.Bool.{cases_eq, both_ways}
 use Rattle.std.proofs.lemmas.Option.{none-some, same_Some}
 use Rattle.std.specs.Prelude.{Option, Some, None, slice_get}
 use Rattle.hm_slab_lists.specs.declared.slab.Link.{Link}
 use Rattle.hm_slab_lists.specs.declared.slab.ListName.{ListName}
 use Rattle.hm_slab_lists.specs.declared.ends.AllEnds.{AllEnds}
-use Rattle.hm_slab_lists.specs.Ends.{ends_in}
-use Rattle.hm_slab_lists.specs.Links.{Links, front, next_of, walk, lists_of, Linked, AreDistinct, IsChain, AreChains}
+use Rattle.hm_slab_lists.specs.Links.{Links, front, next_of, walk, Linked, AreChains}
 use Rattle.hm_slab_lists.specs.Lists.{Lists, among, list_in}
 use Rattle.hm_slab_lists.proofs.Members.{among_head, among_tail, among_cases}
 

@@ -1,20 +1,20 @@
 -- Numbers of slabs: each slab has one, and lists of numbers follow lists of places.
-use Rattle.std.proofs.Common.{◌≡◌, ◌≢◌, ℕ, zero, suc, ◌+◌, ◌-◌, ◌/◌, ◌%◌, ◌<◌, ◌≤◌, ◌⊎◌, inl, inr, Bool, true, false, List, [], ◌∷◌, ◌++◌, length, refl, sym, ap, subst, ◌∙◌, arith}
+use Rattle.std.proofs.Common.{◌≡◌, ◌≢◌, ℕ, zero, suc, ◌+◌, ◌%◌, ◌<◌, ◌≤◌, inl, inr, true, false, List, [], ◌∷◌, refl, sym, ap, ◌∙◌, arith}
 use Rattle.std.proofs.lemmas.Bool.{cases_eq, cases_order, cases_Bool, both_ways, eq-eqb, ne_eqb, cond-true, cond-false}
 use Rattle.std.proofs.lemmas.List.{map-append}
-use Rattle.std.specs.Prelude.{◌==◌, ◌||◌, if◌then◌else◌, map}
+use Rattle.std.specs.Prelude.{◌==◌, map}
 use Rattle.hm_slab_lists.specs.declared.slab.ListName.{ListName}
 use Rattle.hm_slab_lists.specs.declared.slab.ListName.TheVariants.{Partial, Empty, Full, Retired}
 use Rattle.hm_slab_lists.specs.Lists.{Lists, among, without, list_in, gone, headed, ended, placed}
-use Rattle.hm_slab_lists.specs.Numbers.{nth_slab, is_guard, after}
+use Rattle.hm_slab_lists.specs.Numbers.{nth_slab, after}
 use Rattle.hm_slab_lists.specs.Table.{numbered}
 use Rattle.hm_slab_lists.proofs.Members.{among_head, among_tail, among_cases, without_skip, without_keep}
 
 nth_less : (g i j : ℕ) → 1 ≤ g → g ≤ 8 → i < j → nth_slab g i < nth_slab g j
 nth_less g i j some few less = grind arith
 
-pub same_place : (g i j : ℕ) → 1 ≤ g → g ≤ 8 → nth_slab g i ≡ nth_slab g j → i ≡ j
-same_place g i j some few same =
+pub same_index : (g i j : ℕ) → 1 ≤ g → g ≤ 8 → nth_slab g i ≡ nth_slab g j → i ≡ j
+same_index g i j some few same =
     elim (cases_order i j) as (λ _. i ≡ j) [
       | inl e ↦ e
       | inr w ↦ elim w as (λ _. i ≡ j) [
@@ -63,7 +63,7 @@ module _ (g : ℕ) (some : 1 ≤ g) (few : g ≤ 8) where
       elim (cases_eq x i) as (λ _. among (nth_slab g i) (map (nth_slab g) (x ∷ xs)) ≡ among i (x ∷ xs)) [
         | inl e ↦ among_head (nth_slab g i) (nth_slab g x) (map (nth_slab g) xs) (ap (nth_slab g) e) ∙ sym (among_head i x xs e)
         | inr n ↦
-            among_tail (nth_slab g i) (nth_slab g x) (map (nth_slab g) xs) (λ e. n (same_place g x i some few e))
+            among_tail (nth_slab g i) (nth_slab g x) (map (nth_slab g) xs) (λ e. n (same_index g x i some few e))
             ∙ among-numbers i xs ∙ sym (among_tail i x xs n)
       ]
 
@@ -76,7 +76,7 @@ module _ (g : ℕ) (some : 1 ≤ g) (few : g ≤ 8) where
             ∙ sym (without_skip (nth_slab g i) (nth_slab g x) (map (nth_slab g) xs) (ap (nth_slab g) e))
         | inr n ↦
             ap (map (nth_slab g)) (without_keep i x xs n) ∙ ap (λ (l : List ℕ). nth_slab g x ∷ l) (without-numbers i xs)
-            ∙ sym (without_keep (nth_slab g i) (nth_slab g x) (map (nth_slab g) xs) (λ e. n (same_place g x i some few e)))
+            ∙ sym (without_keep (nth_slab g i) (nth_slab g x) (map (nth_slab g) xs) (λ e. n (same_index g x i some few e)))
       ]
 
   pub numbered-gone : (i : ℕ) (lists : Lists) → numbered g (gone i lists) ≡ gone (nth_slab g i) (numbered g lists)

@@ -1,7 +1,7 @@
 -- What stands at a place of a changed list, and the ends and lists of each name.
-use Rattle.std.proofs.Common.{◌≡◌, ◌≢◌, ℕ, zero, suc, ◌<◌, ◌≤◌, ◌⊎◌, inl, inr, List, [], ◌∷◌, ◌++◌, length, refl, sym, ap, ◌∙◌, arith}
+use Rattle.std.proofs.Common.{◌≡◌, ◌≢◌, ℕ, zero, suc, ◌<◌, ◌≤◌, ◌⊎◌, inl, inr, List, [], ◌∷◌, ◌++◌, length, refl, ap, arith}
 use Rattle.std.proofs.Math.ListN.{set}
-use Rattle.std.specs.Prelude.{Option, Some, None, slice_get}
+use Rattle.std.specs.Prelude.{Some, None, slice_get}
 use Rattle.hm_slab_lists.specs.declared.ends.Ends.{Ends}
 use Rattle.hm_slab_lists.specs.declared.ends.AllEnds.{AllEnds}
 use Rattle.hm_slab_lists.specs.declared.slab.ListName.{ListName}

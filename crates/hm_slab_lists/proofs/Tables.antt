@@ -1,10 +1,10 @@
 -- The table after each call: what is kept, and what contracts see.
-use Rattle.std.proofs.Common.{◌≡◌, ◌≢◌, ℕ, zero, suc, ◌+◌, ◌-◌, ◌^◌, ◌<◌, ◌≤◌, ◌⊎◌, inl, inr, Bool, true, false, List, [], ◌∷◌, ◌++◌, length, refl, sym, ap, subst, ◌∙◌, arith, length-append}
+use Rattle.std.proofs.Common.{◌≡◌, ◌≢◌, ℕ, zero, suc, ◌-◌, ◌^◌, ◌<◌, ◌≤◌, inl, inr, true, false, List, [], ◌∷◌, ◌++◌, length, refl, sym, ap, subst, ◌∙◌, arith, length-append}
 use Rattle.std.proofs.Math.ListN.{set, length-set}
 use Rattle.std.proofs.lemmas.Bool.{cases_eq, cases_Bool, both_ways, or_cases, ltb-true, cond-true, cond-false}
-use Rattle.std.proofs.lemmas.Option.{none-some, same_Some}
-use Rattle.std.specs.Prelude.{◌||◌, nat_lt, if◌then◌else◌, Option, Some, None, slice_get, slice_index_or, replicate, is_some, IsTrue, IsSome}
-use Rattle.std.specs.Option.{ghost_name_of}
+use Rattle.std.proofs.lemmas.Option.{none-some, same_Some, slice_get_within}
+use Rattle.std.specs.Prelude.{◌||◌, nat_lt, Option, Some, None, slice_get, slice_index_or, replicate, IsSome}
+use Rattle.std.specs.Option.{ghost_name_of, option_copied_mut}
 use Rattle.std.specs.Borrow.{MutBor}
 use borrow.Follows.Closed.{read_of}
 use Rattle.std.specs.FinMap as finite
@@ -25,7 +25,7 @@ use Rattle.hm_slab_lists.proofs.Places.{get-set_same, get-set_other, cases_name,
 use Rattle.hm_slab_lists.proofs.Members.{among_head, among_tail, among-without_other, among-last_other}
 use Rattle.hm_slab_lists.proofs.Unlinking.{gone_in}
 use Rattle.hm_slab_lists.proofs.Whole.{gone_loose}
-use Rattle.hm_slab_lists.proofs.Numbering.{same_place, nth-after, list_in-numbered, numbered-gone, numbered-headed, numbered-ended, numbered-placed, numbered_member}
+use Rattle.hm_slab_lists.proofs.Numbering.{same_index, nth-after, list_in-numbered, numbered-gone, numbered-headed, numbered-ended, numbered-placed, numbered_member}
 use Rattle.hm_slab_lists.proofs.ByNumber.{insert_last, insert_set}
 
 -- ---- an edit of the lists at one place
@@ -80,18 +80,18 @@ table_moved chains new parking limit g slots p kept longer few stays below free 
   slots_some = kept.slots_some;
   slots_most = kept.slots_most;
   few = few;
-  places = λ k i is.
+  indices = λ k i is.
       elim (cases_eq i p) as (λ _. i < length new.metas) [
         | inl e ↦ omega (arith, e, below)
-        | inr n ↦ let old = kept.places k i (sym (stays k i n) ∙ is) in omega (arith, old, longer)
+        | inr n ↦ let old = kept.indices k i (sym (stays k i n) ∙ is) in omega (arith, old, longer)
       ];
   parked = λ i n at.
       let old = kept.parked i n at in
-      let away : old.place ≢ p = λ e. free i (at ∙ ap (λ (m : ℕ). Some (Some m)) (sym old.number ∙ ap (nth_slab g) e)) in record {
-        place = old.place;
+      let away : old.index ≢ p = λ e. free i (at ∙ ap (λ (m : ℕ). Some (Some m)) (sym old.number ∙ ap (nth_slab g) e)) in record {
+        index = old.index;
         below = omega (arith, old.below, longer);
         number = old.number;
-        loose = λ k. stays k old.place away ∙ old.loose k;
+        loose = λ k. stays k old.index away ∙ old.loose k;
       };
   apart = kept.apart;
 }
@@ -101,7 +101,7 @@ pub not_parked : (chains : Chained) (parking : List (Option ℕ)) (limit g slots
     → among p (list_in chains.lists k) ≡ true → IsUnparked parking (nth_slab g p)
 not_parked chains parking limit g slots p k kept is i at =
     let old = kept.parked i (nth_slab g p) at in
-    let same : old.place ≡ p = same_place g old.place p kept.guards_some kept.guards_most old.number in
+    let same : old.index ≡ p = same_index g old.index p kept.guards_some kept.guards_most old.number in
     both_ways (among p (list_in chains.lists k)) (ap (λ q. among q (list_in chains.lists k)) (sym same) ∙ old.loose k) is
 
 -- a slab that was never opened is not parked
@@ -109,7 +109,7 @@ pub new_unparked : (chains : Chained) (parking : List (Option ℕ)) (limit g slo
     → IsUnparked parking (nth_slab g p)
 new_unparked chains parking limit g slots p kept past i at =
     let old = kept.parked i (nth_slab g p) at in
-    let same : old.place ≡ p = same_place g old.place p kept.guards_some kept.guards_most old.number in
+    let same : old.index ≡ p = same_index g old.index p kept.guards_some kept.guards_most old.number in
     omega (arith, same, past, old.below)
 
 -- ---- the place of a slab that contracts speak of
@@ -125,7 +125,7 @@ pub stands : (chains : Chained) (parking : List (Option ℕ)) (limit g slots n p
 stands chains parking limit g slots n p now k kept view opened is =
     let in_numbers : among n (list_in (numbered g chains.lists) k) ≡ true = ap (λ (t : Table). among n (list_in t.lists k)) view ∙ is in
     let it = numbered_member g n (list_in chains.lists k) (ap (among n) (sym (list_in-numbered g chains.lists k)) ∙ in_numbers) in
-    let below : it.0 < length chains.metas = kept.places k it.0 it.2 in
+    let below : it.0 < length chains.metas = kept.indices k it.0 it.2 in
     let same : p ≡ it.0 = opened it.0 below it.1 in record {
       list = k;
       is = ap (λ q. among q (list_in chains.lists k)) same ∙ it.2;
@@ -164,12 +164,12 @@ table_parked chains parking limit g slots p park n kept within at =
       slots_some = kept.slots_some;
       slots_most = kept.slots_most;
       few = kept.few;
-      places = moved.places;
+      indices = moved.indices;
       parked = λ i m is.
           elim (cases_eq i park) as (λ _. IsParked (with_lists (gone p chains.lists) chains) g m) [
             | inl e ↦
                 let same : n ≡ m = named i m e is in record {
-                  place = p;
+                  index = p;
                   below = at.below;
                   number = at.number ∙ same;
                   loose = gone_loose p chains.lists;
@@ -229,7 +229,7 @@ table_new chains parking limit g slots count most some few slots_some slots_most
       slots_some = slots_some;
       slots_most = slots_most;
       few = omega arith;
-      places = λ k i there. absurd (none_listed k i there);
+      indices = λ k i there. absurd (none_listed k i there);
       parked = λ i n at. absurd (empty_at count i n at);
       apart = λ i j n at_i at_j. absurd (empty_at count i n at_i);
     }))
@@ -244,12 +244,12 @@ table_same chains new parking limit g slots kept long same = record {
   slots_some = kept.slots_some;
   slots_most = kept.slots_most;
   few = omega (arith, kept.few, long);
-  places = λ k i there. let old = kept.places k i (ap (λ (l : Lists). among i (list_in l k)) (sym same) ∙ there) in omega (arith, old, long);
+  indices = λ k i there. let old = kept.indices k i (ap (λ (l : Lists). among i (list_in l k)) (sym same) ∙ there) in omega (arith, old, long);
   parked = λ i n at. let old = kept.parked i n at in record {
-    place = old.place;
+    index = old.index;
     below = omega (arith, old.below, long);
     number = old.number;
-    loose = λ k. ap (λ (l : Lists). among old.place (list_in l k)) same ∙ old.loose k;
+    loose = λ k. ap (λ (l : Lists). among old.index (list_in l k)) same ∙ old.loose k;
   };
   apart = kept.apart;
 }
@@ -257,7 +257,7 @@ table_same chains new parking limit g slots kept long same = record {
 pub first_small : (chains : Chained) (parking : List (Option ℕ)) (limit g slots p : ℕ) (k : ListName) → IsTable chains parking limit g slots
     → Some p ≡ front (list_in chains.lists k) → p < 2 ^ 63
 first_small chains parking limit g slots p k kept is =
-    let below = kept.places k p (front_member p (list_in chains.lists k) (sym is)) in
+    let below = kept.indices k p (front_member p (list_in chains.lists k) (sym is)) in
     omega (arith, below, kept.few, kept.limit_most)
 
 -- ---- a fresh slab
@@ -381,7 +381,7 @@ pub shown_retired : (chains : Chained) (parking : List (Option ℕ)) (limit g sl
 shown_retired chains parking limit g slots n p park o lists now some few number view was is =
     ap (λ (l : Lists). record (shown chains (set parking park (Some n)) limit g slots) { lists = l })
     (is ∙ ap (λ (q : Option ℕ). unparked q (numbered g (gone p chains.lists))) (sym was)
-      ∙ ap (unparked (slice_index_or parking park None)) (numbered-gone g some few p chains.lists ∙ ap (λ (m : ℕ). gone m (numbered g chains.lists)) number))
+    ∙ ap (unparked (slice_index_or parking park None)) (numbered-gone g some few p chains.lists ∙ ap (λ (m : ℕ). gone m (numbered g chains.lists)) number))
     ∙ ap (retired n park) view
 
 -- what stood at the parking place, once another slab stands there
@@ -394,11 +394,11 @@ pub waits : (chains : Chained) (parking : List (Option ℕ)) (limit g slots park
     → slice_get parking park ≡ Some (Some m) → ((i : ℕ) → i < length chains.metas → nth_slab g i ≡ m → q ≡ i) → Waits chains g p m q
 waits chains parking limit g slots park n p m q kept at was opened =
     let old = kept.parked park m was in
-    let same : q ≡ old.place = opened old.place old.below old.number in
-    let away : old.place ≢ p = λ e. both_ways (among old.place (list_in chains.lists at.list)) (old.loose at.list) (ap (λ (i : ℕ). among i (list_in chains.lists at.list)) e ∙ at.is) in record {
+    let same : q ≡ old.index = opened old.index old.below old.number in
+    let away : old.index ≢ p = λ e. both_ways (among old.index (list_in chains.lists at.list)) (old.loose at.list) (ap (λ (i : ℕ). among i (list_in chains.lists at.list)) e ∙ at.is) in record {
       below = omega (arith, same, old.below);
       number = ap (nth_slab g) same ∙ old.number;
-      loose = λ k. ap (λ (i : ℕ). among i (list_in (gone p chains.lists) k)) same ∙ gone_stays p chains.lists k old.place away ∙ old.loose k;
+      loose = λ k. ap (λ (i : ℕ). among i (list_in (gone p chains.lists) k)) same ∙ gone_stays p chains.lists k old.index away ∙ old.loose k;
     }
 
 pub table_retired : (chains : Chained) (parking : List (Option ℕ)) (limit g slots park n p m q : ℕ) → IsTable chains parking limit g slots → park < length parking
@@ -427,15 +427,10 @@ none_there [] p below is = omega arith
 none_there (m ∷ metas) zero below is = none-some m is
 none_there (m ∷ metas) (suc p) below is = none_there metas p (omega arith) is
 
-pub some_there : (metas : List SlabUse) (p : ℕ) → p < length metas → IsTrue (is_some (slice_get metas p))
-some_there [] p below = absurd (omega arith)
-some_there (m ∷ metas) zero below = refl
-some_there (m ∷ metas) (suc p) below = some_there metas p (omega arith)
-
-pub there_below : (metas : List SlabUse) (p : ℕ) → IsTrue (is_some (slice_get metas p)) → p < length metas
-there_below [] p is = absurd (both_ways false refl is)
-there_below (m ∷ metas) zero is = omega arith
-there_below (m ∷ metas) (suc p) is = let rest = there_below metas p is in omega (arith, rest)
+-- what is lent is there
+pub lent_below : (o : Option (MutBor SlabUse)) (metas : List SlabUse) (p : ℕ) → option_copied_mut o ≡ slice_get metas p → IsSome o → p < length metas
+lent_below None metas p value is = absurd (both_ways false refl is)
+lent_below (Some r) metas p value is = slice_get_within metas p r.now (sym value)
 
 pub shown_lent : (chains : Chained) (parking : List (Option ℕ)) (limit g slots n p : ℕ) (w : SlabUse) (now : Table) → 1 ≤ g → g ≤ 8 → p < length chains.metas → nth_slab g p ≡ n
     → shown chains parking limit g slots ≡ now → shown (with_meta_at chains p w) parking limit g slots ≡ with_meta_of now n w

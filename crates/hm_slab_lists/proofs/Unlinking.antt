@@ -1,7 +1,7 @@
 -- A slab is taken out of its list: its neighbours follow one another, and every list is as it was without it.
-use Rattle.std.proofs.Common.{◌≡◌, ◌≢◌, ℕ, zero, suc, ◌+◌, ◌-◌, ◌<◌, ◌≤◌, ◌⊎◌, inl, inr, Bool, true, false, List, [], ◌∷◌, length, get_or, refl, sym, ap, subst, ◌∙◌, arith}
+use Rattle.std.proofs.Common.{◌≡◌, ◌≢◌, ℕ, ◌<◌, ◌≤◌, inl, inr, Bool, true, false, List, [], ◌∷◌, length, get_or, refl, sym, ap, subst, ◌∙◌, arith}
 use Rattle.std.proofs.Math.ListN.{set, length-set}
-use Rattle.std.proofs.lemmas.Bool.{cases_eq, cases_lt, cases_Bool, both_ways, eq-eqb, ne_eqb, eqb-true, cond-true, cond-false, false_from_ne_true}
+use Rattle.std.proofs.lemmas.Bool.{cases_eq, cases_lt, both_ways, eq-eqb, ne_eqb, eqb-true, cond-true, cond-false, false_from_ne_true}
 use Rattle.std.proofs.lemmas.Option.{none-some, same_Some, slice_get-get_or, slice_get_past}
 use Rattle.std.specs.Prelude.{◌==◌, if◌then◌else◌, Option, Some, None, option_map, slice_get}
 use Rattle.hm_slab_lists.specs.declared.slab.Link.{Link}
@@ -13,7 +13,7 @@ use Rattle.hm_slab_lists.specs.Ends.{skipped, shorter, ends_in, with_ends}
 use Rattle.hm_slab_lists.specs.Links.{Links, front, follows, precedes, edited, with_next, with_previous, unlinked, Linked, AreDistinct, IsChain, AreChains}
 use Rattle.hm_slab_lists.specs.Lists.{Lists, among, without, list_in, gone}
 use Rattle.hm_slab_lists.proofs.Places.{get-set_same, get-set_other, cases_name, ends_same, ends_other}
-use Rattle.hm_slab_lists.proofs.Members.{among_head, among_tail, without_skip, without_keep, without_none, among-without_other, length-without, distinct-without}
+use Rattle.hm_slab_lists.proofs.Members.{without_skip, without_keep, without_none, among-without_other, length-without, distinct-without}
 use Rattle.hm_slab_lists.proofs.Neighbours.{At, next_at, previous_at, list_at, member, last_is, next_previous, previous_next}
 
 -- ---- a skipped place

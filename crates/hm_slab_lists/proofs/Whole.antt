@@ -1,11 +1,11 @@
 -- Slabs with their links and ends, after an edit: what is kept, and what contracts see.
-use Rattle.std.proofs.Common.{◌≡◌, ◌≢◌, ℕ, zero, suc, ◌+◌, ◌-◌, ◌<◌, ◌≤◌, inl, inr, Bool, true, false, List, [], ◌∷◌, ◌++◌, length, get_or, take, drop, refl, sym, ap, subst, ◌∙◌, arith, length-append}
+use Rattle.std.proofs.Common.{◌≡◌, ℕ, zero, suc, ◌+◌, ◌-◌, ◌<◌, ◌≤◌, inl, inr, Bool, true, false, List, [], ◌∷◌, ◌++◌, length, get_or, take, drop, refl, sym, ap, subst, ◌∙◌, arith}
 use Rattle.std.proofs.Math.ListN.{set, length-set}
-use Rattle.std.proofs.lemmas.Bool.{cases_Bool, both_ways, false_from_ne_true}
+use Rattle.std.proofs.lemmas.Bool.{both_ways, false_from_ne_true}
 use Rattle.std.proofs.lemmas.List.{length-map, map-append, map-set}
 use Rattle.std.proofs.Math.Seq.{take-append_seam, map-set_same}
 use Rattle.std.proofs.lemmas.Option.{none-some, same_Some, slice_get_within, slice_get-get_or}
-use Rattle.std.specs.Prelude.{Option, Some, None, map, slice_get, option_map, if◌then◌else◌}
+use Rattle.std.specs.Prelude.{Option, Some, None, slice_get, option_map, if◌then◌else◌}
 use Rattle.hm_slab_meta.specs.Uses.{SlabUse}
 use Rattle.hm_slab_lists.specs.declared.slab.Link.{Link}
 use Rattle.hm_slab_lists.specs.declared.slab.Slab.{Slab}
@@ -14,13 +14,13 @@ use Rattle.hm_slab_lists.specs.declared.slab.ListName.TheVariants.{Partial, Empt
 use Rattle.hm_slab_lists.specs.declared.ends.Ends.{Ends}
 use Rattle.hm_slab_lists.specs.declared.ends.AllEnds.{AllEnds}
 use Rattle.hm_slab_lists.specs.Ends.{shorter, longer_front, longer_back, ends_in, with_ends}
-use Rattle.hm_slab_lists.specs.Links.{Links, links_of, metas_of, front, follows, precedes, edited, with_next, with_previous, unlinked, linked_first, linked_last, walk, lists_of, IsBelow, Linked, IsChain, AreChains}
+use Rattle.hm_slab_lists.specs.Links.{Links, links_of, metas_of, front, follows, precedes, edited, with_next, with_previous, unlinked, linked_first, linked_last, walk, lists_of, IsBelow, Linked, AreChains}
 use Rattle.hm_slab_lists.specs.Lists.{Lists, among, list_in, gone, headed, ended, IsLoose}
 use Rattle.hm_slab_lists.specs.Chained.{Chained, with_lists, with_slab, total, linked_count, IsChained}
 use Rattle.hm_slab_lists.specs.ChainsLending.{with_meta_at}
 use Rattle.hm_slab_lists.specs.Lending.{with_meta}
 use Rattle.hm_slab_lists.proofs.Neighbours.{At, next_at, previous_at, list_at, member, walk_is}
-use Rattle.hm_slab_lists.proofs.Members.{among_head, among_cases, among-without_same, without_none}
+use Rattle.hm_slab_lists.proofs.Members.{among_cases, among-without_same, without_none}
 use Rattle.hm_slab_lists.proofs.Unlinking.{Slot, each, stands, get-edited, chains_without}
 use Rattle.hm_slab_lists.proofs.Joining.{chains_headed, chains_ended, chains_more, first_below, last_below}
 
@@ -254,6 +254,11 @@ read_link [] x slab below is = absurd (omega arith)
 read_link (s ∷ slabs) zero slab below is = ap (λ (t : Slab). Some t.link) (sym is)
 read_link (s ∷ slabs) (suc x) slab below is = read_link slabs x slab (omega arith) is
 
+pub read_meta : (slabs : List Slab) (x : ℕ) (slab : Slab) → x < length slabs → slab ≡ get_or slabs x slab → slice_get (metas_of slabs) x ≡ Some slab.meta
+read_meta [] x slab below is = absurd (omega arith)
+read_meta (s ∷ slabs) zero slab below is = ap (λ (t : Slab). Some t.meta) (sym is)
+read_meta (s ∷ slabs) (suc x) slab below is = read_meta slabs x slab (omega arith) is
+
 -- a slab that is in no list has no link
 pub loose_link : (slabs : List Slab) (all : AllEnds) (x : ℕ) → IsChained slabs all → x < length slabs → IsLoose x (lists_of (links_of slabs) all)
     → slice_get (links_of slabs) x ≡ Some None
@@ -273,12 +278,6 @@ items_then items slabs len long =
 pub below_items : (items : List Slab) (all : AllEnds) (room x : ℕ) (now : Chained)
     → ◌≡◌ {A = Chained} (record { metas = metas_of items; lists = lists_of (links_of items) all; room = room }) now → x < length now.metas → x < length items
 below_items items all room x now view below =
-    let long : length now.metas ≡ length items = sym (ap (λ (v : Chained). length v.metas) view) ∙ length-map items (λ (s : Slab). s.meta) in
-    omega (arith, below, long)
-
-pub below_metas : (items : List Slab) (all : AllEnds) (room x : ℕ) (now : Chained)
-    → ◌≡◌ {A = Chained} (record { metas = metas_of items; lists = lists_of (links_of items) all; room = room }) now → x < length items → x < length now.metas
-below_metas items all room x now view below =
     let long : length now.metas ≡ length items = sym (ap (λ (v : Chained). length v.metas) view) ∙ length-map items (λ (s : Slab). s.meta) in
     omega (arith, below, long)
 

@@ -1,4 +1,4 @@
--- Slabs by place, as the layer of links shows them.
+-- Slabs by index, as the layer of links shows them.
 use Rattle.std.specs.Prelude.{◌≡◌, ℕ, suc, ◌+◌, ◌-◌, ◌≤◌, List, [], ◌∷◌, ◌++◌, length, Some, None}
 use Rattle.hm_slab_meta.specs.Uses.{SlabUse}
 use Rattle.hm_slab_lists.specs.declared.ends.AllEnds.{AllEnds}
@@ -6,7 +6,7 @@ use Rattle.hm_slab_lists.specs.declared.slab.Slab.{Slab}
 use Rattle.hm_slab_lists.specs.Links.{Links, links_of, lists_of, AreChains}
 use Rattle.hm_slab_lists.specs.Lists.{Lists, no_lists}
 
--- what is kept of each slab; the lists of their places; and room for further slabs
+-- what is kept of each slab; the lists of their indices; and room for further slabs
 pub record Chained : Type 0 where
   pub metas : List SlabUse
   pub lists : Lists

@@ -6,14 +6,14 @@ use Rattle.hm_slab_lists.specs.declared.slab.Link.{Link}
 use Rattle.hm_slab_lists.specs.declared.slab.ListName.{ListName}
 use Rattle.hm_slab_lists.specs.declared.slab.ListName.TheVariants.{Partial, Empty, Full, Retired}
 
--- a place, or another one where it is `gone`
+-- a slab, or another one where it is `gone`
 abbrev pub skipped : ℕ → Option ℕ → Option ℕ → Option ℕ
 skipped gone instead None = None
-skipped gone instead (Some place) = if place == gone then instead else Some place
+skipped gone instead (Some at) = if at == gone then instead else Some at
 
-abbrev pub or_place : Option ℕ → ℕ → Option ℕ
-or_place None at = Some at
-or_place (Some place) at = Some place
+abbrev pub or_else : Option ℕ → ℕ → Option ℕ
+or_else None at = Some at
+or_else (Some first) at = Some first
 
 abbrev pub no_ends : Ends
 no_ends = record { first = None; last = None; count = 0 }
@@ -27,10 +27,10 @@ shorter at link ends = record {
 }
 
 abbrev pub longer_front : ℕ → Ends → Ends
-longer_front at ends = record { first = Some at; last = or_place ends.last at; count = ends.count + 1 }
+longer_front at ends = record { first = Some at; last = or_else ends.last at; count = ends.count + 1 }
 
 abbrev pub longer_back : ℕ → Ends → Ends
-longer_back at ends = record { first = or_place ends.first at; last = Some at; count = ends.count + 1 }
+longer_back at ends = record { first = or_else ends.first at; last = Some at; count = ends.count + 1 }
 
 -- the ends of one list
 abbrev pub ends_in : AllEnds → ListName → Ends

@@ -1,5 +1,5 @@
 -- The links of slabs, and the lists that they make.
-use Rattle.std.specs.Prelude.{◌≡◌, ℕ, zero, suc, ◌<◌, Bool, true, false, List, [], ◌∷◌, length, map, Option, Some, None, option_map, slice_get, slice_index_or, slice_set}
+use Rattle.std.specs.Prelude.{◌≡◌, ℕ, zero, suc, ◌<◌, true, false, List, [], ◌∷◌, length, map, Option, Some, None, option_map, slice_get, slice_index_or, slice_set}
 use Rattle.hm_slab_meta.specs.Uses.{SlabUse}
 use Rattle.hm_slab_lists.specs.declared.ends.Ends.{Ends}
 use Rattle.hm_slab_lists.specs.declared.ends.AllEnds.{AllEnds}
@@ -18,7 +18,7 @@ links_of slabs = map (λ (slab : Slab). slab.link) slabs
 abbrev pub metas_of : List Slab → List SlabUse
 metas_of slabs = map (λ (slab : Slab). slab.meta) slabs
 
--- a place, if there is one, is that of a slab
+-- an index, if there is one, is that of a slab
 abbrev pub IsBelow : Option ℕ → ℕ → Type 0
 IsBelow None count = Unit {0}
 IsBelow (Some at) count = at < count
@@ -62,11 +62,11 @@ next_of None = None
 next_of (Some None) = None
 next_of (Some (Some link)) = link.next
 
--- so many slabs from a place on, each followed by its next
+-- so many slabs from one on, each followed by its next
 abbrev pub walk : Links → ℕ → Option ℕ → List ℕ
-walk links zero place = []
+walk links zero at = []
 walk links (suc count) None = []
-walk links (suc count) (Some place) = place ∷ walk links count (next_of (slice_get links place))
+walk links (suc count) (Some at) = at ∷ walk links count (next_of (slice_get links at))
 
 abbrev pub lists_of : Links → AllEnds → Lists
 lists_of links all = record {

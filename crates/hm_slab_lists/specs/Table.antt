@@ -1,12 +1,12 @@
 -- The slabs of a region, as callers see them.
-use Rattle.std.specs.Prelude.{◌≡◌, ℕ, zero, suc, ◌+◌, ◌-◌, ◌^◌, ◌<◌, ◌≤◌, Bool, true, ◌||◌, List, [], ◌∷◌, map, length, replicate, Option, Some, None, slice_get, slice_index_or, slice_set, refl}
+use Rattle.std.specs.Prelude.{◌≡◌, ℕ, suc, ◌-◌, ◌^◌, ◌<◌, ◌≤◌, Bool, true, ◌||◌, List, [], ◌∷◌, map, length, replicate, Option, Some, None, slice_get, slice_index_or, slice_set, refl}
 use Rattle.std.specs.Ordering.{nat_cmp}
 use Rattle.std.specs.Coded.{Coded, code_by, coded_ℕ, coded×, coded_list, coded_option}
 use Rattle.std.specs.FinMap as finite
 use Rattle.std.specs.FinMap.{FinMap, from_entries}
 use Rattle.hm_slab_meta.specs.Uses.{SlabUse, fresh_slab}
 use Rattle.hm_slab_lists.specs.declared.slab.ListName.{ListName}
-use Rattle.hm_slab_lists.specs.declared.slab.ListName.TheVariants.{Partial, Empty, Full, Retired}
+use Rattle.hm_slab_lists.specs.declared.slab.ListName.TheVariants.{Empty, Retired}
 use Rattle.hm_slab_lists.specs.Chained.{Chained}
 use Rattle.hm_slab_lists.specs.Lists.{Lists, no_lists, among, list_in, gone, headed, ended, placed, IsLoose}
 use Rattle.hm_slab_lists.specs.Named.{list_named}
@@ -138,12 +138,12 @@ shown chains parking limit guard_interval slots = record {
   slots = slots;
 }
 
--- the slab at a place was opened, and is in no list
+-- the slab at an index was opened, and is in no list
 pub record IsParked (chains : Chained) (guard_interval n : ℕ) : Type 0 where
-  pub place : ℕ
-  pub below : place < length chains.metas
-  pub number : nth_slab guard_interval place ≡ n
-  pub loose : IsLoose place chains.lists
+  pub index : ℕ
+  pub below : index < length chains.metas
+  pub number : nth_slab guard_interval index ≡ n
+  pub loose : IsLoose index chains.lists
 
 pub record IsTable (chains : Chained) (parking : List (Option ℕ)) (limit guard_interval slots : ℕ) : Type 0 where
   pub limit_most : limit ≤ 2 ^ 23
@@ -152,8 +152,8 @@ pub record IsTable (chains : Chained) (parking : List (Option ℕ)) (limit guard
   pub slots_some : 1 ≤ slots
   pub slots_most : slots ≤ 256
   pub few : length chains.metas ≤ limit
-  -- what is in a list is a place of a slab
-  pub places : (list : ListName) (place : ℕ) → among place (list_in chains.lists list) ≡ true → place < length chains.metas
+  -- what is in a list is the index of a slab
+  pub indices : (list : ListName) (index : ℕ) → among index (list_in chains.lists list) ≡ true → index < length chains.metas
   -- a slab is parked once
   pub parked : (i n : ℕ) → slice_get parking i ≡ Some (Some n) → IsParked chains guard_interval n
   pub apart : (i j n : ℕ) → slice_get parking i ≡ Some (Some n) → slice_get parking j ≡ Some (Some n) → i ≡ j

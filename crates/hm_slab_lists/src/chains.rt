@@ -1,7 +1,7 @@
 //! Slabs in the order in which they were first opened, in four lists that are linked through their records.
-//! Contracts see lists of places and say nothing of links; a slab may be in no list.
+//! Contracts see lists of indices and say nothing of links; a slab may be in no list.
 ghost use Rattle.std.specs.Prelude.{◌≡◌, ◌+◌, ◌<◌, ◌≤◌, ◌↔◌, ◌++◌, [], ◌∷◌, length, slice_get, Some, IsOk, IsSome, OnOk};
-ghost use Rattle.std.specs.Option.{option_copied};
+ghost use Rattle.std.specs.Option.{option_copied, option_copied_mut};
 ghost use Rattle.std.specs.Borrow.{sem};
 ghost use Rattle.hm_slab_lists.specs.Links.{front};
 ghost use Rattle.hm_slab_lists.specs.Lists.{list_in, among, gone, headed, ended, placed, IsLoose};
@@ -76,7 +76,7 @@ impl Chains {
 
     pub(crate) fn meta_mut(&mut self, at: usize) -> Option<&mut SlabMeta>
         ensures* writes_back { sem 𝓛 (LendsMetaAt self.entry at result) }
-        ensures there { IsSome result ↔ (at < length self.old.metas) }
+        ensures value { option_copied_mut result ≡ slice_get self.old.metas at }
     {
         match self.slabs.get_mut(at) {
             Some(slab) => Some(slab.meta_mut()),
@@ -149,7 +149,7 @@ impl Chains {
     }
 
     /// Moves a slab to the front of a list; where it is in that list, it stays in place.
-    pub(crate) fn place(&mut self, list: ListName, at: usize)
+    pub(crate) fn move_front(&mut self, list: ListName, at: usize)
         requires { at < length self.old.metas }
         ensures { self.new ≡ with_lists (placed list at self.old.lists) self.old }
     {

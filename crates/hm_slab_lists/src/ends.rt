@@ -21,13 +21,13 @@ pub(crate) struct AllEnds {
     retired: Ends,
 }
 
-/// The place, or another one where it is `gone`.
-fn skip(place: Option<usize>, gone: usize, instead: Option<usize>) -> Option<usize>
-    ensures { result ≡ skipped gone instead place }
+/// A slab, or another one where it is `gone`.
+fn skip(at: Option<usize>, gone: usize, instead: Option<usize>) -> Option<usize>
+    ensures { result ≡ skipped gone instead at }
 {
-    match place {
-        Some(place) if place == gone => instead,
-        Some(place) => Some(place),
+    match at {
+        Some(at) if at == gone => instead,
+        Some(at) => Some(at),
         None => None,
     }
 }
@@ -44,7 +44,7 @@ impl Ends {
         }
     }
 
-    /// Without the slab at this place, whose link this is.
+    /// Without the slab at this index, whose link this is.
     pub(crate) fn without(self, at: usize, link: Link) -> Ends
         requires { 1 ≤ self.count }
         ensures { result ≡ shorter at link self }

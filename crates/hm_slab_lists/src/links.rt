@@ -1,5 +1,5 @@
 //! Edits of the links of slabs, which stand in their records.
-//! A place is an index into the records.
+//! Slabs are named by their indices.
 ghost use Rattle.std.specs.Prelude.{◌≡◌, ◌<◌, length, Some, None, IfSome, slice_set};
 ghost use Rattle.hm_slab_lists.specs.Links.{links_of, metas_of, with_next, with_previous, unlinked, linked_first, linked_last, IsBelow};
 
@@ -15,7 +15,7 @@ fn set_link(slabs: &mut [Slab], at: usize, link: Option<Link>)
     slabs[at].link = link;
 }
 
-/// What follows the slab at the place, if there is one and it is in a list.
+/// What follows a slab, if there is one and it is in a list.
 fn set_next(slabs: &mut [Slab], at: Option<usize>, next: Option<usize>)
     requires { IsBelow at (length slabs.old) }
     ensures links { links_of slabs.new ≡ with_next (links_of slabs.old) at next }
@@ -28,7 +28,7 @@ fn set_next(slabs: &mut [Slab], at: Option<usize>, next: Option<usize>)
     }
 }
 
-/// What precedes the slab at the place, if there is one and it is in a list.
+/// What precedes a slab, if there is one and it is in a list.
 fn set_previous(slabs: &mut [Slab], at: Option<usize>, previous: Option<usize>)
     requires { IsBelow at (length slabs.old) }
     ensures links { links_of slabs.new ≡ with_previous (links_of slabs.old) at previous }

@@ -1,23 +1,23 @@
 //! The numbers of slabs: every (interval + 1)-th number is a guard's, and those between are given in order.
-//! The record of a slab stands at its place among them, so that a guard has none.
+//! The record of a slab stands at its index among them, so that a guard has none.
 ghost use Rattle.std.specs.Prelude.{◌≡◌, ◌≢◌, ◌<◌, ◌≤◌, ◌^◌, ℕ, IfSome, IfNone};
 ghost use Rattle.hm_slab_lists.specs.Numbers.{nth_slab};
 
-/// The number of the slab at a place.
-pub(crate) fn number_of(place: usize, interval: u64) -> u64
+/// The number of the slab at an index.
+pub(crate) fn number_of(index: usize, interval: u64) -> u64
     requires interval { 1 ≤ interval }
-    requires place { place < 2 ^ 63 }
-    ensures { result ≡ nth_slab interval place }
+    requires index { index < 2 ^ 63 }
+    ensures { result ≡ nth_slab interval index }
 {
-    place as u64 + place as u64 / interval
+    index as u64 + index as u64 / interval
 }
 
-/// The place of the slab of a number: None for a guard.
-pub(crate) fn place_of(number: u64, interval: u64) -> Option<usize>
+/// The index of the slab of a number: None for a guard.
+pub(crate) fn index_of(number: u64, interval: u64) -> Option<usize>
     requires some { 1 ≤ interval }
     requires few { interval ≤ 8 }
-    ensures found { IfSome result (λ place. nth_slab interval place ≡ number) }
-    ensures guard { IfNone result ((place : ℕ) → nth_slab interval place ≢ number) }
+    ensures found { IfSome result (λ index. nth_slab interval index ≡ number) }
+    ensures guard { IfNone result ((index : ℕ) → nth_slab interval index ≢ number) }
 {
     if number % (interval + 1) == interval {
         None

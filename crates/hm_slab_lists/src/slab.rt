@@ -15,7 +15,7 @@ pub(crate) enum ListName {
     Retired,
 }
 
-/// Where a slab stands in a list: the places of its neighbours.
+/// Where a slab stands in a list: the indices of its neighbours.
 #[derive(Clone, Copy, Debug)]
 pub(crate) struct Link {
     pub(crate) list: ListName,

@@ -1,7 +1,7 @@
 //! The slabs of a region by number.
 //! A slab that was opened is in one of four lists or in the parking array.
 ghost use Rattle.std.specs.Prelude.{◌≡◌, ◌+◌, ◌<◌, ◌≤◌, ◌^◌, ◌↔◌, ℕ, length, replicate, slice_index_or, Some, None, true, is_some, IsTrue, IsSome, IfOk, OnOk};
-ghost use Rattle.std.specs.Option.{option_copied};
+ghost use Rattle.std.specs.Option.{option_copied, option_copied_mut};
 ghost use Rattle.std.specs.Borrow.{sem};
 ghost use Rattle.std.specs.FinMap as map;
 ghost use Rattle.hm_slab_meta.specs.Uses.{SlabUse};
@@ -14,7 +14,7 @@ ghost use Rattle.hm_slab_lists.specs.Table.{Table, new_table, with_spare, opened
 ghost use Rattle.hm_slab_lists.specs.TableLending.{LendsMetaOf};
 
 use crate::chains::Chains;
-use crate::numbers::{number_of, place_of};
+use crate::numbers::{index_of, number_of};
 use crate::slab::ListName;
 use hm_outside::NoMemory;
 use hm_slab_meta::SlabMeta;
@@ -62,15 +62,15 @@ fn empty_parking(alloc: Global, length: u32) -> Result<Vec<Option<u64>>, NoMemor
     Ok(parking)
 }
 
-// The place of a slab: past the last one where it was never opened.
-fn place_in(chains: &Chains, interval: u64, number: u64) -> usize
+// The index of a slab: past the last one where it was never opened.
+fn index_in(chains: &Chains, interval: u64, number: u64) -> usize
     requires some { 1 ≤ interval }
     requires few { interval ≤ 8 }
     ensures found { result < length chains.now.metas → nth_slab interval result ≡ number }
-    ensures opened { (place : ℕ) → place < length chains.now.metas → nth_slab interval place ≡ number → result ≡ place }
+    ensures opened { (index : ℕ) → index < length chains.now.metas → nth_slab interval index ≡ number → result ≡ index }
 {
-    match place_of(number, interval) {
-        Some(place) => place,
+    match index_of(number, interval) {
+        Some(index) => index,
         None => chains.len(),
     }
 }
@@ -121,14 +121,14 @@ impl SlabLists {
     pub fn next_source(&self) -> Place
         ensures { result ≡ source_of self.now }
     {
-        if let Some(place) = self.chains.first(ListName::Partial) {
-            return Place::Partial(number_of(place, self.guard_interval));
+        if let Some(index) = self.chains.first(ListName::Partial) {
+            return Place::Partial(number_of(index, self.guard_interval));
         }
-        if let Some(place) = self.chains.first(ListName::Empty) {
-            return Place::Empty(number_of(place, self.guard_interval));
+        if let Some(index) = self.chains.first(ListName::Empty) {
+            return Place::Empty(number_of(index, self.guard_interval));
         }
-        if let Some(place) = self.chains.first(ListName::Retired) {
-            return Place::Retired(number_of(place, self.guard_interval));
+        if let Some(index) = self.chains.first(ListName::Retired) {
+            return Place::Retired(number_of(index, self.guard_interval));
         }
         let next = number_of(self.chains.len(), self.guard_interval);
         if next < self.limit {
@@ -143,15 +143,15 @@ impl SlabLists {
         ensures { option_copied result ≡ map.get self.now.metas n }
     {
         self.chains
-            .meta(place_in(&self.chains, self.guard_interval, n))
+            .meta(index_in(&self.chains, self.guard_interval, n))
     }
 
     pub fn meta_mut(&mut self, n: u64) -> Option<&mut SlabMeta>
         ensures* writes_back { sem 𝓛 (LendsMetaOf self.entry n result) }
-        ensures opened { IsSome result ↔ IsTrue (is_some (map.get self.old.metas n)) }
+        ensures value { option_copied_mut result ≡ map.get self.old.metas n }
     {
-        let place = place_in(&self.chains, self.guard_interval, n);
-        self.chains.meta_mut(place)
+        let index = index_in(&self.chains, self.guard_interval, n);
+        self.chains.meta_mut(index)
     }
 
     /// How many slabs are in the empty list.
@@ -177,9 +177,9 @@ impl SlabLists {
         requires room { 1 ≤ self.old.spare }
         ensures { self.new ≡ opened_fresh n self.old }
     {
-        let place = self.chains.len();
+        let index = self.chains.len();
         self.chains.push(SlabMeta::fresh(self.slots));
-        self.chains.put_first(ListName::Empty, place);
+        self.chains.put_first(ListName::Empty, index);
     }
 
     /// Opens the slab that was retired first and stands in no parking place.
@@ -187,9 +187,9 @@ impl SlabLists {
         requires { front self.old.lists.retired ≡ Some n }
         ensures { self.new ≡ opened_retired n self.old }
     {
-        let place = place_in(&self.chains, self.guard_interval, n);
-        self.chains.take_out(place);
-        self.chains.put_first(ListName::Empty, place);
+        let index = index_in(&self.chains, self.guard_interval, n);
+        self.chains.take_out(index);
+        self.chains.put_first(ListName::Empty, index);
     }
 
     // Moves a slab to the front of the list that its slots name, if it is not in that list.
@@ -197,10 +197,10 @@ impl SlabLists {
         requires { is_open n self.old ≡ true }
         ensures { self.new ≡ settled n self.old }
     {
-        let place = place_in(&self.chains, self.guard_interval, n);
-        if let Some(meta) = self.chains.meta(place) {
+        let index = index_in(&self.chains, self.guard_interval, n);
+        if let Some(meta) = self.chains.meta(index) {
             let list = named_list(meta);
-            self.chains.place(list, place);
+            self.chains.move_front(list, index);
         }
     }
 
@@ -228,11 +228,11 @@ impl SlabLists {
         ensures unparked { result ≡ slice_index_or self.old.parking park None }
         ensures changed { self.new ≡ retired n park self.old }
     {
-        let place = place_in(&self.chains, self.guard_interval, n);
-        self.chains.take_out(place);
+        let index = index_in(&self.chains, self.guard_interval, n);
+        self.chains.take_out(index);
         let before = self.parking[park as usize].replace(n)?;
-        let place = place_in(&self.chains, self.guard_interval, before);
-        self.chains.put_last(ListName::Retired, place);
+        let index = index_in(&self.chains, self.guard_interval, before);
+        self.chains.put_last(ListName::Retired, index);
         Some(before)
     }
 }

@@ -1,4 +1,4 @@
-use Rattle.std.proofs.Common.{refl, get_or}
+use Rattle.std.proofs.Common.{refl}
 use Rattle.std.proofs.lemmas.List.{map-set}
 use Rattle.std.proofs.Math.Seq.{map-set_same}
 use Rattle.hm_slab_lists.specs.declared.slab.Slab.{Slab}

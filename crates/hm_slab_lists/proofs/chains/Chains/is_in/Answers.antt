@@ -1,4 +1,4 @@
-use Rattle.std.proofs.Common.{◌≡◌, ◌-◌, ◌∙◌, sym, ap, rules}
+use Rattle.std.proofs.Common.{◌-◌, ◌∙◌, sym, ap, rules}
 use Rattle.std.specs.Prelude.{Some, Option}
 use denote.Enum.Bare.{same_true, true_same}
 use Rattle.hm_slab_lists.specs.contracts.slab.ListName.{the_type}

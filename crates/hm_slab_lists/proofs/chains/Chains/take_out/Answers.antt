@@ -1,4 +1,4 @@
-use Rattle.std.proofs.Common.{◌≡◌, ◌-◌, List, length, subst, sym, ap, ◌∙◌, arith}
+use Rattle.std.proofs.Common.{◌-◌, List, length, subst, sym, ap, ◌∙◌, arith}
 use Rattle.std.specs.Prelude.{Option, Some}
 use Rattle.hm_slab_lists.specs.declared.ends.Ends.{Ends}
 use Rattle.hm_slab_lists.specs.declared.slab.Link.{Link}
