@@ -41,15 +41,18 @@ abbrev pub with_previous : Links → Option ℕ → Option ℕ → Links
 with_previous links at previous = edited links at (precedes previous)
 
 abbrev pub unlinked : Links → ℕ → Link → Links
-unlinked links at link = slice_set (with_previous (with_next links link.previous link.next) link.next link.previous) at None
+unlinked links at link =
+    slice_set (with_previous (with_next links link.previous link.next) link.next link.previous) at None
 
 abbrev pub linked_first : Links → ListName → Ends → ℕ → Links
 linked_first links list ends at =
-    slice_set (with_previous links ends.first (Some at)) at (Some (record { list = list; previous = None; next = ends.first }))
+    slice_set (with_previous links ends.first (Some at)) at
+    (Some (record { list = list; previous = None; next = ends.first }))
 
 abbrev pub linked_last : Links → ListName → Ends → ℕ → Links
 linked_last links list ends at =
-    slice_set (with_next links ends.last (Some at)) at (Some (record { list = list; previous = ends.last; next = None }))
+    slice_set (with_next links ends.last (Some at)) at
+    (Some (record { list = list; previous = ends.last; next = None }))
 
 -- ---- the lists
 abbrev pub front : List ℕ → Option ℕ

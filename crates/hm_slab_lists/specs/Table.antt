@@ -33,7 +33,8 @@ abbrev pub lists_code : Coded Lists
 lists_code =
     code_by ((List ℕ × List ℕ) × (List ℕ × List ℕ))
     (coded× (coded× (coded_list coded_ℕ) (coded_list coded_ℕ)) (coded× (coded_list coded_ℕ) (coded_list coded_ℕ)))
-    (λ l. ((l.partial, l.empty), (l.full, l.retired))) (λ p. record { partial = p.0.0; empty = p.0.1; full = p.1.0; retired = p.1.1 }) (λ _. refl)
+    (λ l. ((l.partial, l.empty), (l.full, l.retired)))
+    (λ p. record { partial = p.0.0; empty = p.0.1; full = p.1.0; retired = p.1.1 }) (λ _. refl)
 
 abbrev pub table_code : Coded SlabUse → Coded Table
 table_code meta =
@@ -153,7 +154,8 @@ pub record IsTable (chains : Chained) (parking : List (Option ℕ)) (limit guard
   pub slots_most : slots ≤ 256
   pub few : length chains.metas ≤ limit
   -- what is in a list is the index of a slab
-  pub indices : (list : ListName) (index : ℕ) → among index (list_in chains.lists list) ≡ true → index < length chains.metas
+  pub indices : (list : ListName) (index : ℕ) → among index (list_in chains.lists list) ≡ true
+      → index < length chains.metas
   -- a slab is parked once
   pub parked : (i n : ℕ) → slice_get parking i ≡ Some (Some n) → IsParked chains guard_interval n
   pub apart : (i j n : ℕ) → slice_get parking i ≡ Some (Some n) → slice_get parking j ≡ Some (Some n) → i ≡ j

@@ -1,6 +1,6 @@
 //! Edits of the links of slabs, which stand in their records.
 //! Slabs are named by their indices.
-ghost use Rattle.std.specs.Prelude.{◌≡◌, ◌<◌, length, Some, None, IfSome, slice_set};
+ghost use Rattle.std.specs.Prelude.{◌≡◌, ◌<◌, length, Some, None, slice_set};
 ghost use Rattle.hm_slab_lists.specs.Links.{links_of, metas_of, with_next, with_previous, unlinked, linked_first, linked_last, IsBelow};
 
 use crate::ends::Ends;

@@ -1,16 +1,14 @@
 //! The slabs of a region by number.
 //! A slab that was opened is in one of four lists or in the parking array.
-ghost use Rattle.std.specs.Prelude.{◌≡◌, ◌+◌, ◌<◌, ◌≤◌, ◌^◌, ◌↔◌, ℕ, length, replicate, slice_index_or, Some, None, true, is_some, IsTrue, IsSome, IfOk, OnOk};
+ghost use Rattle.std.specs.Prelude.{◌≡◌, ◌<◌, ◌≤◌, ◌^◌, ℕ, length, replicate, slice_index_or, Some, None, true, IfOk, IsOk, OnOk};
 ghost use Rattle.std.specs.Option.{option_copied, option_copied_mut};
 ghost use Rattle.std.specs.Borrow.{sem};
 ghost use Rattle.std.specs.FinMap as map;
-ghost use Rattle.hm_slab_meta.specs.Uses.{SlabUse};
-ghost use Rattle.hm_slab_lists.specs.Chained.{Chained};
 ghost use Rattle.hm_slab_lists.specs.Links.{front};
 ghost use Rattle.hm_slab_lists.specs.Numbers.{nth_slab};
 ghost use Rattle.hm_slab_lists.specs.Named.{list_named};
 ghost use Rattle.hm_slab_lists.specs.Sources.{source_of};
-ghost use Rattle.hm_slab_lists.specs.Table.{Table, new_table, with_spare, opened_fresh, opened_retired, settled, retired, is_open};
+ghost use Rattle.hm_slab_lists.specs.Table.{new_table, with_spare, opened_fresh, opened_retired, settled, retired, is_open};
 ghost use Rattle.hm_slab_lists.specs.TableLending.{LendsMetaOf};
 
 use crate::chains::Chains;
@@ -166,6 +164,7 @@ impl SlabLists {
         ensures rest { self.new ≡ with_spare self.new.spare self.old }
         ensures room { OnOk result (1 ≤ self.new.spare) }
         ensures more { self.old.spare ≤ self.new.spare }
+        ensures enough { 1 ≤ self.old.spare → IsOk result }
     {
         self.chains.reserve_one()?;
         Ok(())

@@ -156,7 +156,8 @@ impl SlabMeta {
     pub fn first_free_from(&self, start: u32) -> Option<u32>
         requires { start < length self.now.slots }
         ensures first { result ≡ first_from start self.now.slots }
-        ensures available { IfSome result (λ slot. option_map is_available (slice_get self.now.slots slot) ≡ Some true) }
+        ensures available { IfSome result
+            (λ slot. option_map is_available (slice_get self.now.slots slot) ≡ Some true) }
         ensures none { IsNone result ↔ (list_any is_available self.now.slots ≡ false) }
     {
         let taken = self.taken();
