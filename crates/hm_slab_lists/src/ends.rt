@@ -1,4 +1,5 @@
 //! The ends of each list, and how many slabs are in it.
+//! A list with no slab has no ends.
 ghost use Rattle.std.specs.Prelude.{◌≡◌, ◌<◌, ◌≤◌, ◌^◌, Some, None};
 ghost use Rattle.hm_slab_lists.specs.Ends.{skipped, shorter, longer_front, longer_back, ends_in, with_ends, no_ends};
 

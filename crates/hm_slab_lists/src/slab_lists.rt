@@ -87,8 +87,8 @@ fn named_list(meta: &SlabMeta) -> ListName
 }
 
 impl SlabLists {
-    /// No slab, of at most `limit` numbers, and an empty parking array. Every `guard_interval` slabs a number is
-    /// left out.
+    /// No slab, and an empty parking array. Numbers are below `limit`, and after each `guard_interval` slabs one
+    /// number is left out.
     pub fn build(
         alloc: Global,
         limit: u64,
@@ -144,6 +144,7 @@ impl SlabLists {
             .meta(index_in(&self.chains, self.guard_interval, n))
     }
 
+    /// What is kept of a slab, to be changed.
     pub fn meta_mut(&mut self, n: u64) -> Option<&mut SlabMeta>
         ensures* writes_back { sem 𝓛 (LendsMetaOf self.entry n result) }
         ensures value { option_copied_mut result ≡ map.get self.old.metas n }
