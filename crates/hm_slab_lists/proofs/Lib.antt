@@ -1,0 +1,9 @@
+pub mod ByNumber
+pub mod Joining
+pub mod Members
+pub mod Neighbours
+pub mod Numbering
+pub mod Places
+pub mod Tables
+pub mod Unlinking
+pub mod Whole

@@ -1,0 +1,11 @@
+pub mod Chained
+pub mod ChainsLending
+pub mod Ends
+pub mod Lending
+pub mod Links
+pub mod Lists
+pub mod Named
+pub mod Numbers
+pub mod Sources
+pub mod Table
+pub mod TableLending

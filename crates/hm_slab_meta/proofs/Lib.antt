@@ -1,0 +1,5 @@
+pub mod Changes
+pub mod MapBits
+pub mod Searches
+pub mod Slots
+pub mod WordBits

@@ -1,0 +1,30 @@
+-- What the four maps of a slab say of its slots.
+use Rattle.std.specs.Prelude.{◌≡◌, ℕ, ◌<◌, ◌≤◌, Bool, true, false, List, map, if◌then◌else◌}
+use Rattle.std.specs.List.{range_with_len}
+use Rattle.hm_slab_meta.specs.declared.bit_map.BitMap.{BitMap}
+use Rattle.hm_slab_meta.specs.Maps.{has}
+use Rattle.hm_slab_meta.specs.Uses.{SlotUse, Never, Free, Live, Held, Condemned}
+
+-- the use of a slot by its four bits
+abbrev pub use_of : Bool → Bool → Bool → Bool → SlotUse
+use_of live held condemned given =
+    if live then Live else if held then Held else if condemned then Condemned given else if given then Free else Never
+
+abbrev pub use_in : BitMap → BitMap → BitMap → BitMap → ℕ → SlotUse
+use_in live held condemned given i = use_of (has live i) (has held i) (has condemned i) (has given i)
+
+abbrev pub uses_of : BitMap → BitMap → BitMap → BitMap → ℕ → List SlotUse
+uses_of live held condemned given slots = map (use_in live held condemned given) (range_with_len 0 slots)
+
+-- at most one of the three is set, and a live or held slot was given
+abbrev pub fits : Bool → Bool → Bool → Bool → Bool
+fits true held condemned given = if held then false else if condemned then false else given
+fits false true condemned given = if condemned then false else given
+fits false false condemned given = true
+
+-- no bit past the last slot is set
+pub record IsKept (live held condemned given : BitMap) (slots : ℕ) : Type 0 where
+  pub some : 1 ≤ slots
+  pub few : slots ≤ 256
+  pub each : (i : ℕ) → i < 256 → fits (has live i) (has held i) (has condemned i) (has given i) ≡ true
+  pub past : (i : ℕ) → slots ≤ i → i < 256 → use_in live held condemned given i ≡ Never

@@ -1,0 +1,5 @@
+pub mod Kept
+pub mod Maps
+pub mod Marks
+pub mod Uses
+pub mod Words
