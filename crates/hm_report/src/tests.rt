@@ -1,6 +1,7 @@
-use crate::{Results, StepResult, has_finding, report};
+use crate::{Results, StepResult, has_finding, report, summary};
 use hm_model::{Answer, Reply, Runs};
 use hm_outside::List;
+use std::alloc::{AllocError, Global};
 use std::test::Fail;
 
 /// What a step referred to and was answered, its text, and whether it is a finding.
@@ -227,5 +228,65 @@ fn lines_of_scripts(rt: HostRuntime) -> Result<(), Fail> {
     let text =
         b"1.2.1 bytes 00*18446744073709551615\n1.2.2 bytes 61*13 00*1 ff*2\n4294967295.1.1 skipped\n";
     assert_eq!(rt; report(alloc, &results)?.as_slice(), text.as_slice());
+    Ok(())
+}
+
+/// The results of one script with these answers.
+fn results_of(
+    alloc: Global,
+    thread: u32,
+    answers: Vec<Option<Answer>>,
+) -> Result<Results, AllocError> {
+    let mut steps = Vec::new(alloc);
+    for answer in answers {
+        steps.push(StepResult { base: 0, answer })?;
+    }
+    Ok(Results {
+        round: 1,
+        thread,
+        items: List::of(steps),
+    })
+}
+
+#[test]
+fn summaries(rt: HostRuntime) -> Result<(), Fail> {
+    let alloc = rt.alloc();
+    let none = b"stress 0: steps 0 given 0 written 0 size 0 bytes 0 freed 0 skipped 0\n";
+    assert_eq!(rt; summary(alloc, 0, &[])?.as_slice(), none.as_slice());
+
+    let bytes = Runs::from_pairs(vec![in alloc; (0x41, 1)]?).ok_or("no runs")?;
+    let first = vec![in alloc;
+        Some(Answer::Reply(Reply::Given {
+            addr: 4096,
+            usable: 104,
+        })),
+        Some(Answer::Reply(Reply::Filled)),
+        Some(Answer::Reply(Reply::Usable(104))),
+        Some(Answer::Reply(Reply::Bytes(bytes))),
+        Some(Answer::Reply(Reply::Freed)),
+    ]?;
+    let second = vec![in alloc; Some(Answer::Reply(Reply::Freed)), None, None, None]?;
+    let third = vec![in alloc;
+        Some(Answer::Reply(Reply::Exhausted)),
+        Some(Answer::Nothing),
+        Some(Answer::Kept {
+            addr: 4096,
+            usable: 104,
+        }),
+        Some(Answer::Reply(Reply::DoubleFree)),
+    ]?;
+    let mut results = Vec::new(alloc);
+    results.push(results_of(alloc, 1, first)?)?;
+    results.push(results_of(alloc, 2, second)?)?;
+    let text =
+        b"stress 18446744073709551615: steps 9 given 1 written 1 size 1 bytes 1 freed 2 skipped 3\n";
+    assert_eq!(rt;
+        summary(alloc, u64::MAX, &results)?.as_slice(),
+        text.as_slice()
+    );
+
+    results.push(results_of(alloc, 3, third)?)?;
+    let text = b"stress 7: steps 13 given 1 written 1 size 1 bytes 1 freed 2 skipped 3 other 4\n";
+    assert_eq!(rt; summary(alloc, 7, &results)?.as_slice(), text.as_slice());
     Ok(())
 }
