@@ -1,0 +1,250 @@
+use crate::write_journal;
+use hm_heap::History;
+use hm_model::{Call, Choices, Draws, Entry, Reply, Runs, Who};
+use hm_outside::{List, RegionId};
+use hm_sizes::Config;
+use std::test::Fail;
+
+const WHO: Who = Who {
+    caller: 1,
+    round: 2,
+    thread: 3,
+    step: 4,
+    part: 5,
+};
+
+/// Each call and each reply that has no runs, and what an entry's line says of them.
+const CASES: [(Call, Reply, &str); 14] = [
+    (
+        Call::Allot {
+            asked: 100,
+            align: 16,
+        },
+        Reply::Given {
+            addr: 1099511635968,
+            usable: 104,
+        },
+        "allot 100 16 : 1 1099511635968 104",
+    ),
+    (
+        Call::Allot {
+            asked: 0,
+            align: 4096,
+        },
+        Reply::Overwritten {
+            addr: 4096,
+            at: 10,
+            found: 11,
+        },
+        "allot 0 4096 : 2 4096 10 0b",
+    ),
+    (
+        Call::Allot {
+            asked: u64::MAX,
+            align: 1,
+        },
+        Reply::Exhausted,
+        "allot 18446744073709551615 1 : 3",
+    ),
+    (
+        Call::Allot { asked: 1, align: 2 },
+        Reply::NoSpace,
+        "allot 1 2 : 4",
+    ),
+    (
+        Call::Allot { asked: 1, align: 2 },
+        Reply::PagesFailed,
+        "allot 1 2 : 5",
+    ),
+    (
+        Call::GiveBack {
+            addr: 4096,
+            stated: None,
+        },
+        Reply::Freed,
+        "giveback 4096 - : 7",
+    ),
+    (
+        Call::GiveBack {
+            addr: 4096,
+            stated: Some(0),
+        },
+        Reply::NoSlot,
+        "giveback 4096 0 : 8",
+    ),
+    (Call::Measure { addr: 0 }, Reply::Unused, "measure 0 : 9"),
+    (
+        Call::Measure { addr: 7 },
+        Reply::DoubleFree,
+        "measure 7 : 10",
+    ),
+    (
+        Call::GiveBack {
+            addr: 4096,
+            stated: Some(105),
+        },
+        Reply::WrongSize {
+            block: 112,
+            stated: 128,
+        },
+        "giveback 4096 105 : 11 112 128",
+    ),
+    (
+        Call::GiveBack {
+            addr: 4096,
+            stated: None,
+        },
+        Reply::Canary {
+            kept: 256,
+            found: 65,
+        },
+        "giveback 4096 - : 12 256 65",
+    ),
+    (
+        Call::Measure { addr: 7 },
+        Reply::Usable(104),
+        "measure 7 : 13 104",
+    ),
+    (
+        Call::Fetch { addr: 1, len: 2 },
+        Reply::Trap { addr: 3 },
+        "fetch 1 2 : 16 3",
+    ),
+    (Call::Measure { addr: 7 }, Reply::NotLive, "measure 7 : 17"),
+];
+
+fn of_region(region: u32, first: u64, entries: Vec<Entry>, faults: u64) -> History {
+    History {
+        region: RegionId(region),
+        first,
+        entries: List::of(entries),
+        faults,
+    }
+}
+
+#[test]
+fn lines_of_calls_and_replies(rt: HostRuntime) -> Result<(), Fail> {
+    let alloc = rt.alloc();
+    for (call, reply, text) in CASES {
+        let entries = vec![in alloc; Entry::plain(WHO, call, reply, 0, 0)]?;
+        let histories = [of_region(7, 1099511635968, entries, 0)];
+        let lines = format!(in alloc;
+            "hmjournal 1\nconfig 4 34359738368 1099511627776 1 1 1 32 1 1\nseed 7\n\
+            region 7 1099511635968 1\n1 2 3 4 5 0 0 0 0 0 0 - - - - - - - {text}\nclosed 0\nend\n"
+        )?;
+        assert_eq!(rt;
+            write_journal(alloc, &Config::standard(), 7, &histories)?.as_slice(),
+            lines.as_bytes(),
+            "{text}"
+        );
+    }
+    Ok(())
+}
+
+#[test]
+fn lines_of_runs(rt: HostRuntime) -> Result<(), Fail> {
+    let alloc = rt.alloc();
+    let none = Runs::same(alloc, 7, 0)?;
+    let one = Runs::same(alloc, 0x41, u64::MAX)?;
+    let pairs = vec![in alloc; (0, 13), (255, 1), (10, 2)]?;
+    let three = Runs::from_pairs(pairs).ok_or("no runs")?;
+    let fetch = Call::Fetch { addr: 1, len: 2 };
+    let entries = vec![in alloc;
+        Entry::plain(
+            WHO,
+            Call::Fill {
+                addr: 1,
+                runs: none
+            },
+            Reply::Filled,
+            0,
+            0
+        ),
+        Entry::plain(WHO, Call::Fill { addr: 2, runs: one }, Reply::Filled, 0, 0),
+        Entry::plain(WHO, fetch, Reply::Bytes(three), 0, 0),
+    ]?;
+    let histories = [of_region(196, 70368744177664, entries, 0)];
+    let text = "hmjournal 1\nconfig 4 34359738368 1099511627776 1 1 1 32 1 1\nseed 0\n\
+        region 196 70368744177664 3\n\
+        1 2 3 4 5 0 0 0 0 0 0 - - - - - - - fill 1 - : 15\n\
+        1 2 3 4 5 0 0 0 0 0 0 - - - - - - - fill 2 41*18446744073709551615 : 15\n\
+        1 2 3 4 5 0 0 0 0 0 0 - - - - - - - fetch 1 2 : 14 00*13,ff*1,0a*2\n\
+        closed 0\nend\n";
+    assert_eq!(rt;
+        write_journal(alloc, &Config::standard(), 0, &histories)?.as_slice(),
+        text.as_bytes()
+    );
+    Ok(())
+}
+
+/// A configuration in which each field has a value of its own, as far as it can.
+const CONFIG: Config = Config {
+    arenas: 3,
+    class_region: 1048576,
+    large_space: 2097152,
+    guard_interval: 8,
+    array_base: 0,
+    ring_base: 1,
+    park_length: 2,
+    check_reuse: true,
+    random_slots: false,
+};
+
+#[test]
+fn lines_of_no_region(rt: HostRuntime) -> Result<(), Fail> {
+    let text =
+        b"hmjournal 1\nconfig 3 1048576 2097152 8 0 1 2 1 0\nseed 18446744073709551615\nend\n";
+    assert_eq!(rt;
+        write_journal(rt.alloc(), &CONFIG, u64::MAX, &[])?.as_slice(),
+        text.as_slice()
+    );
+    Ok(())
+}
+
+/// An entry that chose and drew all that one has.
+fn full_entry() -> Entry {
+    Entry {
+        who: Who {
+            caller: u32::MAX,
+            part: 255,
+            ..WHO
+        },
+        call: Call::Measure { addr: 9 },
+        reply: Reply::NoSlot,
+        choices: Choices {
+            canary: Some(11),
+            opened: Some(12),
+            released: Some(13),
+            retired: Some(14),
+            purged: Some(15),
+            unparked: Some(16),
+            guard: Some(17),
+        },
+        draws: Draws {
+            used: 3,
+            w0: 20,
+            w1: 21,
+            w2: u32::MAX,
+        },
+        faults_before: 30,
+        faults_after: 31,
+    }
+}
+
+#[test]
+fn lines_of_two_regions(rt: HostRuntime) -> Result<(), Fail> {
+    let alloc = rt.alloc();
+    let histories = [
+        of_region(0, 5, Vec::new(alloc), 1),
+        of_region(1, 6, vec![in alloc; full_entry()]?, 31),
+    ];
+    let text = "hmjournal 1\nconfig 3 1048576 2097152 8 0 1 2 1 0\nseed 2\n\
+        region 0 5 0\nclosed 1\nregion 1 6 1\n\
+        4294967295 2 3 4 255 30 31 3 20 21 4294967295 11 12 13 14 15 16 17 measure 9 : 8\n\
+        closed 31\nend\n";
+    assert_eq!(rt;
+        write_journal(alloc, &CONFIG, 2, &histories)?.as_slice(),
+        text.as_bytes()
+    );
+    Ok(())
+}
