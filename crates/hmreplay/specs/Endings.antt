@@ -4,6 +4,7 @@ use Rattle.std.specs.Fmt.{decimal}
 use Rattle.std.specs.declared.alloc.Global.{Global}
 use Rattle.hm_outside.specs.declared.pages.Pages as pages
 use Rattle.hm_report.specs.declared.results.Results.{Results}
+use Rattle.hm_report.specs.Summary.{summary_text}
 use Rattle.hm_report.specs.Text.{report_text}
 use Rattle.hm_report.specs.Findings.{has_finding}
 use Rattle.hm_trace.specs.declared.fault.FaultKind.{FaultKind}
@@ -11,13 +12,15 @@ use Rattle.hm_trace.specs.declared.fault.FaultKind.TheVariants.{AfterEnd, LineTo
 use Rattle.hm_trace.specs.declared.fault.TraceFault.{TraceFault}
 use Rattle.hm_trace.specs.Faults.{text_fault}
 use Rattle.hm_trace.specs.Spelling.{spelling}
+use Rattle.hm_trace.specs.Stress.{stress}
 use Rattle.hm_trace.specs.Traces.{IsTrace}
 use Rattle.hm_trace.specs.Views.{ScriptView}
 use Rattle.hm_heap.specs.declared.close.Closed.{Closed}
 use Rattle.hmreplay.specs.declared.refusal.Refusal.{Refusal}
 use Rattle.hmreplay.specs.declared.refusal.Refusal.TheVariants.{Usage, ReadFault, TooLong}
+use Rattle.hmreplay.specs.declared.words.Command.TheVariants.{Run, Stress}
 use Rattle.hmreplay.specs.declared.words.Options.{Options}
-use Rattle.hmreplay.specs.Words.{options_of}
+use Rattle.hmreplay.specs.Words.{asked_in}
 use Rattle.hmreplay.specs.Streams.{IsReadToEnd, IsTakenPast, IsTakenWithin, IsWritten}
 use Rattle.hmreplay.specs.Replayed.{IsReplayed}
 
@@ -32,16 +35,11 @@ line_of Usage = codes "fault: usage" ++ 10 ∷ []
 line_of ReadFault = codes "fault: read" ++ 10 ∷ []
 line_of TooLong = codes "fault: too long" ++ 10 ∷ []
 
--- the words ask for something
-abbrev pub AreAccepted : List (String Global) → Type 0
-AreAccepted words = (o : Options) × (options_of words ≡ Some o)
-
--- why a run is refused before its text is looked at; where the words are not accepted nothing was taken from the
--- source, and where the source failed no more than may be
-abbrev pub IsRefused : Refusal → List (String Global) → Option (List ℕ) → Option (List ℕ) → Type 0 → Type 0
-IsRefused Usage words left left' rose = (options_of words ≡ None) × (left' ≡ left)
-IsRefused ReadFault words left left' rose = AreAccepted words × rose × IsTakenWithin 67108864 left left'
-IsRefused TooLong words left left' rose = AreAccepted words × IsTakenPast 67108864 left left'
+-- why a source is refused: it failed, no more bytes than may be being taken, or it has too many
+abbrev pub IsRefused : Refusal → Option (List ℕ) → Option (List ℕ) → Type 0 → Type 0
+IsRefused Usage left left' rose = ⊥
+IsRefused ReadFault left left' rose = rose × IsTakenWithin 67108864 left left'
+IsRefused TooLong left left' rose = IsTakenPast 67108864 left left'
 
 -- ---- faults of a trace
 abbrev pub kind_text : FaultKind → List ℕ
@@ -75,17 +73,27 @@ status_after results = if has_finding results then 1 else 0
 
 -- ---- endings
 module _ {P : Type 0} (meaning : pages.Ghosts P) (status : ℕ) (closed : Option (Closed P)) where
-  -- the trace was run and the heap closed, and the report of the replies was written, or a front of it where the sink
-  -- failed
-  pub record RunsText (o : Options) (bytes : List ℕ) (held held' : Option (List ℕ)) (sink_rose : Type 0) : Type 0 where
-    pub trace : List (List ScriptView)
-    pub is_trace : IsTrace trace
-    pub text : bytes ≡ spelling trace
+  -- the trace was run and the heap closed, and the text of the results was written, or a front of it where the sink failed
+  pub record RunsTrace (o : Options) (trace : List (List ScriptView)) (text_of : List Results → List ℕ)
+      (held held' : Option (List ℕ)) (sink_rose : Type 0) : Type 0 where
     pub left : Closed P
     pub closed_is : closed ≡ Some left
     pub results : List Results
     pub replayed : IsReplayed meaning o left trace results
-    pub written : IsWritten status (status_after results) held held' sink_rose (report_text results)
+    pub written : IsWritten status (status_after results) held held' sink_rose (text_of results)
+
+  -- memory was wanted: nothing was written
+  pub record LacksMemory (held held' : Option (List ℕ)) : Type 0 where
+    pub status_is : status ≡ 6
+    pub unwritten : held' ≡ held
+    pub not_closed : closed ≡ None
+
+  -- the text is a trace, which was run: its report was written
+  pub record RunsText (o : Options) (bytes : List ℕ) (held held' : Option (List ℕ)) (sink_rose : Type 0) : Type 0 where
+    pub trace : List (List ScriptView)
+    pub is_trace : IsTrace trace
+    pub text : bytes ≡ spelling trace
+    pub runs : RunsTrace o trace report_text held held' sink_rose
 
   -- the text is no trace, and the line that names its first fault was written, or a front of it where the sink failed
   pub record IsFaulty (bytes : List ℕ) (held held' : Option (List ℕ)) (sink_rose : Type 0) : Type 0 where
@@ -94,42 +102,70 @@ module _ {P : Type 0} (meaning : pages.Ghosts P) (status : ℕ) (closed : Option
     pub not_closed : closed ≡ None
     pub written : IsWritten status 3 held held' sink_rose (fault_line fault)
 
-  -- how a text that was read ends; the last case is want of memory
+  -- how a text that was read ends
   abbrev pub TextEnds : Options → List ℕ → Option (List ℕ) → Option (List ℕ) → Type 0 → Type 0
   TextEnds o bytes held held' sink_rose =
-      RunsText o bytes held held' sink_rose
-      ⊎ IsFaulty bytes held held' sink_rose
-      ⊎ ((status ≡ 6) × (held' ≡ held) × (closed ≡ None))
+      RunsText o bytes held held' sink_rose ⊎ IsFaulty bytes held held' sink_rose ⊎ LacksMemory held held'
 
-  -- the words are not accepted; or the source failed, or has too many bytes: the line that says so was written, or a
-  -- front of it where the sink failed
-  pub record EndsRefused (words : List (String Global)) (left left' : Option (List ℕ)) (source_rose : Type 0)
-      (held held' : Option (List ℕ)) (sink_rose : Type 0) : Type 0 where
-    pub refusal : Refusal
-    pub cause : IsRefused refusal words left left' source_rose
+  -- a line that says why a run is refused was written, or a front of it where the sink failed
+  pub record TellsRefusal (refusal : Refusal) (held held' : Option (List ℕ)) (sink_rose : Type 0) : Type 0 where
     pub not_closed : closed ≡ None
     pub written : IsWritten status (status_of refusal) held held' sink_rose (line_of refusal)
 
-  -- memory was wanted while the source was read: nothing was written
-  pub record EndsUnread (words : List (String Global)) (held held' : Option (List ℕ)) : Type 0 where
-    pub words_are : AreAccepted words
-    pub status_is : status ≡ 6
-    pub unwritten : held' ≡ held
-    pub not_closed : closed ≡ None
+  -- the source failed, or has too many bytes
+  pub record SourceRefused (left left' : Option (List ℕ)) (source_rose : Type 0) (held held' : Option (List ℕ))
+      (sink_rose : Type 0) : Type 0 where
+    pub refusal : Refusal
+    pub cause : IsRefused refusal left left' source_rose
+    pub tells : TellsRefusal refusal held held' sink_rose
 
   -- the source was read to its end, and has no more bytes than may be taken
-  pub record EndsRead (words : List (String Global)) (left left' : Option (List ℕ)) (held held' : Option (List ℕ))
-      (sink_rose : Type 0) : Type 0 where
-    pub options : Options
-    pub words_are : options_of words ≡ Some options
+  pub record SourceRead (o : Options) (left left' : Option (List ℕ)) (held held' : Option (List ℕ)) (sink_rose : Type 0)
+      : Type 0 where
     pub bytes : List ℕ
     pub read : IsReadToEnd left left' bytes
     pub within : length bytes ≤ 67108864
-    pub ends : TextEnds options bytes held held' sink_rose
+    pub ends : TextEnds o bytes held held' sink_rose
+
+  -- how the run of a source ends
+  abbrev pub SourceEnds : Options → Option (List ℕ) → Option (List ℕ) → Type 0 → Option (List ℕ) → Option (List ℕ)
+      → Type 0 → Type 0
+  SourceEnds o left left' source_rose held held' sink_rose =
+      SourceRead o left left' held held' sink_rose
+      ⊎ SourceRefused left left' source_rose held held' sink_rose
+      ⊎ LacksMemory held held'
+
+  -- the run of the trace that a number makes: its summary was written
+  abbrev pub StressEnds : Options → ℕ → Option (List ℕ) → Option (List ℕ) → Type 0 → Type 0
+  StressEnds o number held held' sink_rose =
+      RunsTrace o (stress number) (summary_text number) held held' sink_rose ⊎ LacksMemory held held'
+
+  -- ---- by the words
+  -- they are not accepted: nothing was taken from the source
+  pub record EndsUnasked (words : List (String Global)) (left left' : Option (List ℕ)) (held held' : Option (List ℕ))
+      (sink_rose : Type 0) : Type 0 where
+    pub words_are : asked_in words ≡ None
+    pub untouched : left' ≡ left
+    pub tells : TellsRefusal Usage held held' sink_rose
+
+  pub record EndsRun (words : List (String Global)) (left left' : Option (List ℕ)) (source_rose : Type 0)
+      (held held' : Option (List ℕ)) (sink_rose : Type 0) : Type 0 where
+    pub options : Options
+    pub words_are : asked_in words ≡ Some (record { command = Run; options = options })
+    pub ends : SourceEnds options left left' source_rose held held' sink_rose
+
+  -- nothing was taken from the source
+  pub record EndsStress (words : List (String Global)) (left left' : Option (List ℕ)) (held held' : Option (List ℕ))
+      (sink_rose : Type 0) : Type 0 where
+    pub options : Options
+    pub number : ℕ
+    pub words_are : asked_in words ≡ Some (record { command = Stress number; options = options })
+    pub untouched : left' ≡ left
+    pub ends : StressEnds options number held held' sink_rose
 
   abbrev pub Ends : List (String Global) → Option (List ℕ) → Option (List ℕ) → Type 0 → Option (List ℕ)
       → Option (List ℕ) → Type 0 → Type 0
   Ends words left left' source_rose held held' sink_rose =
-      EndsRead words left left' held held' sink_rose
-      ⊎ EndsRefused words left left' source_rose held held' sink_rose
-      ⊎ EndsUnread words held held'
+      EndsRun words left left' source_rose held held' sink_rose
+      ⊎ EndsStress words left left' held held' sink_rose
+      ⊎ EndsUnasked words left left' held held' sink_rose

@@ -1,5 +1,5 @@
 -- The words after the program's name: a command and its options.
-use Rattle.std.specs.Prelude.{ℕ, ◌%◌, ◌^◌, Bool, true, false, not, ◌&&◌, ◌||◌, ◌==◌, nat_lt, nat_le, if◌then◌else◌, List, [], ◌∷◌, length, codes, string_bytes, String, Option, Some, None, is_some, unwrap_or, option_and_then}
+use Rattle.std.specs.Prelude.{◌≡◌, ℕ, ◌%◌, ◌^◌, Bool, true, false, not, ◌&&◌, ◌||◌, ◌==◌, nat_lt, nat_le, if◌then◌else◌, List, [], ◌∷◌, length, codes, string_bytes, String, Option, Some, None, is_some, unwrap_or, option_and_then}
 use Rattle.std.specs.Char.{is_ascii_digit}
 use Rattle.std.specs.List.{list_all}
 use Rattle.std.specs.Str.Parse.{digits_value}
@@ -7,6 +7,9 @@ use Rattle.std.specs.declared.alloc.Global.{Global}
 use Rattle.hm_sizes.specs.declared.config.Config.{Config}
 use Rattle.hm_sizes.specs.Configs.{standard}
 use Rattle.hm_trace.specs.Names.{is_word}
+use Rattle.hmreplay.specs.declared.words.Asked.{Asked}
+use Rattle.hmreplay.specs.declared.words.Command.{Command}
+use Rattle.hmreplay.specs.declared.words.Command.TheVariants.{Run, Stress}
 use Rattle.hmreplay.specs.declared.words.OptionName.{OptionName}
 use Rattle.hmreplay.specs.declared.words.OptionName.TheVariants.{Seed, ClassRegion, LargeSpace}
 use Rattle.hmreplay.specs.declared.words.Options.{Options}
@@ -83,11 +86,30 @@ options_in words = record {
   large_space = unwrap_or (given LargeSpace words) 1099511627776;
 }
 
--- `run` and then options; other words are not accepted
-abbrev pub options_of : List (String Global) → Option Options
-options_of [] = None
-options_of (command ∷ words) =
-    if is_word (string_bytes command) (codes "run") && are_options words then Some (options_in words) else None
+abbrev pub with_options : Command → List (String Global) → Option Asked
+with_options command words =
+    if are_options words then Some (record { command = command; options = options_in words }) else None
+
+-- behind `stress`: a number, and then options
+abbrev pub stress_in : List (String Global) → Option Asked
+stress_in [] = None
+stress_in (word ∷ words) = option_and_then (λ number. with_options (Stress number) words) (number_in (string_bytes word))
+
+-- `run`, or `stress` and a number, and then options; other words are not accepted
+abbrev pub asked_in : List (String Global) → Option Asked
+asked_in [] = None
+asked_in (command ∷ words) =
+    if is_word (string_bytes command) (codes "run") then with_options Run words
+    else if is_word (string_bytes command) (codes "stress") then stress_in words
+    else None
+
+-- they ask for the run of a source; or of the trace that a number makes
+abbrev pub AsksRun : List (String Global) → Type 0
+AsksRun words = (options : Options) × (asked_in words ≡ Some (record { command = Run; options = options }))
+
+abbrev pub AsksStress : List (String Global) → Type 0
+AsksStress words =
+    (options : Options) × (number : ℕ) × (asked_in words ≡ Some (record { command = Stress number; options = options }))
 
 -- the configuration that they ask for
 abbrev pub config_of : Options → Config

@@ -1,10 +1,8 @@
 //! The top call: the words, the source to its end, the trace, the heap and the rounds, the report, the sink.
-ghost use Rattle.std.specs.Prelude.{◌≡◌, ◌⊎◌, Some, None, true};
+ghost use Rattle.std.specs.Prelude.{◌≡◌, ◌⊎◌, Some, None};
 ghost use Rattle.hm_outside.specs.Causes.{Rose};
-ghost use Rattle.hm_report.specs.Findings.{ascends};
-ghost use Rattle.hm_report.specs.Text.{report_text};
 ghost use Rattle.hm_sizes.specs.Configs.{IsValid};
-ghost use Rattle.hmreplay.specs.Endings.{Ends, TextEnds, status_of, line_of, status_after, fault_line};
+ghost use Rattle.hmreplay.specs.Endings.{Ends, SourceEnds, StressEnds, TextEnds, status_of, line_of, status_after, fault_line};
 ghost use Rattle.hmreplay.specs.Streams.{IsTakenWithin, IsWritten};
 ghost use Rattle.hmreplay.specs.Words.{config_of};
 
@@ -12,12 +10,12 @@ use crate::reading::{ReadStop, read_all};
 use crate::refusal::Refusal;
 use crate::rounds::{Ran, run_trace};
 use crate::trace_fault::line_of_fault;
-use crate::words::{Options, read_words};
+use crate::words::{Command, Options, read_words};
 use crate::writing::finish;
 use hm_heap::Closed;
 use hm_outside::{Gate, PageMaker, Sink, Source};
-use hm_report::{has_finding, report};
-use hm_trace::{ReadRefusal, TraceFault, read_trace};
+use hm_report::{has_finding, report, summary};
+use hm_trace::{ReadRefusal, TraceFault, read_trace, stress_trace};
 use std::alloc::Global;
 use std::sync::Wait;
 use std::thread::Threads;
@@ -68,23 +66,16 @@ fn refuse_text<K: Sink, P>(alloc: Global, sink: &mut K, fault: &TraceFault) -> R
     }
 }
 
-// Writes the report of a trace that was run.
-fn write_report<K: Sink, P: Drop>(alloc: Global, sink: &mut K, ran: Ran<P>) -> Run<P>
-    requires { ascends ran.results.items ≡ true }
-    ensures { ((result.status ≡ 6) × (K.held sink.new ≡ K.held sink.old) × (result.closed ≡ None))
-        ⊎ ((result.closed ≡ Some ran.closed)
-        × IsWritten result.status (status_after ran.results.items) (K.held sink.old) (K.held sink.new)
-        (Rose (K.faults sink.old) (K.faults sink.new)) (report_text ran.results.items)) }
+// Writes the text of a trace that was run.
+fn write_results<K: Sink, P: Drop>(sink: &mut K, ran: Ran<P>, text: &[u8]) -> Run<P>
+    ensures closed { result.closed ≡ Some ran.closed }
+    ensures written { IsWritten result.status (status_after ran.results.items) (K.held sink.old) (K.held sink.new)
+        (Rose (K.faults sink.old) (K.faults sink.new)) text.now }
 {
-    match report(alloc, &ran.results) {
-        Ok(text) => {
-            let planned = if has_finding(&ran.results) { 1 } else { 0 };
-            Run {
-                status: finish(sink, planned, &text),
-                closed: Some(ran.closed),
-            }
-        }
-        Err(_) => give_up(),
+    let planned = if has_finding(&ran.results) { 1 } else { 0 };
+    Run {
+        status: finish(sink, planned, text),
+        closed: Some(ran.closed),
     }
 }
 
@@ -107,14 +98,71 @@ fn run_text<R: Threads + Wait + Sync, K: Sink, M: PageMaker, G: Gate>(
         Err(ReadRefusal::Fault(fault)) => return refuse_text(alloc, sink, &fault),
         Err(ReadRefusal::NoMemory) => return give_up(),
     };
-    match run_trace(rt, alloc, options, maker, gate, &trace) {
-        Ok(ran) => write_report(alloc, sink, ran),
+    let ran = match run_trace(rt, alloc, options, maker, gate, &trace) {
+        Ok(ran) => ran,
+        Err(_) => return give_up(),
+    };
+    match report(alloc, &ran.results) {
+        Ok(text) => write_results(sink, ran, &text),
         Err(_) => give_up(),
     }
 }
 
-/// Reads a trace from the source, runs it, and writes the report of its results, or one line that says
-/// why it was refused. All memory is taken before the first byte is written.
+// Runs the text that the source holds.
+fn run_source<R: Threads + Wait + Sync, S: Source, K: Sink, M: PageMaker, G: Gate>(
+    rt: &R,
+    alloc: Global,
+    options: &Options,
+    source: &mut S,
+    sink: &mut K,
+    maker: &mut M,
+    gate: &G,
+) -> Run<M::P>
+    requires valid { IsValid (config_of options.now) }
+    ensures bound { IsTakenWithin 67108865 (S.left source.old) (S.left source.new) }
+    ensures ends { SourceEnds M.P.Pages result.status result.closed options.now (S.left source.old) (S.left source.new)
+        (Rose (S.faults source.old) (S.faults source.new)) (K.held sink.old) (K.held sink.new)
+        (Rose (K.faults sink.old) (K.faults sink.new)) }
+{
+    match read_all(alloc, source) {
+        Ok(bytes) => run_text(rt, alloc, options, &bytes, sink, maker, gate),
+        Err(ReadStop::NoMemory) => give_up(),
+        Err(ReadStop::Fault) => refuse(sink, Refusal::ReadFault),
+        Err(ReadStop::TooLong) => refuse(sink, Refusal::TooLong),
+    }
+}
+
+// Runs the trace that a number makes.
+fn run_stress<R: Threads + Wait + Sync, K: Sink, M: PageMaker, G: Gate>(
+    rt: &R,
+    alloc: Global,
+    options: &Options,
+    number: u64,
+    sink: &mut K,
+    maker: &mut M,
+    gate: &G,
+) -> Run<M::P>
+    requires valid { IsValid (config_of options.now) }
+    ensures { StressEnds M.P.Pages result.status result.closed options.now number (K.held sink.old) (K.held sink.new)
+        (Rose (K.faults sink.old) (K.faults sink.new)) }
+{
+    let trace = match stress_trace(alloc, number) {
+        Ok(trace) => trace,
+        Err(_) => return give_up(),
+    };
+    let ran = match run_trace(rt, alloc, options, maker, gate, &trace) {
+        Ok(ran) => ran,
+        Err(_) => return give_up(),
+    };
+    match summary(alloc, number, &ran.results) {
+        Ok(text) => write_results(sink, ran, &text),
+        Err(_) => give_up(),
+    }
+}
+
+/// Reads a trace from the source, or makes it from a number, as the words say; runs it, and writes the report or
+/// the summary of its results, or one line that says why it was refused. All memory is taken before the first
+/// byte is written.
 pub fn replay<R: Threads + Wait + Sync, S: Source, K: Sink, M: PageMaker, G: Gate>(
     rt: &R,
     alloc: Global,
@@ -129,14 +177,14 @@ pub fn replay<R: Threads + Wait + Sync, S: Source, K: Sink, M: PageMaker, G: Gat
         (Rose (S.faults source.old) (S.faults source.new)) (K.held sink.old) (K.held sink.new)
         (Rose (K.faults sink.old) (K.faults sink.new)) }
 {
-    let options = match read_words(words) {
-        Some(options) => options,
+    let asked = match read_words(words) {
+        Some(asked) => asked,
         None => return refuse(sink, Refusal::Usage),
     };
-    match read_all(alloc, source) {
-        Ok(bytes) => run_text(rt, alloc, &options, &bytes, sink, maker, gate),
-        Err(ReadStop::NoMemory) => give_up(),
-        Err(ReadStop::Fault) => refuse(sink, Refusal::ReadFault),
-        Err(ReadStop::TooLong) => refuse(sink, Refusal::TooLong),
+    match asked.command {
+        Command::Run => run_source(rt, alloc, &asked.options, source, sink, maker, gate),
+        Command::Stress { number } => {
+            run_stress(rt, alloc, &asked.options, number, sink, maker, gate)
+        }
     }
 }

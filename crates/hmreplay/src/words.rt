@@ -1,7 +1,7 @@
-//! The words after the program's name: the command `run` and its options.
+//! The words after the program's name: a command and its options.
 ghost use Rattle.std.specs.Prelude.{◌≡◌, IfSome};
 ghost use Rattle.hm_sizes.specs.Configs.{IsValid};
-ghost use Rattle.hmreplay.specs.Words.{are_digits, is_numeral, number_in, is_space, is_value, value_of, names, given, is_given, is_option, are_options, options_in, options_of, config_of};
+ghost use Rattle.hmreplay.specs.Words.{are_digits, is_numeral, number_in, is_space, is_value, value_of, names, given, is_given, is_option, are_options, options_in, with_options, stress_in, asked_in, config_of};
 
 use hm_sizes::Config;
 
@@ -13,12 +13,26 @@ pub enum OptionName {
     LargeSpace,
 }
 
-/// What the words ask for: the number of the run, and the bytes of a class region and of the large space.
+/// What is run: a trace from the source, or the trace that a number makes.
+#[derive(Clone, Copy, Debug, PartialEq, Eq, Drop)]
+pub enum Command {
+    Run,
+    Stress { number: u64 },
+}
+
+/// What the options say: the number of the run, and the bytes of a class region and of the large space.
 #[derive(Clone, Copy, Debug, PartialEq, Eq, Drop)]
 pub struct Options {
     pub seed: u64,
     pub class_region: u64,
     pub large_space: u64,
+}
+
+/// What the words ask for.
+#[derive(Clone, Copy, Debug, PartialEq, Eq, Drop)]
+pub struct Asked {
+    pub command: Command,
+    pub options: Options,
 }
 
 impl Options {
@@ -164,15 +178,49 @@ fn options_in(words: &[String]) -> Options
     }
 }
 
-/// What the words ask for, or None where they are not accepted.
-pub fn read_words(words: &[String]) -> Option<Options>
-    ensures exact { result ≡ options_of words.now }
-    ensures valid { IfSome result (λ o. IsValid (config_of o)) }
+// A command with its options.
+fn with_options(command: Command, words: &[String]) -> Option<Asked>
+    ensures exact { result ≡ with_options command words.now }
+    ensures valid { IfSome result (λ asked. IsValid (config_of asked.options)) }
+{
+    if are_options(words) {
+        Some(Asked {
+            command,
+            options: options_in(words),
+        })
+    } else {
+        None
+    }
+}
+
+// The words behind `stress`: a number, and options.
+fn stress_in(words: &[String]) -> Option<Asked>
+    ensures exact { result ≡ stress_in words.now }
+    ensures valid { IfSome result (λ asked. IsValid (config_of asked.options)) }
 {
     match words {
-        [command, options @ ..]
-            if command.as_bytes() == b"run".as_slice() && are_options(options) => {
-            Some(options_in(options))
+        [word, options @ ..] => {
+            let number = number(word)?;
+            with_options(Command::Stress { number }, options)
+        }
+        _ => None,
+    }
+}
+
+/// What the words ask for, or None where they are not accepted.
+pub fn read_words(words: &[String]) -> Option<Asked>
+    ensures exact { result ≡ asked_in words.now }
+    ensures valid { IfSome result (λ asked. IsValid (config_of asked.options)) }
+{
+    match words {
+        [command, options @ ..] => {
+            if command.as_bytes() == b"run".as_slice() {
+                with_options(Command::Run, options)
+            } else if command.as_bytes() == b"stress".as_slice() {
+                stress_in(options)
+            } else {
+                None
+            }
         }
         _ => None,
     }
