@@ -25,6 +25,8 @@ mod Spelled
 mod SpelledLines
 mod Stays
 mod Steps
+mod StressNames
+mod Stressed
 mod TextFaults
 mod Tracks
 mod Values

@@ -19,11 +19,11 @@ list_all_push : {X : Type 0} (p : X → Bool) (xs : List X) (x : X) → list_all
 list_all_push p [] x h k = joined (p x) true k refl
 list_all_push p (y ∷ xs) x h k = let b = both (p y) (list_all p xs) h in joined _ _ b.0 (list_all_push p xs x b.1 k)
 
-abbrev last_of : ℕ → List ScriptView → ℕ
+abbrev pub last_of : ℕ → List ScriptView → ℕ
 last_of last [] = last
 last_of last (s ∷ ss) = last_of s.thread ss
 
-last_push : (last : ℕ) (ss : List ScriptView) (s : ScriptView) → last_of last (ss ++ s ∷ []) ≡ s.thread
+pub last_push : (last : ℕ) (ss : List ScriptView) (s : ScriptView) → last_of last (ss ++ s ∷ []) ≡ s.thread
 last_push last [] s = refl
 last_push last (x ∷ ss) s = last_push x.thread ss s
 
@@ -43,7 +43,7 @@ test_follows before last s rest e =
     let c = both (ltb last s.thread) (is_script s) b.0 in
     (record { later = ltb-true _ _ c.0; fits = c.1; apart = b.1 }, a.1)
 
-are_push : (before : List ScriptView) (last : ℕ) (ss : List ScriptView) (s : ScriptView) → are_scripts before last ss ≡ true → Follows (before ++ ss) (last_of last ss) s → are_scripts before last (ss ++ s ∷ []) ≡ true
+pub are_push : (before : List ScriptView) (last : ℕ) (ss : List ScriptView) (s : ScriptView) → are_scripts before last ss ≡ true → Follows (before ++ ss) (last_of last ss) s → are_scripts before last (ss ++ s ∷ []) ≡ true
 are_push before last [] s h f = follows_test before last s true (subst (λ (b : List ScriptView). Follows b last s) (append-nil before) f) refl
 are_push before last (x ∷ ss) s h f =
     let t = test_follows before last x (are_scripts (before ++ x ∷ []) x.thread ss) h in

@@ -3,6 +3,7 @@ pub mod Names
 pub mod Numbers
 pub mod Traces
 pub mod Spelling
+pub mod Stress
 pub mod Lines
 pub mod Before
 pub mod Faults

@@ -1,4 +1,5 @@
-//! Traces of calls to the allocator: what they are, how they are spelled, and the faults of a text that is none.
+//! Traces of calls to the allocator: what they are, how they are spelled, the faults of a text that is none, and
+//! the stress traces.
 #![tactic(auto)]
 
 mod fault;
@@ -12,17 +13,20 @@ mod reading;
 mod setters;
 mod step;
 mod step_words;
+mod stress;
 mod trace;
 mod words;
 mod writing;
 
 pub use fault::{FaultKind, ReadRefusal, TraceFault};
 pub use laws::{
-    spellings_are_short, spellings_differ, spellings_have_no_fault, texts_without_fault_are_spelled,
+    spellings_are_short, spellings_differ, spellings_have_no_fault, stress_is_trace,
+    texts_without_fault_are_spelled,
 };
 pub use names::Name;
 pub use reading::read_trace;
 pub use step::{Place, Step};
+pub use stress::stress_trace;
 pub use trace::{Round, Script, Trace};
 pub use writing::write_trace;
 

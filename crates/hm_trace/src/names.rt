@@ -82,6 +82,15 @@ impl Name {
         }
     }
 
+    /// The name that a word is, where it is known to be one.
+    #[tactic(auto, unfolding(crate::specs::Names::is_name))]
+    pub(crate) fn of_name(word: &[u8]) -> Name
+        requires { is_name word.now ≡ true }
+        ensures { name_view result ≡ word.now }
+    {
+        Name::kept(word)
+    }
+
     /// Its bytes, 1 to 32.
     pub fn bytes(&self) -> &[u8]
         ensures { result.now ≡ name_view self.now }

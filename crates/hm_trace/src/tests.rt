@@ -1,5 +1,7 @@
-//! Texts that are traces, and the first faults of texts that are none.
-use crate::{FaultKind, ReadRefusal, TraceFault, read_trace, write_trace};
+//! Texts that are traces, the first faults of texts that are none, and stress traces.
+use crate::{
+    FaultKind, Name, Place, ReadRefusal, Step, TraceFault, read_trace, stress_trace, write_trace,
+};
 use std::alloc::{AllocError, Global};
 use std::process::Abort;
 use std::test::Fail;
@@ -204,4 +206,59 @@ fn traces_are_written_as_they_were_read(rt: HostRuntime) -> Result<(), Fail> {
         "end\n",
     )?;
     expect_same(&rt, alloc, &steps)
+}
+
+/// Groups of the stress traces of 0 and of 2^64 - 1: the thread, the group's number, its name, its size, and the
+/// name that it frees. In the first, x(1) is 7806831264735756412 and v is 908834774; in the last, x(0) is 0.
+const GROUPS: [(u64, u32, usize, &str, u64, &str); 7] = [
+    (0, 1, 0, "t1n0", 2007, "t1n25"),
+    (0, 1, 1, "t1n1", 858, "t1n26"),
+    (0, 1, 2, "t1n2", 205, "t1n27"),
+    (0, 1, 111, "t1n11", 200_000, "t1n36"),
+    (0, 16, 2499, "t16n49", 1239, "t16n24"),
+    (u64::MAX, 1, 0, "t1n0", 1644, "t1n25"),
+    (u64::MAX, 16, 0, "t16n0", 3520, "t16n25"),
+];
+
+/// The steps of a group.
+fn group(name: &str, size: u64, other: &str) -> Option<[Step; 5]> {
+    let name = Name::of(name.as_bytes())?;
+    let other = Name::of(other.as_bytes())?;
+    let place = Place::Named { name, offset: 0 };
+    Some([
+        Step::Malloc { name, size },
+        Step::Write {
+            place,
+            len: 1,
+            byte: 0x41,
+        },
+        Step::Size { place },
+        Step::Read { place, len: 1 },
+        Step::Free {
+            place: Place::Named {
+                name: other,
+                offset: 0,
+            },
+        },
+    ])
+}
+
+#[test]
+fn stress_traces(rt: HostRuntime) -> Result<(), Fail> {
+    let alloc = rt.alloc();
+    for (number, thread, j, name, size, other) in GROUPS {
+        let trace = stress_trace(alloc, number)?;
+        assert_eq!(rt; trace.rounds().len(), 1);
+        let scripts = trace.rounds().first().ok_or("no round")?.scripts();
+        assert_eq!(rt; scripts.len(), 16);
+        let script = scripts
+            .iter()
+            .find(|script| script.thread() == thread)
+            .ok_or("no thread")?;
+        assert_eq!(rt; script.steps().len(), 12_500);
+        let steps = script.steps().chunks(5).nth(j).ok_or("no group")?;
+        let expected = group(name, size, other).ok_or("no name")?;
+        assert_eq!(rt; steps, expected.as_slice());
+    }
+    Ok(())
 }

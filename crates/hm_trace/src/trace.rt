@@ -1,4 +1,5 @@
-//! Scripts, rounds and traces. Each keeps as a fact what the grammar says of it, and reading alone makes them.
+//! Scripts, rounds and traces. Each keeps as a fact what the grammar says of it, and only reading and the stress trace
+//! make them.
 ghost use Rattle.std.specs.Prelude.{◌≡◌, ◌≤◌, true, length};
 ghost use Rattle.std.specs.List.{list_all};
 ghost use Rattle.hm_trace.specs.Traces.{is_step, is_script, is_round, IsTrace};

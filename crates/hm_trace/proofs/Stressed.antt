@@ -1,0 +1,115 @@
+-- A stress trace is a trace.
+use Rattle.std.proofs.Common.{◌≡◌, ◌≢◌, ℕ, zero, suc, ◌+◌, ◌*◌, ◌%◌, ◌^◌, ◌<◌, ◌≤◌, Bool, true, false, not, ◌||◌, cond, List, [], ◌∷◌, ◌++◌, length, refl, ◌∙◌, ap, arith, length-append, pos}
+use Rattle.std.specs.List.{list_all, list_any, flat_map}
+use Rattle.std.proofs.lemmas.Bool.{le-leb}
+use Rattle.std.proofs.lemmas.Grind.{flat_map-append}
+use Rattle.std.proofs.lemmas.List.{append-nil, length-map}
+use Rattle.std.proofs.lemmas.List.Folds.{list_any-append}
+use Rattle.hm_trace.specs.Names.{is_name}
+use Rattle.hm_trace.specs.Stress.{drawn, group, groups, name_at, script, scripts, size_for, stress}
+use Rattle.hm_trace.specs.Traces.{IsTrace, avoids, is_round, is_script, is_set, is_step, is_u64, sets_again, sets_name, step_count}
+use Rattle.hm_trace.specs.declared.step.Step.{Step}
+use Rattle.hm_trace.specs.Views.{Free, Malloc, Named, Read, ScriptView, Size, Write, step_view, steps_view}
+use Rattle.hm_trace.proofs.Choices.{joined}
+use Rattle.hm_trace.proofs.Stays.{are_push, last_of, last_push}
+use Rattle.hm_trace.proofs.StressNames.{is_name_at, list_all_both, names_differ}
+
+-- ---- the steps of a thread are steps
+
+fits_either : (b : Bool) (x y : ℕ) → is_u64 x ≡ true → is_u64 y ≡ true → is_u64 (cond b x y) ≡ true
+fits_either true x y h k = h
+fits_either false x y h k = k
+
+size_fits : (v : ℕ) → is_u64 (size_for v) ≡ true
+size_fits v = fits_either _ 200000 (1 + v % 4096) refl (le-leb _ _ (omega arith))
+
+five_fit : (name other : List ℕ) (size : ℕ) → is_name name ≡ true → is_name other ≡ true → is_u64 size ≡ true
+    → list_all is_step (Malloc name size ∷ Write (Named name (pos 0)) 1 0x41 ∷ Size (Named name (pos 0)) ∷ Read (Named name (pos 0)) 1 ∷ Free (Named other (pos 0)) ∷ []) ≡ true
+five_fit name other size n o s = rw (n, o, s) refl
+
+group_fits : (t j v : ℕ) → t < 2 ^ 32 → list_all is_step (group t j v) ≡ true
+group_fits t j v few = five_fit (name_at t (j % 50)) (name_at t ((j + 25) % 50)) (size_for v) (is_name_at t _ few (omega arith)) (is_name_at t _ few (omega arith)) (size_fits v)
+
+groups_fit : (number t n : ℕ) → t < 2 ^ 32 → list_all is_step (groups number t n) ≡ true
+unfolding groups
+groups_fit number t zero few = refl
+groups_fit number t (suc j) few = list_all_both is_step (groups number t j) (group t j (drawn number t j)) (groups_fit number t j few) (group_fits t j (drawn number t j) few)
+
+pub script_fits : (number t : ℕ) → 1 ≤ t → t ≤ 16 → is_script (script number t) ≡ true
+script_fits number t low high = joined _ _ (joined _ _ (le-leb _ _ low) (le-leb _ _ high)) (groups_fit number t 2500 (omega arith))
+
+-- ---- how many steps there are
+
+length_groups : (number t n : ℕ) → length (groups number t n) ≡ 5 * n
+unfolding groups
+length_groups number t zero = refl
+length_groups number t (suc j) = omega (arith, length-append (groups number t j) (group t j (drawn number t j)), length_groups number t j)
+
+pub script_few : (steps : List Step) (number t : ℕ) → steps_view steps ≡ groups number t 2500 → length steps ≤ 200000
+script_few steps number t is = omega (arith, length_groups number t 2500, ap length is, length-map steps step_view)
+
+length_scripts : (number n : ℕ) → length (flat_map (λ (s : ScriptView). s.steps) (scripts number n)) ≡ 12500 * n
+unfolding scripts
+length_scripts number zero = refl
+length_scripts number (suc t) =
+    ap length (flat_map-append (λ (s : ScriptView). s.steps) (scripts number t) (script number (suc t) ∷ []))
+    ∙ omega (arith, length-append (flat_map (λ (s : ScriptView). s.steps) (scripts number t)) (groups number (suc t) 2500 ++ []), length-append (groups number (suc t) 2500) [], length_groups number (suc t) 2500, length_scripts number t)
+
+-- ---- no name is set by two threads
+
+group_differs : (t j v u i : ℕ) → t < 2 ^ 32 → u < 2 ^ 32 → t ≢ u → list_any (sets_name (name_at u i)) (group t j v) ≡ false
+group_differs t j v u i few small other = ap (λ b. b || false) (names_differ t u (j % 50) i few small other)
+
+groups_differ : (number t n u i : ℕ) → t < 2 ^ 32 → u < 2 ^ 32 → t ≢ u → list_any (sets_name (name_at u i)) (groups number t n) ≡ false
+unfolding groups
+groups_differ number t zero u i few small other = refl
+groups_differ number t (suc j) u i few small other =
+    let v = drawn number t j in
+    list_any-append (sets_name (name_at u i)) (groups number t j) (group t j v)
+    ∙ ap (λ b. b || list_any (sets_name (name_at u i)) (group t j v)) (groups_differ number t j u i few small other)
+    ∙ group_differs t j v u i few small other
+
+scripts_differ : (number n u i : ℕ) → n < u → u < 2 ^ 32 → is_set (name_at u i) (scripts number n) ≡ false
+unfolding scripts
+scripts_differ number zero u i later small = refl
+scripts_differ number (suc t) u i later small =
+    let sets : ScriptView → Bool = λ s. list_any (sets_name (name_at u i)) s.steps in
+    list_any-append sets (scripts number t) (script number (suc t) ∷ [])
+    ∙ ap (λ b. b || (list_any (sets_name (name_at u i)) (groups number (suc t) 2500) || false)) (scripts_differ number t u i (omega arith) small)
+    ∙ ap (λ b. b || false) (groups_differ number (suc t) 2500 u i (omega arith) small (omega arith))
+
+group_avoids : (ss : List ScriptView) (t j v : ℕ) → is_set (name_at t (j % 50)) ss ≡ false → avoids ss (group t j v) ≡ true
+group_avoids ss t j v h = rw h refl
+
+groups_avoid : (number t n : ℕ) (ss : List ScriptView) → ((i : ℕ) → is_set (name_at t i) ss ≡ false) → avoids ss (groups number t n) ≡ true
+unfolding groups
+groups_avoid number t zero ss h = refl
+groups_avoid number t (suc j) ss h = list_all_both (λ s. not (sets_again ss s)) (groups number t j) (group t j (drawn number t j)) (groups_avoid number t j ss h) (group_avoids ss t j (drawn number t j) (h (j % 50)))
+
+-- ---- the round and the trace
+
+last_thread : (number n : ℕ) → last_of 0 (scripts number n) ≡ n
+unfolding scripts
+last_thread number zero = refl
+last_thread number (suc t) = last_push 0 (scripts number t) (script number (suc t))
+
+pub round_fits : (number n : ℕ) → n ≤ 16 → is_round (scripts number n) ≡ true
+unfolding scripts
+round_fits number zero few = refl
+round_fits number (suc t) few =
+    are_push [] 0 (scripts number t) (script number (suc t)) (round_fits number t (omega arith))
+    (record {
+      later = omega (arith, last_thread number t);
+      fits = script_fits number (suc t) (omega arith) few;
+      apart = groups_avoid number (suc t) 2500 (scripts number t) (λ i. scripts_differ number t (suc t) i (omega arith) (omega arith));
+    })
+
+count_is : (number : ℕ) → step_count (stress number) ≡ 200000
+count_is number = ap length (append-nil (flat_map (λ (s : ScriptView). s.steps) (scripts number 16))) ∙ omega (arith, length_scripts number 16)
+
+pub traces : (number : ℕ) → IsTrace (stress number)
+traces number = record {
+  each = joined _ _ (round_fits number 16 (omega arith)) refl;
+  rounds_fit = omega arith;
+  steps_fit = omega (arith, count_is number);
+}

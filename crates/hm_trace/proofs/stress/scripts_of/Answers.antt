@@ -1,0 +1,9 @@
+use Rattle.std.proofs.Common.{◌+◌, arith}
+use Rattle.hm_trace.proofs.Stressed.{script_few, script_fits}
+use Rattle.hm_trace.proofs.stress.scripts_of.Goals as goal
+
+pub of-requires-clause-valid : goal.of-requires-clause-valid
+of-requires-clause-valid c = rw c.in_ok-steps.ensures (script_fits c.args.number (c.loop-i.i + 1) (omega arith) (omega arith))
+
+pub of-requires-clause-few : goal.of-requires-clause-few
+of-requires-clause-few c = script_few c.in_ok-steps.steps.items c.args.number (c.loop-i.i + 1) c.in_ok-steps.ensures

@@ -1,0 +1,109 @@
+//! The stress trace of a number: one round in which each thread makes groups of five steps, whose sizes follow
+//! from the number.
+ghost use Rattle.std.specs.Prelude.{◌≡◌, ◌+◌, ◌≤◌, ◌<◌, ◌^◌, ◌++◌, IfOk, OnOk};
+ghost use Rattle.hm_trace.specs.Stress.{first, next, size_for, name_at, group, groups, script, scripts, stress};
+ghost use Rattle.hm_trace.specs.Views.{name_view, steps_view};
+
+use crate::limits::MAX_THREADS;
+use crate::names::Name;
+use crate::step::{Place, Step, push_step};
+use crate::trace::{Round, Script, Trace};
+use hm_outside::NoMemory;
+use std::alloc::{AllocError, Global};
+
+/// How many groups each thread makes.
+const GROUPS: u64 = 2500;
+
+/// How many names each thread sets in turn.
+const NAMES: u64 = 50;
+
+/// The stress trace of a number.
+pub fn stress_trace(alloc: Global, number: u64) -> Result<Trace, NoMemory>
+    ensures exact { IfOk result (λ trace. trace ≡ stress number) }
+{
+    let scripts = scripts_of(alloc, number)?;
+    let mut rounds = Vec::new(alloc);
+    rounds.push(Round::of(scripts))?;
+    Ok(Trace::of(rounds))
+}
+
+#[tactic(auto, unfolding(crate::specs::Stress::scripts))]
+fn scripts_of(alloc: Global, number: u64) -> Result<Vec<Script>, AllocError>
+    ensures { IfOk result (λ list. list.items ≡ scripts number 16) }
+{
+    let mut scripts = Vec::new(alloc);
+    for i in 0..MAX_THREADS {
+        let thread = i + 1;
+        let steps = steps_of(alloc, number, thread)?;
+        scripts.push(Script::of(thread, steps))?;
+    }
+    Ok(scripts)
+}
+
+#[tactic(auto, unfolding(crate::specs::Stress::state, crate::specs::Stress::groups))]
+fn steps_of(alloc: Global, number: u64, thread: u32) -> Result<Vec<Step>, AllocError>
+    ensures { IfOk result (λ list. steps_view list.items ≡ groups number thread 2500) }
+{
+    let mut steps = Vec::new(alloc);
+    let mut x = first(number, thread);
+    for j in 0..GROUPS {
+        x = next(x);
+        push_group(alloc, &mut steps, thread, j, x >> 33)?;
+    }
+    Ok(steps)
+}
+
+/// What a thread's numbers begin with.
+fn first(number: u64, thread: u32) -> u64
+    ensures { result ≡ first number thread }
+{
+    number.wrapping_mul(16).wrapping_add(u64::from(thread))
+}
+
+/// The number after `x`.
+fn next(x: u64) -> u64
+    ensures { result ≡ next x }
+{
+    x.wrapping_mul(6_364_136_223_846_793_005)
+        .wrapping_add(1_442_695_040_888_963_407)
+}
+
+/// Adds the steps of a thread's group `j`, whose size follows from `v`. The block that it frees is that of 25
+/// groups before.
+fn push_group(
+    alloc: Global,
+    steps: &mut Vec<Step>,
+    thread: u32,
+    j: u64,
+    v: u64,
+) -> Result<(), AllocError>
+    requires { j < 2500 }
+    ensures { OnOk result (steps_view steps.new.items ≡ steps_view steps.old.items ++ group thread j v) }
+{
+    let name = name_of(alloc, thread, j % NAMES)?;
+    let other = name_of(alloc, thread, (j + NAMES / 2) % NAMES)?;
+    let (size, len, byte) = (size_for(v), 1, 0x41);
+    let place = Place::Named { name, offset: 0 };
+    push_step(steps, Step::Malloc { name, size })?;
+    push_step(steps, Step::Write { place, len, byte })?;
+    push_step(steps, Step::Size { place })?;
+    push_step(steps, Step::Read { place, len })?;
+    let place = Place::Named {
+        name: other,
+        offset: 0,
+    };
+    push_step(steps, Step::Free { place })
+}
+
+fn size_for(v: u64) -> u64
+    ensures { result ≡ size_for v }
+{
+    if v % 64 == 0 { 200_000 } else { 1 + v % 4096 }
+}
+
+fn name_of(alloc: Global, thread: u32, i: u64) -> Result<Name, AllocError>
+    ensures { IfOk result (λ name. name_view name ≡ name_at thread i) }
+{
+    let text = format!(in alloc; "t{thread}n{i}")?;
+    Ok(Name::of_name(text.as_bytes()))
+}
