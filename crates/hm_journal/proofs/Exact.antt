@@ -87,15 +87,18 @@ record AreSame (es fs : List Entry) (a b : ℕ) (rest more : List Line) : Type 0
 no_entry : (n : ℕ) → Fits64 n → 99 ≡ get_or (decimal n) 0 0 → ⊥
 no_entry n h e = omega (arith, first_digit n h, e)
 
-same_entries : (es fs : List Entry) (a b : ℕ) (rest more : List Line) → Each EntryFits es → Each EntryFits fs → Fits64 a → Fits64 b
+same_entries : (es fs : List Entry) (a b : ℕ) (rest more : List Line) → Each EntryFits es → Each EntryFits fs
+    → Fits64 a → Fits64 b
     → map entry_words es ++ closing a ∷ rest ≡ map entry_words fs ++ closing b ∷ more → AreSame es fs a b rest more
 same_entries [] [] a b rest more h g ha hb e = record {
   entries = refl;
   faults = sym (number_is a ha) ∙ ap (λ (ls : List Line). number_at 1 (get_or ls 0 [])) e ∙ number_is b hb;
   after = ap (drop 1) e;
 }
-same_entries [] (f ∷ fs) a b rest more h g ha hb e = absurd (no_entry f.who.caller (omega (arith, g.0.who.0)) (ap first_byte e))
-same_entries (x ∷ es) [] a b rest more h g ha hb e = absurd (no_entry x.who.caller (omega (arith, h.0.who.0)) (sym (ap first_byte e)))
+same_entries [] (f ∷ fs) a b rest more h g ha hb e =
+    absurd (no_entry f.who.caller (omega (arith, g.0.who.0)) (ap first_byte e))
+same_entries (x ∷ es) [] a b rest more h g ha hb e =
+    absurd (no_entry x.who.caller (omega (arith, h.0.who.0)) (sym (ap first_byte e)))
 same_entries (x ∷ es) (f ∷ fs) a b rest more h g ha hb e =
     let first : x ≡ f = same_entry x f h.0 g.0 (ap (λ (ls : List Line). get_or ls 0 []) e) in
     let others = same_entries es fs a b rest more h.1 g.1 ha hb (ap (drop 1) e) in
@@ -110,22 +113,30 @@ unrolled_at : (region : Line) (entries : List Line) (closed : Line) (rest last :
 unrolled_at region entries closed rest last = simp append_assoc
 
 unrolled : (h : History) (hs : List History)
-    → histories_lines (h ∷ hs) ++ ending ≡ region_words h ∷ (map entry_words h.entries ++ closing h.faults ∷ (histories_lines hs ++ ending))
+    → histories_lines (h ∷ hs) ++ ending
+    ≡ region_words h ∷ (map entry_words h.entries ++ closing h.faults ∷ (histories_lines hs ++ ending))
 unrolled h hs = unrolled_at (region_words h) (map entry_words h.entries) (closing h.faults) (histories_lines hs) ending
 
-same_histories : (hs ks : List History) → Each HistoryFits hs → Each HistoryFits ks → histories_lines hs ++ ending ≡ histories_lines ks ++ ending → hs ≡ ks
+same_histories : (hs ks : List History) → Each HistoryFits hs → Each HistoryFits ks
+    → histories_lines hs ++ ending ≡ histories_lines ks ++ ending → hs ≡ ks
 same_histories [] [] f g e = refl
 same_histories [] (k ∷ ks) f g e = let is : 101 ≡ 114 = ap first_byte e in absurd (omega (arith, is))
 same_histories (h ∷ hs) [] f g e = let is : 114 ≡ 101 = ap first_byte e in absurd (omega (arith, is))
 same_histories (h ∷ hs) (k ∷ ks) f g e =
     let lines = sym (unrolled h hs) ∙ e ∙ unrolled k ks in
     let line : region_words h ≡ region_words k = ap (λ (ls : List Line). get_or ls 0 []) lines in
-    let region : h.region.0 ≡ k.region.0 = sym (is32 h.region.0 f.0.region) ∙ ap (number_at 1) line ∙ is32 k.region.0 g.0.region in
-    let first : h.first ≡ k.first = sym (number_is h.first f.0.first) ∙ ap (number_at 2) line ∙ number_is k.first g.0.first in
-    let inner = same_entries h.entries k.entries h.faults k.faults (histories_lines hs ++ ending) (histories_lines ks ++ ending)
-    (each EntryFits h.entries f.0.entries) (each EntryFits k.entries g.0.entries) f.0.faults g.0.faults (ap (drop 1) lines) in
+    let region : h.region.0 ≡ k.region.0 =
+    sym (is32 h.region.0 f.0.region) ∙ ap (number_at 1) line ∙ is32 k.region.0 g.0.region in
+    let first : h.first ≡ k.first =
+    sym (number_is h.first f.0.first) ∙ ap (number_at 2) line ∙ number_is k.first g.0.first in
+    let inner =
+    same_entries h.entries k.entries h.faults k.faults (histories_lines hs ++ ending) (histories_lines ks ++ ending)
+    (each EntryFits h.entries f.0.entries) (each EntryFits k.entries g.0.entries) f.0.faults g.0.faults
+    (ap (drop 1) lines) in
     let others : hs ≡ ks = same_histories hs ks f.1 g.1 inner.after in
-    λ i. record { region = record { 0 = region i }; first = first i; entries = inner.entries i; faults = inner.faults i } ∷ others i
+    λ i. record
+    { region = record { 0 = region i }; first = first i; entries = inner.entries i; faults = inner.faults i } ∷
+    others i
 
 -- ---- no space and no line feed
 clean_lines : (es : List Entry) → Each EntryFits es → Each IsLine (map entry_words es)
@@ -134,14 +145,19 @@ clean_lines (e ∷ es) h = (clean_entry e h.0, clean_lines es h.1)
 
 clean_history : (h : History) → HistoryFits h → Each IsLine (history_lines h)
 clean_history h f = (
-  (search rules, (clean32 h.region.0 f.region, (clean_number h.first f.first, (clean_number (length h.entries) f.count, tt)))),
-  each_append IsLine (map entry_words h.entries) (closed_words h ∷ []) (clean_lines h.entries (each EntryFits h.entries f.entries))
+  (
+    search rules,
+    (clean32 h.region.0 f.region, (clean_number h.first f.first, (clean_number (length h.entries) f.count, tt))),
+  ),
+  each_append IsLine (map entry_words h.entries) (closed_words h ∷ [])
+      (clean_lines h.entries (each EntryFits h.entries f.entries))
       ((search rules, (clean_number h.faults f.faults, tt)), tt),
 )
 
 clean_histories : (hs : List History) → Each HistoryFits hs → Each IsLine (histories_lines hs)
 clean_histories [] f = tt
-clean_histories (h ∷ hs) f = each_append IsLine (history_lines h) (histories_lines hs) (clean_history h f.0) (clean_histories hs f.1)
+clean_histories (h ∷ hs) f =
+    each_append IsLine (history_lines h) (histories_lines hs) (clean_history h f.0) (clean_histories hs f.1)
 
 clean_journal : (c : Config) (n : ℕ) (hs : List History) → JournalFits c n hs → Each IsLine (journal_lines c n hs)
 clean_journal c n hs f = (
@@ -150,7 +166,8 @@ clean_journal c n hs f = (
     clean_config c f.config,
     (
       (search rules, (clean_number n f.seed, tt)),
-      each_append IsLine (histories_lines hs) ending (clean_histories hs (each HistoryFits hs f.histories)) (search rules),
+      each_append IsLine (histories_lines hs) ending (clean_histories hs (each HistoryFits hs f.histories))
+          (search rules),
     ),
   ),
 )

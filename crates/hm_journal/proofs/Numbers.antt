@@ -114,7 +114,9 @@ runs word = cond (eqb (get_or word 0 0) 45) [] (map run (slice_split (λ b. eqb 
 
 -- no comma stands in a run
 run_lacks : (r : ℕ × ℕ) → RunFits r → Lacks 44 (run_word r)
-run_lacks r h = let b = lacks 44 48 (byte_word r.0) (omega arith) (high_byte r.0) in (b.0, (b.1.0, (refl, lacks 44 48 (decimal r.1) (omega arith) (high_decimal r.1 h.1))))
+run_lacks r h =
+    let b = lacks 44 48 (byte_word r.0) (omega arith) (high_byte r.0) in
+    (b.0, (b.1.0, (refl, lacks 44 48 (decimal r.1) (omega arith) (high_decimal r.1 h.1))))
 
 runs_lack : (rs : List (ℕ × ℕ)) → Each RunFits rs → Each (Lacks 44) (map run_word rs)
 runs_lack [] h = tt
@@ -131,7 +133,9 @@ first_of r (s ∷ rs) = refl
 pub runs_is : (rs : List (ℕ × ℕ)) → Each RunFits rs → runs (runs_word rs) ≡ rs
 unfolding runs
 runs_is [] h = refl
-runs_is (r ∷ rs) h = rw (first_of r rs, not_dash (byte_word r.0) (high_byte r.0), split_joined 44 (run_word r) (map run_word rs) (runs_lack (r ∷ rs) h)) (runs_back (r ∷ rs) h)
+runs_is (r ∷ rs) h =
+    let words = split_joined 44 (run_word r) (map run_word rs) (runs_lack (r ∷ rs) h) in
+    rw (first_of r rs, not_dash (byte_word r.0) (high_byte r.0), words) (runs_back (r ∷ rs) h)
 
 -- ---- no space and no line feed stands in a word
 higher : (bytes : List ℕ) → High 48 bytes → High 33 bytes
@@ -157,4 +161,5 @@ clean_run r h = let b = clean_byte r.0 in (b.0, (b.1.0, (omega arith, clean_numb
 pub clean_runs : (rs : List (ℕ × ℕ)) → Each RunFits rs → High 33 (runs_word rs)
 clean_runs [] h = (omega arith, tt)
 clean_runs (r ∷ []) h = clean_run r h.0
-clean_runs (r ∷ s ∷ rs) h = each_append (λ b. 33 ≤ b) (run_word r) _ (clean_run r h.0) (omega arith, clean_runs (s ∷ rs) h.1)
+clean_runs (r ∷ s ∷ rs) h =
+    each_append (λ b. 33 ≤ b) (run_word r) _ (clean_run r h.0) (omega arith, clean_runs (s ∷ rs) h.1)

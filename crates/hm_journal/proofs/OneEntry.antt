@@ -131,7 +131,8 @@ reply_of ws = reply_at (get_or ws 0 []) (get_or ws 1 []) (get_or ws 2 []) (get_o
 
 reply_is : (r : Reply) → ReplyFits r → reply_of (reply_words r) ≡ r
 reply_is (Given addr usable) h = λ i. Given (number_is addr h.0 i) (number_is usable h.1 i)
-reply_is (Overwritten addr at found) h = λ i. Overwritten (number_is addr h.0 i) (number_is at h.1 i) (byte_is found h.2 i)
+reply_is (Overwritten addr at found) h =
+    λ i. Overwritten (number_is addr h.0 i) (number_is at h.1 i) (byte_is found h.2 i)
 reply_is Exhausted h = refl
 reply_is NoSpace h = refl
 reply_is PagesFailed h = refl
@@ -150,28 +151,49 @@ reply_is NotLive h = refl
 same_reply : (r s : Reply) → ReplyFits r → ReplyFits s → reply_words r ≡ reply_words s → r ≡ s
 same_reply r s h g e = sym (reply_is r h) ∙ ap reply_of e ∙ reply_is s g
 
-same_call : (c d : Call) (rest more : List (List ℕ)) → CallFits c → CallFits d → call_words c ++ rest ≡ call_words d ++ more → c ≡ d
+same_call : (c d : Call) (rest more : List (List ℕ)) → CallFits c → CallFits d
+    → call_words c ++ rest ≡ call_words d ++ more → c ≡ d
 same_call c d rest more h g e = sym (call_is c rest h) ∙ ap call_of e ∙ call_is d more g
 
 -- what follows the words of equal calls
 same_rest : (c d : Call) (rest more : List (List ℕ)) → c ≡ d → call_words c ++ rest ≡ call_words d ++ more → rest ≡ more
-same_rest c d rest more is e = append_cancel_left (call_words c) rest more (subst (λ (x : Call). call_words c ++ rest ≡ call_words x ++ more) (sym is) e)
+same_rest c d rest more is e =
+    append_cancel_left (call_words c) rest more
+    (subst (λ (x : Call). call_words c ++ rest ≡ call_words x ++ more) (sym is) e)
 
 -- ---- the whole entry
+-- what follows the call's words
+abbrev answer_words : Entry → List (List ℕ)
+answer_words e = codes ":" ∷ reply_words e.reply
+
 pub same_entry : (e f : Entry) → EntryFits e → EntryFits f → entry_words e ≡ entry_words f → e ≡ f
 same_entry e f h g w =
-    let tail : call_words e.call ++ codes ":" ∷ reply_words e.reply ≡ call_words f.call ++ codes ":" ∷ reply_words f.reply = ap (drop 18) w in
+    let tail : call_words e.call ++ answer_words e ≡ call_words f.call ++ answer_words f = ap (drop 18) w in
     let who : e.who ≡ f.who = sym (who_is e.who [] h.who) ∙ ap who_of w ∙ who_is f.who [] g.who in
     let before : e.faults_before ≡ f.faults_before =
-    sym (number_is e.faults_before h.before) ∙ ap (λ (ws : List (List ℕ)). number (get_or ws 5 [])) w ∙ number_is f.faults_before g.before in
+    sym (number_is e.faults_before h.before) ∙ ap (λ (ws : List (List ℕ)). number (get_or ws 5 [])) w
+    ∙ number_is f.faults_before g.before in
     let after : e.faults_after ≡ f.faults_after =
-    sym (number_is e.faults_after h.after) ∙ ap (λ (ws : List (List ℕ)). number (get_or ws 6 [])) w ∙ number_is f.faults_after g.after in
-    let draws : e.draws ≡ f.draws = sym (draws_is e.draws [] h.draws) ∙ ap (λ (ws : List (List ℕ)). draws_of (drop 7 ws)) w ∙ draws_is f.draws [] g.draws in
-    let choices : e.choices ≡ f.choices = sym (choices_is e.choices [] h.choices) ∙ ap (λ (ws : List (List ℕ)). choices_of (drop 11 ws)) w ∙ choices_is f.choices [] g.choices in
-    let call : e.call ≡ f.call = same_call e.call f.call (codes ":" ∷ reply_words e.reply) (codes ":" ∷ reply_words f.reply) h.call g.call tail in
-    let rest = same_rest e.call f.call (codes ":" ∷ reply_words e.reply) (codes ":" ∷ reply_words f.reply) call tail in
+    sym (number_is e.faults_after h.after) ∙ ap (λ (ws : List (List ℕ)). number (get_or ws 6 [])) w
+    ∙ number_is f.faults_after g.after in
+    let draws : e.draws ≡ f.draws =
+    sym (draws_is e.draws [] h.draws) ∙ ap (λ (ws : List (List ℕ)). draws_of (drop 7 ws)) w
+    ∙ draws_is f.draws [] g.draws in
+    let choices : e.choices ≡ f.choices =
+    sym (choices_is e.choices [] h.choices) ∙ ap (λ (ws : List (List ℕ)). choices_of (drop 11 ws)) w
+    ∙ choices_is f.choices [] g.choices in
+    let call : e.call ≡ f.call = same_call e.call f.call (answer_words e) (answer_words f) h.call g.call tail in
+    let rest = same_rest e.call f.call (answer_words e) (answer_words f) call tail in
     let reply : e.reply ≡ f.reply = same_reply e.reply f.reply h.reply g.reply (ap (drop 1) rest) in
-    λ i. record { who = who i; call = call i; reply = reply i; choices = choices i; draws = draws i; faults_before = before i; faults_after = after i }
+    λ i. record {
+      who = who i;
+      call = call i;
+      reply = reply i;
+      choices = choices i;
+      draws = draws i;
+      faults_before = before i;
+      faults_after = after i;
+    }
 
 -- ---- no space and no line feed
 clean_call : (c : Call) → CallFits c → Each (High 33) (call_words c)
@@ -183,7 +205,8 @@ clean_call (Fill addr rs) h = (search rules, (clean_number addr h.0, (clean_runs
 
 clean_reply : (r : Reply) → ReplyFits r → Each (High 33) (reply_words r)
 clean_reply (Given addr usable) h = (search rules, (clean_number addr h.0, (clean_number usable h.1, tt)))
-clean_reply (Overwritten addr at found) h = (search rules, (clean_number addr h.0, (clean_number at h.1, (clean_byte found, tt))))
+clean_reply (Overwritten addr at found) h =
+    (search rules, (clean_number addr h.0, (clean_number at h.1, (clean_byte found, tt))))
 clean_reply Exhausted h = search rules
 clean_reply NoSpace h = search rules
 clean_reply PagesFailed h = search rules
@@ -206,7 +229,8 @@ pub clean32 : (n : ℕ) → Fits32 n → High 33 (decimal n)
 clean32 n h = clean_number n (small32 n h)
 
 clean_who : (w : Who) → WhoFits w → Each (High 33) (who_words w)
-clean_who w h = (clean32 w.caller h.0, (clean32 w.round h.1, (clean32 w.thread h.2, (clean32 w.step h.3, (clean8 w.part h.4, tt)))))
+clean_who w h =
+    (clean32 w.caller h.0, (clean32 w.round h.1, (clean32 w.thread h.2, (clean32 w.step h.3, (clean8 w.part h.4, tt)))))
 
 clean_draws : (d : Draws) → DrawsFit d → Each (High 33) (draws_words d)
 clean_draws d h = (clean8 d.used h.0, (clean32 d.w0 h.1, (clean32 d.w1 h.2, (clean32 d.w2 h.3, tt))))
@@ -226,16 +250,20 @@ clean_choices c h = (
   ),
 )
 
-five : (a b c d f g : List (List ℕ)) → Each (High 33) a → Each (High 33) b → Each (High 33) c → Each (High 33) d → Each (High 33) f → Each (High 33) g
+clean_parts : (a b c d f g : List (List ℕ)) → Each (High 33) a → Each (High 33) b → Each (High 33) c → Each (High 33) d
+    → Each (High 33) f → Each (High 33) g
     → Each (High 33) (a ++ b ++ c ++ d ++ f ++ codes ":" ∷ g)
-five a b c d f g ha hb hc hd hf hg =
+clean_parts a b c d f g ha hb hc hd hf hg =
     each_append (High 33) (a ++ b ++ c ++ d ++ f) (codes ":" ∷ g)
     (each_append (High 33) (a ++ b ++ c ++ d) f
-    (each_append (High 33) (a ++ b ++ c) d (each_append (High 33) (a ++ b) c (each_append (High 33) a b ha hb) hc) hd) hf)
+    (each_append (High 33) (a ++ b ++ c) d (each_append (High 33) (a ++ b) c (each_append (High 33) a b ha hb) hc) hd)
+    hf)
     (search rules, hg)
 
 pub clean_entry : (e : Entry) → EntryFits e → Each (High 33) (entry_words e)
 clean_entry e h =
-    five (who_words e.who) (faults_words e) (draws_words e.draws) (choices_words e.choices) (call_words e.call) (reply_words e.reply)
-    (clean_who e.who h.who) (clean_number e.faults_before h.before, (clean_number e.faults_after h.after, tt)) (clean_draws e.draws h.draws)
+    clean_parts (who_words e.who) (faults_words e) (draws_words e.draws) (choices_words e.choices) (call_words e.call)
+    (reply_words e.reply)
+    (clean_who e.who h.who) (clean_number e.faults_before h.before, (clean_number e.faults_after h.after, tt))
+    (clean_draws e.draws h.draws)
     (clean_choices e.choices h.choices) (clean_call e.call h.call) (clean_reply e.reply h.reply)
