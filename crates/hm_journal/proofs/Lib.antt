@@ -1,1 +1,6 @@
+mod Each
+mod Exact
+mod Numbers
+mod OneEntry
 mod Spaced
+mod Splits

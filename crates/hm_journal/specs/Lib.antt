@@ -1,3 +1,4 @@
 pub mod Words
 pub mod Entries
 pub mod Journals
+pub mod Ranges

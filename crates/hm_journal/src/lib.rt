@@ -3,9 +3,11 @@
 #![tactic(auto)]
 
 mod entries;
+mod laws;
 mod words;
 mod writing;
 
+pub use laws::journals_differ;
 pub use writing::write_journal;
 
 #[cfg(test)]

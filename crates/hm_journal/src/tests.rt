@@ -13,7 +13,7 @@ const WHO: Who = Who {
     part: 5,
 };
 
-/// Each call and each reply that has no runs, and what an entry's line says of them.
+/// Calls and replies that have no runs, and what an entry's line says of them.
 const CASES: [(Call, Reply, &str); 14] = [
     (
         Call::Allot {

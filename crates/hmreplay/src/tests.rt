@@ -364,7 +364,7 @@ fn endings(rt: HostRuntime) -> Result<(), Fail> {
 }
 
 /// Words that are accepted with an empty trace, and the status.
-const WORDS: [(&str, u8); 21] = [
+const WORDS: [(&str, u8); 29] = [
     ("run --seed 7", 0),
     ("run --seed 0007 --large-space 1048576", 0),
     (
@@ -387,6 +387,14 @@ const WORDS: [(&str, u8); 21] = [
     ("run --", 2),
     ("run ", 2),
     ("run --help 1", 2),
+    ("run 7", 2),
+    ("run --seed 7 stress 7", 2),
+    ("stress", 2),
+    ("stress --seed 7", 2),
+    ("stress x", 2),
+    ("stress 18446744073709551616", 2),
+    ("stress 7 --seed", 2),
+    ("stress 7 run", 2),
     ("help", 2),
     ("--seed 7 run", 2),
 ];
@@ -407,6 +415,43 @@ fn accepted_words(rt: HostRuntime) -> Result<(), Fail> {
         )?;
         assert_eq!(rt; run.status, status, "{asked}");
     }
+    let mut sink = VecSink::build(alloc, 99, 99, Vec::new(alloc))?;
+    let mut source = source(alloc, b"hmtrace 1\nend\n", 99, 0)?;
+    let run = replay(
+        &rt,
+        alloc,
+        &[],
+        &mut source,
+        &mut sink,
+        &mut PlainMaker,
+        &NoGate,
+    );
+    assert_eq!(rt; run.status, 2);
+    Ok(())
+}
+
+// No call is made on the source, whose first one would fail.
+#[test]
+fn stress_of_seven(rt: HostRuntime) -> Result<(), Fail> {
+    let alloc = rt.alloc();
+    let asked = words(alloc, "stress 0007 --seed 1")?;
+    let mut source = source(alloc, b"", 8, 1)?;
+    let mut sink = VecSink::build(alloc, 999, 99, Vec::new(alloc))?;
+    let run = replay(
+        &rt,
+        alloc,
+        &asked,
+        &mut source,
+        &mut sink,
+        &mut FrameMaker,
+        &NoGate,
+    );
+    assert_eq!(rt; run.status, 0);
+    assert_eq!(rt; source.calls, 0);
+    assert_eq!(rt;
+        sink.held.as_slice(),
+        b"stress 7: steps 200000 given 40000 written 40000 size 40000 bytes 40000 freed 39600 skipped 400\n".as_slice()
+    );
     Ok(())
 }
 
