@@ -15,6 +15,7 @@ use Rattle.hmreplay.specs.declared.words.Asked.{Asked}
 use Rattle.hmreplay.specs.declared.words.Command.{Command}
 use Rattle.hmreplay.specs.declared.words.Command.TheVariants.{Run, Stress}
 use Rattle.hmreplay.specs.declared.words.Options.{Options}
+use Rattle.hmreplay.specs.declared.words.Output.{Output}
 use Rattle.hmreplay.specs.Words.{AsksRun, AsksStress}
 use Rattle.hmreplay.specs.Endings.{Ends, RunsTrace, SourceEnds, StressEnds, TextEnds, IsRefused, status_after}
 use Rattle.hmreplay.specs.Streams.{IsReadToEnd, IsTakenPast, IsWritten}
@@ -27,16 +28,16 @@ none_some x e = cc
 
 -- ---- the words ask for one thing
 abbrev is_run : Command → Bool
-is_run Run = true
+is_run (Run output) = true
 is_run (Stress number) = false
 
 abbrev asks_run : Option Asked → Bool
 asks_run None = false
 asks_run (Some asked) = is_run asked.command
 
-pub run_not_stress : (asked : Option Asked) (o p : Options) (number : ℕ) → asked ≡ Some (record { command = Run; options = o })
+pub run_not_stress : (asked : Option Asked) (o p : Options) (output : Output) (number : ℕ) → asked ≡ Some (record { command = Run output; options = o })
     → asked ≡ Some (record { command = Stress number; options = p }) → ⊥
-run_not_stress asked o p number run stress = true≢false (sym (ap asks_run run) ∙ ap asks_run stress)
+run_not_stress asked o p output number run stress = true≢false (sym (ap asks_run run) ∙ ap asks_run stress)
 
 -- what was read to its end is what was left
 pub read_all : (bytes read : List ℕ) (left' : Option (List ℕ)) → IsReadToEnd (Some bytes) left' read → read ≡ bytes
@@ -66,11 +67,11 @@ abbrev pub Short : Type 0
 Short = (trace : List (List ScriptView)) → IsTrace trace → length (spelling trace) ≤ 67108864
 
 module _ {P : Type 0} (meaning : pages.Ghosts P) (status : ℕ) (closed : Option (Closed P)) where
-  ran_well : (o : Options) (trace : List (List ScriptView)) (text_of : List Results → List ℕ) (held held' : Option (List ℕ)) (sink_rose : Type 0)
+  ran_well : (o : Options) (trace : List (List ScriptView)) (text_of : Closed P → List Results → List ℕ) (held held' : Option (List ℕ)) (sink_rose : Type 0)
       → (sink_rose → ⊥) → RunsTrace meaning status closed o trace text_of held held' sink_rose → EndsWell status
   ran_well o trace text_of held held' sink_rose sink ran = by_writing ran.results ran.written
     where
-      by_writing : (results : List Results) → IsWritten status (status_after results) held held' sink_rose (text_of results) → EndsWell status
+      by_writing : (results : List Results) → IsWritten status (status_after results) held held' sink_rose (text_of ran.left results) → EndsWell status
       by_writing results (inl w) = finding_or_none (has_finding results) status w.0
       by_writing results (inr w) = absurd (sink w.1)
 
@@ -81,35 +82,35 @@ module _ {P : Type 0} (meaning : pages.Ghosts P) (status : ℕ) (closed : Option
 
   pub complete_stress : (words : List (String Global)) (left left' held held' : Option (List ℕ)) (source_rose sink_rose : Type 0)
       → Ends meaning status closed words left left' source_rose held held' sink_rose → AsksStress words → (sink_rose → ⊥) → EndsWell status
-  complete_stress words left left' held held' source_rose sink_rose (inl run) asks sink = absurd (run_not_stress _ run.options asks.0 asks.1 run.words_are asks.2)
+  complete_stress words left left' held held' source_rose sink_rose (inl run) asks sink = absurd (run_not_stress _ run.options asks.0 run.output asks.1 run.words_are asks.2)
   complete_stress words left left' held held' source_rose sink_rose (inr (inl ended)) asks sink =
       stress_ends ended.options ended.number held held' sink_rose sink ended.ends
   complete_stress words left left' held held' source_rose sink_rose (inr (inr unasked)) asks sink = absurd (none_some _ (sym unasked.words_are ∙ asks.2))
 
   module _ (faultless : Faultless) (short : Short) where
-    text_ends : (o : Options) (trace : List (List ScriptView)) (bytes : List ℕ) (held held' : Option (List ℕ)) (sink_rose : Type 0)
-        → IsTrace trace → bytes ≡ spelling trace → (sink_rose → ⊥) → TextEnds meaning status closed o bytes held held' sink_rose → EndsWell status
-    text_ends o trace bytes held held' sink_rose is spelled sink (inl ran) = ran_well o _ _ held held' sink_rose sink ran.runs
-    text_ends o trace bytes held held' sink_rose is spelled sink (inr (inl faulty)) =
+    text_ends : (o : Options) (output : Output) (trace : List (List ScriptView)) (bytes : List ℕ) (held held' : Option (List ℕ)) (sink_rose : Type 0)
+        → IsTrace trace → bytes ≡ spelling trace → (sink_rose → ⊥) → TextEnds meaning status closed o output bytes held held' sink_rose → EndsWell status
+    text_ends o output trace bytes held held' sink_rose is spelled sink (inl ran) = ran_well o _ _ held held' sink_rose sink ran.runs
+    text_ends o output trace bytes held held' sink_rose is spelled sink (inr (inl faulty)) =
         absurd (none_some faulty.fault (sym (ap text_fault spelled ∙ faultless trace is) ∙ faulty.first))
-    text_ends o trace bytes held held' sink_rose is spelled sink (inr (inr none)) = inr (inr none.status_is)
+    text_ends o output trace bytes held held' sink_rose is spelled sink (inr (inr none)) = inr (inr none.status_is)
 
-    source_ends : (o : Options) (trace : List (List ScriptView)) (bytes : List ℕ) (left' held held' : Option (List ℕ)) (source_rose sink_rose : Type 0)
+    source_ends : (o : Options) (output : Output) (trace : List (List ScriptView)) (bytes : List ℕ) (left' held held' : Option (List ℕ)) (source_rose sink_rose : Type 0)
         → IsTrace trace → bytes ≡ spelling trace → (source_rose → ⊥) → (sink_rose → ⊥)
-        → SourceEnds meaning status closed o (Some bytes) left' source_rose held held' sink_rose → EndsWell status
-    source_ends o trace bytes left' held held' source_rose sink_rose is spelled source sink (inl read) =
-        text_ends o trace read.bytes held held' sink_rose is (read_all bytes read.bytes left' read.read ∙ spelled) sink read.ends
-    source_ends o trace bytes left' held held' source_rose sink_rose is spelled source sink (inr (inl ended)) =
+        → SourceEnds meaning status closed o output (Some bytes) left' source_rose held held' sink_rose → EndsWell status
+    source_ends o output trace bytes left' held held' source_rose sink_rose is spelled source sink (inl read) =
+        text_ends o output trace read.bytes held held' sink_rose is (read_all bytes read.bytes left' read.read ∙ spelled) sink read.ends
+    source_ends o output trace bytes left' held held' source_rose sink_rose is spelled source sink (inr (inl ended)) =
         let fits : length bytes ≤ 67108864 = omega (arith, ap (λ (l : List ℕ). length l) spelled, short trace is) in
         absurd (refused ended.refusal bytes left' source_rose fits source ended.cause)
-    source_ends o trace bytes left' held held' source_rose sink_rose is spelled source sink (inr (inr none)) = inr (inr none.status_is)
+    source_ends o output trace bytes left' held held' source_rose sink_rose is spelled source sink (inr (inr none)) = inr (inr none.status_is)
 
     pub complete : (words : List (String Global)) (trace : List (List ScriptView)) (bytes : List ℕ) (left' held held' : Option (List ℕ)) (source_rose sink_rose : Type 0)
         → Ends meaning status closed words (Some bytes) left' source_rose held held' sink_rose
         → AsksRun words → IsTrace trace → bytes ≡ spelling trace → (source_rose → ⊥) → (sink_rose → ⊥) → EndsWell status
     complete words trace bytes left' held held' source_rose sink_rose (inl run) asks is spelled source sink =
-        source_ends run.options trace bytes left' held held' source_rose sink_rose is spelled source sink run.ends
+        source_ends run.options run.output trace bytes left' held held' source_rose sink_rose is spelled source sink run.ends
     complete words trace bytes left' held held' source_rose sink_rose (inr (inl ended)) asks is spelled source sink =
-        absurd (run_not_stress _ asks.0 ended.options ended.number asks.1 ended.words_are)
+        absurd (run_not_stress _ asks.0 ended.options asks.1 ended.number asks.2 ended.words_are)
     complete words trace bytes left' held held' source_rose sink_rose (inr (inr unasked)) asks is spelled source sink =
-        absurd (none_some _ (sym unasked.words_are ∙ asks.1))
+        absurd (none_some _ (sym unasked.words_are ∙ asks.2))

@@ -8,6 +8,7 @@ use Rattle.hm_heap.specs.declared.close.Closed.{Closed}
 use Rattle.hmreplay.specs.declared.refusal.Refusal.{Refusal}
 use Rattle.hmreplay.specs.declared.refusal.Refusal.TheVariants.{Usage, ReadFault, TooLong}
 use Rattle.hmreplay.specs.declared.words.Options.{Options}
+use Rattle.hmreplay.specs.declared.words.Output.{Output}
 use Rattle.hmreplay.specs.Words.{AsksRun}
 use Rattle.hmreplay.specs.Endings.{Ends, RunsTrace, SourceEnds, StressEnds, TextEnds, IsRefused, status_of, status_after}
 use Rattle.hmreplay.specs.Streams.{IsTakenPast, IsWritten}
@@ -36,7 +37,7 @@ refused_long ReadFault left left' held held' source_rose sink_rose status text s
 refused_long TooLong left left' held held' source_rose sink_rose status text source sink cause (inl w) = w.0
 
 module _ {P : Type 0} (meaning : pages.Ghosts P) (status : ℕ) (closed : Option (Closed P)) where
-  ran_not : (o : Options) (trace : List (List ScriptView)) (text_of : List Results → List ℕ) (held held' : Option (List ℕ)) (rose : Type 0)
+  ran_not : (o : Options) (trace : List (List ScriptView)) (text_of : Closed P → List Results → List ℕ) (held held' : Option (List ℕ)) (rose : Type 0)
       → RunsTrace meaning status closed o trace text_of held held' rose → status ≡ 7 → ⊥
   ran_not o trace text_of held held' rose ran e =
       finding_not (has_finding ran.results) (status_after ran.results) refl (planned_is status (status_after ran.results) held held' rose _ ran.written e)
@@ -45,40 +46,40 @@ module _ {P : Type 0} (meaning : pages.Ghosts P) (status : ℕ) (closed : Option
   stress_not o number held held' rose (inl ran) e = ran_not o _ _ held held' rose ran e
   stress_not o number held held' rose (inr none) e = omega (arith, none.status_is, e)
 
-  text_not : (o : Options) (bytes : List ℕ) (held held' : Option (List ℕ)) (rose : Type 0) → TextEnds meaning status closed o bytes held held' rose → status ≡ 7 → ⊥
-  text_not o bytes held held' rose (inl ran) e = ran_not o _ _ held held' rose ran.runs e
-  text_not o bytes held held' rose (inr (inl faulty)) e = omega (arith, planned_is status 3 held held' rose _ faulty.written e)
-  text_not o bytes held held' rose (inr (inr none)) e = omega (arith, none.status_is, e)
+  text_not : (o : Options) (output : Output) (bytes : List ℕ) (held held' : Option (List ℕ)) (rose : Type 0) → TextEnds meaning status closed o output bytes held held' rose → status ≡ 7 → ⊥
+  text_not o output bytes held held' rose (inl ran) e = ran_not o _ _ held held' rose ran.runs e
+  text_not o output bytes held held' rose (inr (inl faulty)) e = omega (arith, planned_is status 3 held held' rose _ faulty.written e)
+  text_not o output bytes held held' rose (inr (inr none)) e = omega (arith, none.status_is, e)
 
-  source_past : (o : Options) (left left' held held' : Option (List ℕ)) (source_rose sink_rose : Type 0)
-      → SourceEnds meaning status closed o left left' source_rose held held' sink_rose → status ≡ 7 → IsTakenPast 67108864 left left'
-  source_past o left left' held held' source_rose sink_rose (inl read) e = absurd (text_not o read.bytes held held' sink_rose read.ends e)
-  source_past o left left' held held' source_rose sink_rose (inr (inl ended)) e =
+  source_past : (o : Options) (output : Output) (left left' held held' : Option (List ℕ)) (source_rose sink_rose : Type 0)
+      → SourceEnds meaning status closed o output left left' source_rose held held' sink_rose → status ≡ 7 → IsTakenPast 67108864 left left'
+  source_past o output left left' held held' source_rose sink_rose (inl read) e = absurd (text_not o output read.bytes held held' sink_rose read.ends e)
+  source_past o output left left' held held' source_rose sink_rose (inr (inl ended)) e =
       refused_past ended.refusal left left' source_rose ended.cause (planned_is status (status_of ended.refusal) held held' sink_rose _ ended.tells.written e)
-  source_past o left left' held held' source_rose sink_rose (inr (inr none)) e = absurd (omega (arith, none.status_is, e))
+  source_past o output left left' held held' source_rose sink_rose (inr (inr none)) e = absurd (omega (arith, none.status_is, e))
 
   pub only_past : (words : List (String Global)) (left left' held held' : Option (List ℕ)) (source_rose sink_rose : Type 0)
       → Ends meaning status closed words left left' source_rose held held' sink_rose → status ≡ 7 → IsTakenPast 67108864 left left'
-  only_past words left left' held held' source_rose sink_rose (inl run) e = source_past run.options left left' held held' source_rose sink_rose run.ends e
+  only_past words left left' held held' source_rose sink_rose (inl run) e = source_past run.options run.output left left' held held' source_rose sink_rose run.ends e
   only_past words left left' held held' source_rose sink_rose (inr (inl ended)) e = absurd (stress_not ended.options ended.number held held' sink_rose ended.ends e)
   only_past words left left' held held' source_rose sink_rose (inr (inr unasked)) e =
       absurd (omega (arith, planned_is status 2 held held' sink_rose _ unasked.tells.written e))
 
-  source_long : (o : Options) (bytes : List ℕ) (left' held held' : Option (List ℕ)) (source_rose sink_rose : Type 0)
-      → SourceEnds meaning status closed o (Some bytes) left' source_rose held held' sink_rose
+  source_long : (o : Options) (output : Output) (bytes : List ℕ) (left' held held' : Option (List ℕ)) (source_rose sink_rose : Type 0)
+      → SourceEnds meaning status closed o output (Some bytes) left' source_rose held held' sink_rose
       → 67108864 < length bytes → (source_rose → ⊥) → (sink_rose → ⊥) → (status ≡ 7) ⊎ (status ≡ 6)
-  source_long o bytes left' held held' source_rose sink_rose (inl read) long source sink =
+  source_long o output bytes left' held held' source_rose sink_rose (inl read) long source sink =
       absurd (omega (arith, ap (λ (l : List ℕ). length l) (read_all bytes read.bytes left' read.read), read.within, long))
-  source_long o bytes left' held held' source_rose sink_rose (inr (inl ended)) long source sink =
+  source_long o output bytes left' held held' source_rose sink_rose (inr (inl ended)) long source sink =
       inl (refused_long ended.refusal (Some bytes) left' held held' source_rose sink_rose status _ source sink ended.cause ended.tells.written)
-  source_long o bytes left' held held' source_rose sink_rose (inr (inr none)) long source sink = inr none.status_is
+  source_long o output bytes left' held held' source_rose sink_rose (inr (inr none)) long source sink = inr none.status_is
 
   pub long_refused : (words : List (String Global)) (bytes : List ℕ) (left' held held' : Option (List ℕ)) (source_rose sink_rose : Type 0)
       → Ends meaning status closed words (Some bytes) left' source_rose held held' sink_rose
       → AsksRun words → 67108864 < length bytes → (source_rose → ⊥) → (sink_rose → ⊥) → (status ≡ 7) ⊎ (status ≡ 6)
   long_refused words bytes left' held held' source_rose sink_rose (inl run) asks long source sink =
-      source_long run.options bytes left' held held' source_rose sink_rose run.ends long source sink
+      source_long run.options run.output bytes left' held held' source_rose sink_rose run.ends long source sink
   long_refused words bytes left' held held' source_rose sink_rose (inr (inl ended)) asks long source sink =
-      absurd (run_not_stress _ asks.0 ended.options ended.number asks.1 ended.words_are)
+      absurd (run_not_stress _ asks.0 ended.options asks.1 ended.number asks.2 ended.words_are)
   long_refused words bytes left' held held' source_rose sink_rose (inr (inr unasked)) asks long source sink =
-      absurd (none_some _ (sym unasked.words_are ∙ asks.1))
+      absurd (none_some _ (sym unasked.words_are ∙ asks.2))

@@ -16,11 +16,14 @@ use Rattle.hm_trace.specs.Stress.{stress}
 use Rattle.hm_trace.specs.Traces.{IsTrace}
 use Rattle.hm_trace.specs.Views.{ScriptView}
 use Rattle.hm_heap.specs.declared.close.Closed.{Closed}
+use Rattle.hm_journal.specs.Journals.{journal_text}
 use Rattle.hmreplay.specs.declared.refusal.Refusal.{Refusal}
 use Rattle.hmreplay.specs.declared.refusal.Refusal.TheVariants.{Usage, ReadFault, TooLong}
 use Rattle.hmreplay.specs.declared.words.Command.TheVariants.{Run, Stress}
 use Rattle.hmreplay.specs.declared.words.Options.{Options}
-use Rattle.hmreplay.specs.Words.{asked_in}
+use Rattle.hmreplay.specs.declared.words.Output.{Output}
+use Rattle.hmreplay.specs.declared.words.Output.TheVariants.{Report, Journal}
+use Rattle.hmreplay.specs.Words.{asked_in, config_of}
 use Rattle.hmreplay.specs.Streams.{IsReadToEnd, IsTakenPast, IsTakenWithin, IsWritten}
 use Rattle.hmreplay.specs.Replayed.{IsReplayed}
 
@@ -71,16 +74,21 @@ fault_line fault = fault_start ++ fault_text fault.line fault.kind
 abbrev pub status_after : List Results → ℕ
 status_after results = if has_finding results then 1 else 0
 
+-- what is written of it: the report of the results, or the journal of the histories
+abbrev pub output_text : {P : Type 0} → Options → Output → Closed P → List Results → List ℕ
+output_text o Report left results = report_text results
+output_text o Journal left results = journal_text (config_of o) o.seed left.histories
+
 -- ---- endings
 module _ {P : Type 0} (meaning : pages.Ghosts P) (status : ℕ) (closed : Option (Closed P)) where
   -- the trace was run and the heap closed, and the text of the results was written, or a front of it where the sink failed
-  pub record RunsTrace (o : Options) (trace : List (List ScriptView)) (text_of : List Results → List ℕ)
+  pub record RunsTrace (o : Options) (trace : List (List ScriptView)) (text_of : Closed P → List Results → List ℕ)
       (held held' : Option (List ℕ)) (sink_rose : Type 0) : Type 0 where
     pub left : Closed P
     pub closed_is : closed ≡ Some left
     pub results : List Results
     pub replayed : IsReplayed meaning o left trace results
-    pub written : IsWritten status (status_after results) held held' sink_rose (text_of results)
+    pub written : IsWritten status (status_after results) held held' sink_rose (text_of left results)
 
   -- memory was wanted: nothing was written
   pub record LacksMemory (held held' : Option (List ℕ)) : Type 0 where
@@ -88,12 +96,12 @@ module _ {P : Type 0} (meaning : pages.Ghosts P) (status : ℕ) (closed : Option
     pub unwritten : held' ≡ held
     pub not_closed : closed ≡ None
 
-  -- the text is a trace, which was run: its report was written
-  pub record RunsText (o : Options) (bytes : List ℕ) (held held' : Option (List ℕ)) (sink_rose : Type 0) : Type 0 where
+  -- the text is a trace, which was run: its report or its journal was written
+  pub record RunsText (o : Options) (output : Output) (bytes : List ℕ) (held held' : Option (List ℕ)) (sink_rose : Type 0) : Type 0 where
     pub trace : List (List ScriptView)
     pub is_trace : IsTrace trace
     pub text : bytes ≡ spelling trace
-    pub runs : RunsTrace o trace report_text held held' sink_rose
+    pub runs : RunsTrace o trace (output_text o output) held held' sink_rose
 
   -- the text is no trace, and the line that names its first fault was written, or a front of it where the sink failed
   pub record IsFaulty (bytes : List ℕ) (held held' : Option (List ℕ)) (sink_rose : Type 0) : Type 0 where
@@ -103,9 +111,9 @@ module _ {P : Type 0} (meaning : pages.Ghosts P) (status : ℕ) (closed : Option
     pub written : IsWritten status 3 held held' sink_rose (fault_line fault)
 
   -- how a text that was read ends
-  abbrev pub TextEnds : Options → List ℕ → Option (List ℕ) → Option (List ℕ) → Type 0 → Type 0
-  TextEnds o bytes held held' sink_rose =
-      RunsText o bytes held held' sink_rose ⊎ IsFaulty bytes held held' sink_rose ⊎ LacksMemory held held'
+  abbrev pub TextEnds : Options → Output → List ℕ → Option (List ℕ) → Option (List ℕ) → Type 0 → Type 0
+  TextEnds o output bytes held held' sink_rose =
+      RunsText o output bytes held held' sink_rose ⊎ IsFaulty bytes held held' sink_rose ⊎ LacksMemory held held'
 
   -- a line that says why a run is refused was written, or a front of it where the sink failed
   pub record TellsRefusal (refusal : Refusal) (held held' : Option (List ℕ)) (sink_rose : Type 0) : Type 0 where
@@ -120,25 +128,25 @@ module _ {P : Type 0} (meaning : pages.Ghosts P) (status : ℕ) (closed : Option
     pub tells : TellsRefusal refusal held held' sink_rose
 
   -- the source was read to its end, and has no more bytes than may be taken
-  pub record SourceRead (o : Options) (left left' : Option (List ℕ)) (held held' : Option (List ℕ)) (sink_rose : Type 0)
+  pub record SourceRead (o : Options) (output : Output) (left left' held held' : Option (List ℕ)) (sink_rose : Type 0)
       : Type 0 where
     pub bytes : List ℕ
     pub read : IsReadToEnd left left' bytes
     pub within : length bytes ≤ 67108864
-    pub ends : TextEnds o bytes held held' sink_rose
+    pub ends : TextEnds o output bytes held held' sink_rose
 
   -- how the run of a source ends
-  abbrev pub SourceEnds : Options → Option (List ℕ) → Option (List ℕ) → Type 0 → Option (List ℕ) → Option (List ℕ)
-      → Type 0 → Type 0
-  SourceEnds o left left' source_rose held held' sink_rose =
-      SourceRead o left left' held held' sink_rose
+  abbrev pub SourceEnds : Options → Output → Option (List ℕ) → Option (List ℕ) → Type 0 → Option (List ℕ)
+      → Option (List ℕ) → Type 0 → Type 0
+  SourceEnds o output left left' source_rose held held' sink_rose =
+      SourceRead o output left left' held held' sink_rose
       ⊎ SourceRefused left left' source_rose held held' sink_rose
       ⊎ LacksMemory held held'
 
   -- the run of the trace that a number makes: its summary was written
   abbrev pub StressEnds : Options → ℕ → Option (List ℕ) → Option (List ℕ) → Type 0 → Type 0
   StressEnds o number held held' sink_rose =
-      RunsTrace o (stress number) (summary_text number) held held' sink_rose ⊎ LacksMemory held held'
+      RunsTrace o (stress number) (λ left. summary_text number) held held' sink_rose ⊎ LacksMemory held held'
 
   -- ---- by the words
   -- they are not accepted: nothing was taken from the source
@@ -151,8 +159,9 @@ module _ {P : Type 0} (meaning : pages.Ghosts P) (status : ℕ) (closed : Option
   pub record EndsRun (words : List (String Global)) (left left' : Option (List ℕ)) (source_rose : Type 0)
       (held held' : Option (List ℕ)) (sink_rose : Type 0) : Type 0 where
     pub options : Options
-    pub words_are : asked_in words ≡ Some (record { command = Run; options = options })
-    pub ends : SourceEnds options left left' source_rose held held' sink_rose
+    pub output : Output
+    pub words_are : asked_in words ≡ Some (record { command = Run output; options = options })
+    pub ends : SourceEnds options output left left' source_rose held held' sink_rose
 
   -- nothing was taken from the source
   pub record EndsStress (words : List (String Global)) (left left' : Option (List ℕ)) (held held' : Option (List ℕ))

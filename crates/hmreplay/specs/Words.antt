@@ -10,6 +10,8 @@ use Rattle.hm_trace.specs.Names.{is_word}
 use Rattle.hmreplay.specs.declared.words.Asked.{Asked}
 use Rattle.hmreplay.specs.declared.words.Command.{Command}
 use Rattle.hmreplay.specs.declared.words.Command.TheVariants.{Run, Stress}
+use Rattle.hmreplay.specs.declared.words.Output.{Output}
+use Rattle.hmreplay.specs.declared.words.Output.TheVariants.{Report, Journal}
 use Rattle.hmreplay.specs.declared.words.OptionName.{OptionName}
 use Rattle.hmreplay.specs.declared.words.OptionName.TheVariants.{Seed, ClassRegion, LargeSpace}
 use Rattle.hmreplay.specs.declared.words.Options.{Options}
@@ -95,17 +97,19 @@ abbrev pub stress_in : List (String Global) → Option Asked
 stress_in [] = None
 stress_in (word ∷ words) = option_and_then (λ number. with_options (Stress number) words) (number_in (string_bytes word))
 
--- `run`, or `stress` and a number, and then options; other words are not accepted
+-- `run` or `journal`, or `stress` and a number, and then options; other words are not accepted
 abbrev pub asked_in : List (String Global) → Option Asked
 asked_in [] = None
 asked_in (command ∷ words) =
-    if is_word (string_bytes command) (codes "run") then with_options Run words
+    if is_word (string_bytes command) (codes "run") then with_options (Run Report) words
+    else if is_word (string_bytes command) (codes "journal") then with_options (Run Journal) words
     else if is_word (string_bytes command) (codes "stress") then stress_in words
     else None
 
 -- they ask for the run of a source; or of the trace that a number makes
 abbrev pub AsksRun : List (String Global) → Type 0
-AsksRun words = (options : Options) × (asked_in words ≡ Some (record { command = Run; options = options }))
+AsksRun words =
+    (options : Options) × (output : Output) × (asked_in words ≡ Some (record { command = Run output; options = options }))
 
 abbrev pub AsksStress : List (String Global) → Type 0
 AsksStress words =

@@ -1,8 +1,9 @@
 //! The top call: the words, the source to its end, the trace, the heap and the rounds, the report, the sink.
-ghost use Rattle.std.specs.Prelude.{◌≡◌, ◌⊎◌, Some, None};
+ghost use Rattle.std.specs.Prelude.{◌≡◌, ◌⊎◌, Some, None, true, IfOk};
 ghost use Rattle.hm_outside.specs.Causes.{Rose};
+ghost use Rattle.hm_report.specs.Findings.{ascends};
 ghost use Rattle.hm_sizes.specs.Configs.{IsValid};
-ghost use Rattle.hmreplay.specs.Endings.{Ends, SourceEnds, StressEnds, TextEnds, status_of, line_of, status_after, fault_line};
+ghost use Rattle.hmreplay.specs.Endings.{Ends, SourceEnds, StressEnds, TextEnds, status_of, line_of, status_after, output_text, fault_line};
 ghost use Rattle.hmreplay.specs.Streams.{IsTakenWithin, IsWritten};
 ghost use Rattle.hmreplay.specs.Words.{config_of};
 
@@ -10,10 +11,11 @@ use crate::reading::{ReadStop, read_all};
 use crate::refusal::Refusal;
 use crate::rounds::{Ran, run_trace};
 use crate::trace_fault::line_of_fault;
-use crate::words::{Command, Options, read_words};
+use crate::words::{Command, Options, Output, read_words};
 use crate::writing::finish;
 use hm_heap::Closed;
-use hm_outside::{Gate, PageMaker, Sink, Source};
+use hm_journal::write_journal;
+use hm_outside::{Gate, NoMemory, PageMaker, Sink, Source};
 use hm_report::{has_finding, report, summary};
 use hm_trace::{ReadRefusal, TraceFault, read_trace, stress_trace};
 use std::alloc::Global;
@@ -66,6 +68,25 @@ fn refuse_text<K: Sink, P>(alloc: Global, sink: &mut K, fault: &TraceFault) -> R
     }
 }
 
+// What is written of a trace that was run.
+fn text_of<P>(
+    alloc: Global,
+    options: &Options,
+    output: Output,
+    ran: &Ran<P>,
+) -> Result<Vec<u8>, NoMemory>
+    requires { ascends ran.now.results.items ≡ true }
+    ensures { IfOk result (λ text. text.items ≡ output_text options.now output ran.now.closed ran.now.results.items) }
+{
+    match output {
+        Output::Report => report(alloc, &ran.results),
+        Output::Journal => {
+            let histories = ran.closed.histories.items();
+            write_journal(alloc, &options.config(), options.seed, histories)
+        }
+    }
+}
+
 // Writes the text of a trace that was run.
 fn write_results<K: Sink, P: Drop>(sink: &mut K, ran: Ran<P>, text: &[u8]) -> Run<P>
     ensures closed { result.closed ≡ Some ran.closed }
@@ -84,13 +105,14 @@ fn run_text<R: Threads + Wait + Sync, K: Sink, M: PageMaker, G: Gate>(
     rt: &R,
     alloc: Global,
     options: &Options,
+    output: Output,
     bytes: &[u8],
     sink: &mut K,
     maker: &mut M,
     gate: &G,
 ) -> Run<M::P>
     requires valid { IsValid (config_of options.now) }
-    ensures { TextEnds M.P.Pages result.status result.closed options.now bytes.now (K.held sink.old) (K.held sink.new)
+    ensures { TextEnds M.P.Pages result.status result.closed options.now output bytes.now (K.held sink.old) (K.held sink.new)
         (Rose (K.faults sink.old) (K.faults sink.new)) }
 {
     let trace = match read_trace(alloc, bytes) {
@@ -102,7 +124,7 @@ fn run_text<R: Threads + Wait + Sync, K: Sink, M: PageMaker, G: Gate>(
         Ok(ran) => ran,
         Err(_) => return give_up(),
     };
-    match report(alloc, &ran.results) {
+    match text_of(alloc, options, output, &ran) {
         Ok(text) => write_results(sink, ran, &text),
         Err(_) => give_up(),
     }
@@ -113,6 +135,7 @@ fn run_source<R: Threads + Wait + Sync, S: Source, K: Sink, M: PageMaker, G: Gat
     rt: &R,
     alloc: Global,
     options: &Options,
+    output: Output,
     source: &mut S,
     sink: &mut K,
     maker: &mut M,
@@ -120,12 +143,12 @@ fn run_source<R: Threads + Wait + Sync, S: Source, K: Sink, M: PageMaker, G: Gat
 ) -> Run<M::P>
     requires valid { IsValid (config_of options.now) }
     ensures bound { IsTakenWithin 67108865 (S.left source.old) (S.left source.new) }
-    ensures ends { SourceEnds M.P.Pages result.status result.closed options.now (S.left source.old) (S.left source.new)
-        (Rose (S.faults source.old) (S.faults source.new)) (K.held sink.old) (K.held sink.new)
+    ensures ends { SourceEnds M.P.Pages result.status result.closed options.now output
+        (S.left source.old) (S.left source.new) (Rose (S.faults source.old) (S.faults source.new)) (K.held sink.old) (K.held sink.new)
         (Rose (K.faults sink.old) (K.faults sink.new)) }
 {
     match read_all(alloc, source) {
-        Ok(bytes) => run_text(rt, alloc, options, &bytes, sink, maker, gate),
+        Ok(bytes) => run_text(rt, alloc, options, output, &bytes, sink, maker, gate),
         Err(ReadStop::NoMemory) => give_up(),
         Err(ReadStop::Fault) => refuse(sink, Refusal::ReadFault),
         Err(ReadStop::TooLong) => refuse(sink, Refusal::TooLong),
@@ -160,8 +183,8 @@ fn run_stress<R: Threads + Wait + Sync, K: Sink, M: PageMaker, G: Gate>(
     }
 }
 
-/// Reads a trace from the source, or makes it from a number, as the words say; runs it, and writes the report or
-/// the summary of its results, or one line that says why it was refused. All memory is taken before the first
+/// Reads a trace from the source, or makes it from a number, as the words say; runs it, and writes the report of
+/// its results, the journal of its histories or the summary, or one line that says why it was refused. All memory is taken before the first
 /// byte is written.
 pub fn replay<R: Threads + Wait + Sync, S: Source, K: Sink, M: PageMaker, G: Gate>(
     rt: &R,
@@ -182,7 +205,9 @@ pub fn replay<R: Threads + Wait + Sync, S: Source, K: Sink, M: PageMaker, G: Gat
         None => return refuse(sink, Refusal::Usage),
     };
     match asked.command {
-        Command::Run => run_source(rt, alloc, &asked.options, source, sink, maker, gate),
+        Command::Run { output } => {
+            run_source(rt, alloc, &asked.options, output, source, sink, maker, gate)
+        }
         Command::Stress { number } => {
             run_stress(rt, alloc, &asked.options, number, sink, maker, gate)
         }

@@ -455,6 +455,45 @@ fn stress_of_seven(rt: HostRuntime) -> Result<(), Fail> {
     Ok(())
 }
 
+// What a journal writes of steps of thread 1: how many lines it has, and which one begins region 7.
+fn journal_of<R: Threads + Wait + Sync>(
+    rt: &R,
+    alloc: Global,
+    text: &[u8],
+) -> Result<(usize, Option<usize>), Fail> {
+    let mut sink = VecSink::build(alloc, 65_536, 999, Vec::new(alloc))?;
+    let run = run_text(
+        rt,
+        alloc,
+        "journal",
+        text,
+        &mut sink,
+        &mut PlainMaker,
+        &NoGate,
+    )?;
+    if run.status != 0 {
+        return Err(Fail::new("status"));
+    }
+    let written = sink.held.as_slice();
+    let lines = written.iter().filter(|byte| **byte == b'\n').count();
+    let place = written
+        .split(|byte| *byte == b'\n')
+        .position(|line| line.starts_with(b"region 7 "));
+    Ok((lines, place))
+}
+
+// Lines are counted from 1, places from 0.
+#[test]
+fn journals(rt: HostRuntime) -> Result<(), Fail> {
+    let alloc = rt.alloc();
+    let none = journal_of(&rt, alloc, b"hmtrace 1\nend\n")?;
+    assert_eq!(rt; none, (398, Some(17)));
+    let text = text_of(alloc, "malloc x 100\nfree x\n")?;
+    let one = journal_of(&rt, alloc, text.as_bytes())?;
+    assert_eq!(rt; one, (400, Some(17)));
+    Ok(())
+}
+
 #[test]
 fn too_long(rt: HostRuntime) -> Result<(), Fail> {
     let alloc = rt.alloc();

@@ -13,10 +13,17 @@ pub enum OptionName {
     LargeSpace,
 }
 
+/// What is written of a trace that was read: the replies of its steps, or every history.
+#[derive(Clone, Copy, Debug, PartialEq, Eq, Drop)]
+pub enum Output {
+    Report,
+    Journal,
+}
+
 /// What is run: a trace from the source, or the trace that a number makes.
 #[derive(Clone, Copy, Debug, PartialEq, Eq, Drop)]
 pub enum Command {
-    Run,
+    Run { output: Output },
     Stress { number: u64 },
 }
 
@@ -215,7 +222,11 @@ pub fn read_words(words: &[String]) -> Option<Asked>
     match words {
         [command, options @ ..] => {
             if command.as_bytes() == b"run".as_slice() {
-                with_options(Command::Run, options)
+                let output = Output::Report;
+                with_options(Command::Run { output }, options)
+            } else if command.as_bytes() == b"journal".as_slice() {
+                let output = Output::Journal;
+                with_options(Command::Run { output }, options)
             } else if command.as_bytes() == b"stress".as_slice() {
                 stress_in(options)
             } else {
