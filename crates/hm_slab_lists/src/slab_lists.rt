@@ -92,7 +92,7 @@ impl SlabLists {
     pub fn build(
         alloc: Global,
         limit: u64,
-        guard_interval: u64,
+        guard_interval: u32,
         park_length: u32,
         slots: u32,
     ) -> Result<SlabLists, NoMemory>
@@ -110,7 +110,7 @@ impl SlabLists {
             chains: Chains::new(alloc),
             parking,
             limit,
-            guard_interval,
+            guard_interval: u64::from(guard_interval),
             slots,
         })
     }
