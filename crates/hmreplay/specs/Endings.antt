@@ -38,7 +38,8 @@ line_of Usage = codes "fault: usage" ++ 10 ∷ []
 line_of ReadFault = codes "fault: read" ++ 10 ∷ []
 line_of TooLong = codes "fault: too long" ++ 10 ∷ []
 
--- why a source is refused: it failed, no more bytes than may be being taken, or it has too many
+-- why a source is refused: it failed, no more bytes than may be being taken, or it has too many; the words are no matter
+-- of the source
 abbrev pub IsRefused : Refusal → Option (List ℕ) → Option (List ℕ) → Type 0 → Type 0
 IsRefused Usage left left' rose = ⊥
 IsRefused ReadFault left left' rose = rose × IsTakenWithin 67108864 left left'
@@ -81,7 +82,8 @@ output_text o Journal left results = journal_text (config_of o) o.seed left.hist
 
 -- ---- endings
 module _ {P : Type 0} (meaning : pages.Ghosts P) (status : ℕ) (closed : Option (Closed P)) where
-  -- the trace was run and the heap closed, and the text of the results was written, or a front of it where the sink failed
+  -- the trace was run and the heap closed, and the text of what it left was written, or a front of it where the sink
+  -- failed
   pub record RunsTrace (o : Options) (trace : List (List ScriptView)) (text_of : Closed P → List Results → List ℕ)
       (held held' : Option (List ℕ)) (sink_rose : Type 0) : Type 0 where
     pub left : Closed P
@@ -97,7 +99,8 @@ module _ {P : Type 0} (meaning : pages.Ghosts P) (status : ℕ) (closed : Option
     pub not_closed : closed ≡ None
 
   -- the text is a trace, which was run: its report or its journal was written
-  pub record RunsText (o : Options) (output : Output) (bytes : List ℕ) (held held' : Option (List ℕ)) (sink_rose : Type 0) : Type 0 where
+  pub record RunsText (o : Options) (output : Output) (bytes : List ℕ) (held held' : Option (List ℕ)) (sink_rose : Type 0)
+      : Type 0 where
     pub trace : List (List ScriptView)
     pub is_trace : IsTrace trace
     pub text : bytes ≡ spelling trace

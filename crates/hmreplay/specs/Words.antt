@@ -95,7 +95,8 @@ with_options command words =
 -- behind `stress`: a number, and then options
 abbrev pub stress_in : List (String Global) → Option Asked
 stress_in [] = None
-stress_in (word ∷ words) = option_and_then (λ number. with_options (Stress number) words) (number_in (string_bytes word))
+stress_in (word ∷ words) =
+    option_and_then (λ number. with_options (Stress number) words) (number_in (string_bytes word))
 
 -- `run` or `journal`, or `stress` and a number, and then options; other words are not accepted
 abbrev pub asked_in : List (String Global) → Option Asked
@@ -109,11 +110,13 @@ asked_in (command ∷ words) =
 -- they ask for the run of a source; or of the trace that a number makes
 abbrev pub AsksRun : List (String Global) → Type 0
 AsksRun words =
-    (options : Options) × (output : Output) × (asked_in words ≡ Some (record { command = Run output; options = options }))
+    (options : Options) × (output : Output)
+    × (asked_in words ≡ Some (record { command = Run output; options = options }))
 
 abbrev pub AsksStress : List (String Global) → Type 0
 AsksStress words =
-    (options : Options) × (number : ℕ) × (asked_in words ≡ Some (record { command = Stress number; options = options }))
+    (options : Options) × (number : ℕ)
+    × (asked_in words ≡ Some (record { command = Stress number; options = options }))
 
 -- the configuration that they ask for
 abbrev pub config_of : Options → Config

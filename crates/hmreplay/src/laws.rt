@@ -22,7 +22,8 @@ use hm_trace::{spellings_are_short, spellings_have_no_fault};
 /// 0 or 1, or for want of memory with 6. And so where they ask for the trace that a number makes, and the sink does
 /// not fail.
 pub fn runs_are_complete<P: Pages>()
-    ensures source { (status : ℕ) (closed : Option (Closed P)) (words : List (String Global)) (trace : List (List ScriptView))
+    ensures source { (status : ℕ) (closed : Option (Closed P)) (words : List (String Global))
+        (trace : List (List ScriptView))
         (bytes : List ℕ) (left' held held' : Option (List ℕ)) (f g h k : ℕ)
         → Ends P.Pages status closed words (Some bytes) left' (Rose f g) held held' (Rose h k)
         → AsksRun words → IsTrace trace → bytes ≡ spelling trace → (Rose f g → ⊥) → (Rose h k → ⊥)

@@ -1,4 +1,5 @@
-//! The top call: the words, the source to its end, the trace, the heap and the rounds, the report, the sink.
+//! The top call: the words, the source to its end or a number, the trace, the heap and the rounds, what is
+//! written, the sink.
 ghost use Rattle.std.specs.Prelude.{◌≡◌, ◌⊎◌, Some, None, true, IfOk};
 ghost use Rattle.hm_outside.specs.Causes.{Rose};
 ghost use Rattle.hm_report.specs.Findings.{ascends};
@@ -112,8 +113,8 @@ fn run_text<R: Threads + Wait + Sync, K: Sink, M: PageMaker, G: Gate>(
     gate: &G,
 ) -> Run<M::P>
     requires valid { IsValid (config_of options.now) }
-    ensures { TextEnds M.P.Pages result.status result.closed options.now output bytes.now (K.held sink.old) (K.held sink.new)
-        (Rose (K.faults sink.old) (K.faults sink.new)) }
+    ensures { TextEnds M.P.Pages result.status result.closed options.now output bytes.now
+        (K.held sink.old) (K.held sink.new) (Rose (K.faults sink.old) (K.faults sink.new)) }
 {
     let trace = match read_trace(alloc, bytes) {
         Ok(trace) => trace,
@@ -144,8 +145,8 @@ fn run_source<R: Threads + Wait + Sync, S: Source, K: Sink, M: PageMaker, G: Gat
     requires valid { IsValid (config_of options.now) }
     ensures bound { IsTakenWithin 67108865 (S.left source.old) (S.left source.new) }
     ensures ends { SourceEnds M.P.Pages result.status result.closed options.now output
-        (S.left source.old) (S.left source.new) (Rose (S.faults source.old) (S.faults source.new)) (K.held sink.old) (K.held sink.new)
-        (Rose (K.faults sink.old) (K.faults sink.new)) }
+        (S.left source.old) (S.left source.new) (Rose (S.faults source.old) (S.faults source.new))
+        (K.held sink.old) (K.held sink.new) (Rose (K.faults sink.old) (K.faults sink.new)) }
 {
     match read_all(alloc, source) {
         Ok(bytes) => run_text(rt, alloc, options, output, &bytes, sink, maker, gate),
@@ -184,8 +185,8 @@ fn run_stress<R: Threads + Wait + Sync, K: Sink, M: PageMaker, G: Gate>(
 }
 
 /// Reads a trace from the source, or makes it from a number, as the words say; runs it, and writes the report of
-/// its results, the journal of its histories or the summary, or one line that says why it was refused. All memory is taken before the first
-/// byte is written.
+/// its results, the journal of its histories or the summary, or one line that says why it was refused. All
+/// memory is taken before the first byte is written.
 pub fn replay<R: Threads + Wait + Sync, S: Source, K: Sink, M: PageMaker, G: Gate>(
     rt: &R,
     alloc: Global,
