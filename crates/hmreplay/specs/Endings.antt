@@ -38,8 +38,8 @@ line_of Usage = codes "fault: usage" ++ 10 ∷ []
 line_of ReadFault = codes "fault: read" ++ 10 ∷ []
 line_of TooLong = codes "fault: too long" ++ 10 ∷ []
 
--- why a source is refused: it failed, no more bytes than may be being taken, or it has too many; the words are no matter
--- of the source
+-- why a source is refused: it failed, no more bytes than may be being taken, or it has too many; what the words are is
+-- no matter of the source
 abbrev pub IsRefused : Refusal → Option (List ℕ) → Option (List ℕ) → Type 0 → Type 0
 IsRefused Usage left left' rose = ⊥
 IsRefused ReadFault left left' rose = rose × IsTakenWithin 67108864 left left'
@@ -99,8 +99,8 @@ module _ {P : Type 0} (meaning : pages.Ghosts P) (status : ℕ) (closed : Option
     pub not_closed : closed ≡ None
 
   -- the text is a trace, which was run: its report or its journal was written
-  pub record RunsText (o : Options) (output : Output) (bytes : List ℕ) (held held' : Option (List ℕ)) (sink_rose : Type 0)
-      : Type 0 where
+  pub record RunsText (o : Options) (output : Output) (bytes : List ℕ) (held held' : Option (List ℕ))
+      (sink_rose : Type 0) : Type 0 where
     pub trace : List (List ScriptView)
     pub is_trace : IsTrace trace
     pub text : bytes ≡ spelling trace
