@@ -20,11 +20,9 @@ use Rattle.hm_large.specs.Blocks as blocks
 use Rattle.hm_large.specs.Rules as large
 use Rattle.hm_large.specs.State as large_state
 use Rattle.hmreplay.specs.Refusals.{RefusesFree, RefusesMeasure, RefusesAllot, Traps, RefusesClass, RefusesLargeAllot, RefusesLargeFree, TrapsLarge, RefusesLarge}
+use Rattle.hmreplay.proofs.Completed.{none_some}
 
 -- ---- equations
-none_some : {X : Type 0} (x : X) → None ≡ Some x → ⊥
-none_some x e = cc
-
 not_both : (b : Bool) → b ≡ true → b ≡ false → ⊥
 not_both b t f = true≢false (sym t ∙ f)
 

@@ -47,16 +47,13 @@ module _ {P : Type 0} (meaning : pages.Ghosts P) where
       (subst (λ (d : Config). Closes meaning d number p.turns closed.histories closed.pages) c_is closes) in
       let done = subst (λ (d : Config). HasReplayed d p trace results last) c_is ran in
       let whole = close (config_of o) p closed.histories trace results last done shut.histories
-      (λ r t h below. (shut.each r t h (page_at closed.pages r (omega (arith, below, shut.pages))) below).whole) in
+      (λ r t h below. (shut.each r t h (some_of closed.pages r (omega (arith, below, shut.pages))) below).whole) in
       record {
         ends = ends o locks p.turns closed.histories closed.pages of count shut;
         names = last;
         rounds = whole;
         entries = of_trace (config_of o) closed.histories trace results last whole;
       }
-    where
-      page_at : (ps : List P) (r : ℕ) → r < length ps → P
-      page_at ps r below = some_of ps r below
 
   -- ---- what the histories begin with
   module _ (o : Options) (hs : List History) (ps : List P) (place : ℕ) (p : P) (entries : List Entry) (begins : Begins meaning o hs ps place entries) where
