@@ -453,5 +453,4 @@ sound_idle m views caller out s one empty = let same : m.0 ≡ view_in views = s
   rests = ap (λ (v : View). v.holds) same ∙ s.rests;
   live = ap (λ (v : View). v.spent) same ∙ s.live;
   no_ticket = ap (λ (v : View). v.ticket) same ∙ s.no_ticket;
-  no_note = ap (λ (v : View). v.note) same ∙ s.no_note;
 }

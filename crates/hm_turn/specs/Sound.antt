@@ -29,7 +29,6 @@ pub record IsIdle {T : Type 0} (me : Me (Option T) View) : Type 0 where
   pub rests : me.0.holds ≡ false
   pub live : me.0.spent ≡ false
   pub no_ticket : me.0.ticket ≡ None
-  pub no_note : me.0.note ≡ None
 
 -- a seat that may ask for the number that it has noted
 pub record MayAsk {T : Type 0} (me : Me (Option T) View) (number : ℕ) : Type 0 where
@@ -50,6 +49,13 @@ pub record IsWaiting {T : Type 0} (me : Me (Option T) View) (ticket : ℕ) : Typ
 pub record HasWaited {T : Type 0} (before after : Me (Option T) View) : Type 0 where
   pub note : Option ℕ
   pub same : after ≡ (record before.0 { note = note }, before.1)
+
+-- a seat as it was, but for its note, and that more of its steps may have been lost
+pub record HasAsked {T : Type 0} (before after : Me (Option T) View) : Type 0 where
+  pub note : Option ℕ
+  pub lost : ℕ
+  pub more : before.0.lost ≤ lost
+  pub same : after ≡ (record before.0 { lost = lost; note = note }, before.1)
 
 -- a value in hand: the seat holds the turn by its ticket, and the slot that it has taken is empty
 pub record IsFirm {T : Type 0} (me : Me (Option T) View) (ticket caller out : ℕ) : Type 0 where

@@ -6,6 +6,7 @@ use Rattle.hm_model.specs.Entries.{calls_of}
 use Rattle.hm_turn.specs.declared.view.View.{View}
 use Rattle.hm_turn.specs.Histories.{StartsWith}
 use Rattle.hm_turn.specs.Known.{KnowsCallers}
+use Rattle.hm_turn.specs.Sound.{HasAsked}
 use Rattle.hm_turn.specs.Views.{knowledge, drawing, noting, finding, outrun, holding, knowing, resting}
 
 -- the turn came to the seat with the view v, which has the value: its entries begin with those seen, and have of the
@@ -17,6 +18,12 @@ pub record Wins {T : Type 0} (entries : T → List Entry) (origin_of : T → Lis
   pub begins : StartsWith (entries value) v.seen
   pub own : calls_of (entries value) v.caller ≡ v.mine
   pub origin_is : origin_of value ≡ v.origin
+
+-- after some asking the turn came to the seat, which drew this number
+pub record WinsLater {T : Type 0} (entries : T → List Entry) (origin_of : T → List ℕ) (before : Me (Option T) View) (number : ℕ) (after : Me (Option T) View) : Type 0 where
+  pub asking : Me (Option T) View
+  pub asked : HasAsked before asking
+  pub won : Wins entries origin_of (drawing asking.0 number) after
 
 -- a ticket is drawn where it was the next, and else nothing is learnt
 abbrev pub drawn : {T : Type 0} → Step (Option T) → Me (Option T) View → ℕ → Me (Option T) View → Type 0

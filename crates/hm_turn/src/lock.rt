@@ -81,8 +81,9 @@ impl<T: Kept> TurnLock<T> {
         }
     }
 
-    /// The value. It waits until all who drew a ticket before it have given the value back. Once 2^64 - 1 tickets
-    /// are drawn it waits for ever.
+    /// The value. It looks a bounded number of times whether it can have the turn at once. If it cannot, it draws a
+    /// ticket, and waits until all who drew one before it have given the value back. Once 2^64 - 1 tickets are drawn
+    /// it waits for ever.
     pub fn take<R: Wait>(&self, rt: &R, turn: Turn) -> Held<T>
         requires lock { IsOf self.now turn }
         ensures taken { IsTaken T.entries T.origin self.now turn result }
@@ -90,8 +91,7 @@ impl<T: Kept> TurnLock<T> {
     {
         let Turn { badge, caller, out } = turn;
         let mut seat = badge.into_seat::<Option<T>>();
-        let ticket = self.draw(rt, &mut seat);
-        self.wait_for(rt, &mut seat, ticket);
+        let ticket = self.get_turn(rt, &mut seat);
         let value = self.table.shared.exchange(&mut seat, 0, None).unwrap();
         Held {
             seat,

@@ -1,7 +1,7 @@
-//! The tickets of a lock: how a seat draws one, waits for it, and asks for the turn without waiting.
-ghost use Rattle.std.specs.Prelude.{◌≡◌, ◌<◌, ◌+◌, ◌^◌, ℕ, true, false, []};
-ghost use Rattle.hm_turn.specs.Sound.{IsIdle, MayAsk, IsWaiting};
-ghost use Rattle.hm_turn.specs.Steps.{Wins};
+//! The tickets of a lock: how a seat asks for the turn without waiting, draws a ticket, and waits for it.
+ghost use Rattle.std.specs.Prelude.{◌≡◌, ◌<◌, ◌+◌, ◌^◌, ℕ, true, false, [], IfSome, IfNone};
+ghost use Rattle.hm_turn.specs.Sound.{IsIdle, MayAsk, IsWaiting, HasAsked};
+ghost use Rattle.hm_turn.specs.Steps.{Wins, WinsLater};
 ghost use Rattle.hm_turn.specs.Views.{drawing, noting, finding, outrun};
 
 use crate::steps::{Ask, Await, Draw, Observe, SERVING, TICKET};
@@ -12,6 +12,11 @@ use std::{hint, thread};
 
 /// How often a waiting call looks again at once, before it yields its processor between two looks.
 const SPINS: u32 = 100;
+
+/// How often a call that may wait looks whether it can have the turn at once, before it draws a ticket. So many looks
+/// mostly outlast the time that a holder is off its processor. Few tickets are drawn then, which serves all: a ticket
+/// whose owner does not run holds everybody up.
+const TRIES: u32 = 2_000;
 
 /// Lets other threads go on between two looks. It says how many looks there were without a yield.
 fn pause(looks: u32) -> u32 {
@@ -25,6 +30,60 @@ fn pause(looks: u32) -> u32 {
 }
 
 impl<T: Kept> TurnLock<T> {
+    /// Gets the turn: as soon as a look finds no ticket out, and after `TRIES` looks by a ticket that it waits for. It
+    /// says by which number.
+    pub(crate) fn get_turn<R: Wait>(&self, rt: &R, seat: &mut Seat<Option<T>, View>) -> u64
+        requires table { seat.old.table_id ≡ self.now.id }
+        requires idle { IsIdle seat.old.me }
+        ensures table { seat.new.table_id ≡ seat.old.table_id }
+        ensures next_fits { result + 1 < 2 ^ 64 }
+        ensures wins { WinsLater T.entries T.origin seat.old.me result seat.new.me }
+    {
+        if let Some(number) = self.ask_often(seat) {
+            return number;
+        }
+        let ticket = self.draw(rt, seat);
+        self.wait_for(rt, seat, ticket);
+        ticket
+    }
+
+    /// Looks `TRIES` times at most, and asks for the turn until it is got. It says by which number it was got.
+    fn ask_often(&self, seat: &mut Seat<Option<T>, View>) -> Option<u64>
+        requires table { seat.old.table_id ≡ self.now.id }
+        requires idle { IsIdle seat.old.me }
+        ensures table { seat.new.table_id ≡ seat.old.table_id }
+        ensures next_fits { IfSome result (λ n. n + 1 < 2 ^ 64) }
+        ensures wins { IfSome result (λ n. WinsLater T.entries T.origin seat.old.me n seat.new.me) }
+        ensures asked { IfNone result (HasAsked seat.old.me seat.new.me) }
+    {
+        let mut looks = 0;
+        for _ in 0..TRIES {
+            if let Some(number) = self.ask_if_free(seat) {
+                return Some(number);
+            }
+            looks = pause(looks);
+        }
+        None
+    }
+
+    /// Asks for the turn, if no ticket is out. It says by which number it was got.
+    fn ask_if_free(&self, seat: &mut Seat<Option<T>, View>) -> Option<u64>
+        requires table { seat.old.table_id ≡ self.now.id }
+        requires idle { IsIdle seat.old.me }
+        ensures table { seat.new.table_id ≡ seat.old.table_id }
+        ensures next_fits { IfSome result (λ n. n + 1 < 2 ^ 64) }
+        ensures wins { IfSome result (λ n. WinsLater T.entries T.origin seat.old.me n seat.new.me) }
+        ensures asked { IfNone result (HasAsked seat.old.me seat.new.me) }
+    {
+        let serving = self.observe(seat);
+        let next = self.table.shared.peek(TICKET);
+        if serving < u64::MAX && next == serving && self.ask(seat, serving) {
+            Some(serving)
+        } else {
+            None
+        }
+    }
+
     /// Draws the next ticket.
     pub(crate) fn draw<R: Wait>(&self, rt: &R, seat: &mut Seat<Option<T>, View>) -> u64
         requires table { seat.old.table_id ≡ self.now.id }
