@@ -1,5 +1,5 @@
 -- The table after each call: what is kept, and what contracts see.
-use Rattle.std.proofs.Common.{◌≡◌, ◌≢◌, ℕ, zero, suc, ◌-◌, ◌^◌, ◌<◌, ◌≤◌, inl, inr, true, false, List, [], ◌∷◌, ◌++◌, length, refl, sym, ap, subst, ◌∙◌, arith, length-append}
+use Rattle.std.proofs.Common.{◌≡◌, ◌≢◌, ℕ, zero, suc, ◌-◌, ◌^◌, ◌<◌, ◌≤◌, inl, inr, Bool, true, false, List, map, [], ◌∷◌, ◌++◌, length, refl, sym, ap, subst, ◌∙◌, arith, length-append}
 use Rattle.std.proofs.Math.ListN.{set, length-set}
 use Rattle.std.proofs.lemmas.Bool.{cases_eq, cases_Bool, both_ways, or_cases, ltb-true, cond-true, cond-false}
 use Rattle.std.proofs.lemmas.Option.{none-some, same_Some, slice_get_within}
@@ -15,7 +15,7 @@ use Rattle.hm_slab_lists.specs.Chained.{Chained, no_slabs, with_lists, with_slab
 use Rattle.hm_slab_lists.specs.ChainsLending.{with_meta_at}
 use Rattle.hm_slab_lists.specs.TableLending.{with_meta_of}
 use Rattle.hm_slab_lists.specs.Links.{front}
-use Rattle.hm_slab_lists.specs.Lists.{Lists, no_lists, among, list_in, gone, headed, ended, placed, IsLoose}
+use Rattle.hm_slab_lists.specs.Lists.{Lists, no_lists, among, is_open_in, list_in, gone, headed, ended, placed, IsLoose}
 use Rattle.hm_slab_lists.specs.Numbers.{nth_slab, after}
 use Rattle.hm_slab_lists.specs.Table.{Table, opened_fresh, opened_retired, settled, settled_by, unparked, retired, is_open, numbered, shown, IsParked, IsTable}
 use Rattle.hm_slab_lists.specs.Named.{list_named}
@@ -25,7 +25,7 @@ use Rattle.hm_slab_lists.proofs.Places.{get-set_same, get-set_other, cases_name,
 use Rattle.hm_slab_lists.proofs.Members.{among_head, among_tail, among-without_other, among-last_other}
 use Rattle.hm_slab_lists.proofs.Unlinking.{gone_in}
 use Rattle.hm_slab_lists.proofs.Whole.{gone_loose}
-use Rattle.hm_slab_lists.proofs.Numbering.{same_index, nth-after, list_in-numbered, numbered-gone, numbered-headed, numbered-ended, numbered-placed, numbered_member}
+use Rattle.hm_slab_lists.proofs.Numbering.{same_index, nth-after, among-numbers, list_in-numbered, numbered-gone, numbered-headed, numbered-ended, numbered-placed, numbered_member}
 use Rattle.hm_slab_lists.proofs.ByNumber.{insert_last, insert_set}
 
 -- ---- an edit of the lists at one place
@@ -452,3 +452,26 @@ pub lent_if : (o : Option (MutBor SlabUse)) (F G : SlabUse → Table) (v u : Tab
     → read_of (ghost_name_of o) F v ≡ read_of (ghost_name_of o) G u
 lent_if None F G v u there same = λ i. inr (same i)
 lent_if (Some r) F G v u there same = λ i. inl (r.ghost_name, λ w. there refl w i)
+
+-- ---- whether a slab is open
+pub open_at_index : (chains : Chained) (parking : List (Option ℕ)) (limit g slots n p : ℕ) (now : Table) → 1 ≤ g → g ≤ 8 → nth_slab g p ≡ n
+    → shown chains parking limit g slots ≡ now → is_open_in p chains.lists ≡ is_open n now
+open_at_index chains parking limit g slots n p now some few number view =
+    let same : (xs : List ℕ) → among p xs ≡ among n (map (nth_slab g) xs) = λ xs. sym (among-numbers g some few p xs) ∙ ap (λ (m : ℕ). among m (map (nth_slab g) xs)) number in
+    ap (λ (b : Bool). b || (among p chains.lists.empty || among p chains.lists.full)) (same chains.lists.partial)
+    ∙ ap (λ (b : Bool). among n (map (nth_slab g) chains.lists.partial) || (b || among p chains.lists.full)) (same chains.lists.empty)
+    ∙ ap (λ (b : Bool). among n (map (nth_slab g) chains.lists.partial) || (among n (map (nth_slab g) chains.lists.empty) || b)) (same chains.lists.full)
+    ∙ ap (λ (t : Table). is_open n t) view
+
+-- one that was never opened is not open
+pub past_shut : (chains : Chained) (parking : List (Option ℕ)) (limit g slots n p : ℕ) (now : Table) → IsTable chains parking limit g slots
+    → shown chains parking limit g slots ≡ now → ((q : ℕ) → q < length chains.metas → nth_slab g q ≡ n → p ≡ q) → length chains.metas ≤ p
+    → is_open n now ≡ false
+past_shut chains parking limit g slots n p now kept view opened past =
+    elim (cases_Bool (is_open n now)) as (λ _. is_open n now ≡ false) [
+      | inl e ↦
+          let listed = open_list n now e in
+          let at = stands chains parking limit g slots n p now listed.0 kept view opened listed.1 in
+          absurd (omega (arith, past, at.below))
+      | inr e ↦ e
+    ]

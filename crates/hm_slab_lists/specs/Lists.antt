@@ -1,5 +1,5 @@
 -- Four lists of slabs.
-use Rattle.std.specs.Prelude.{◌≡◌, ℕ, ◌==◌, Bool, false, not, if◌then◌else◌, List, [], ◌∷◌, ◌++◌}
+use Rattle.std.specs.Prelude.{◌≡◌, ℕ, ◌==◌, Bool, false, not, ◌||◌, if◌then◌else◌, List, [], ◌∷◌, ◌++◌}
 use Rattle.std.specs.List.{list_any, filter}
 use Rattle.hm_slab_lists.specs.declared.slab.ListName.{ListName}
 use Rattle.hm_slab_lists.specs.declared.slab.ListName.TheVariants.{Partial, Empty, Full, Retired}
@@ -53,6 +53,10 @@ ended list n lists = with_list lists list (list_in lists list ++ n ∷ [])
 -- slab n goes to the front of a list; where it stands in that list, it stays in place
 abbrev pub placed : ListName → ℕ → Lists → Lists
 placed list n lists = if among n (list_in lists list) then lists else headed list n (gone n lists)
+
+-- slab n is in the partial, the empty or the full list
+abbrev pub is_open_in : ℕ → Lists → Bool
+is_open_in n lists = among n lists.partial || (among n lists.empty || among n lists.full)
 
 abbrev pub IsLoose : ℕ → Lists → Type 0
 IsLoose n lists = (list : ListName) → among n (list_in lists list) ≡ false

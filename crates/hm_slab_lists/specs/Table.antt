@@ -1,5 +1,5 @@
 -- The slabs of a region, as callers see them.
-use Rattle.std.specs.Prelude.{◌≡◌, ℕ, suc, ◌-◌, ◌^◌, ◌<◌, ◌≤◌, Bool, true, ◌||◌, List, [], ◌∷◌, map, length, replicate, Option, Some, None, slice_get, slice_index_or, slice_set, refl}
+use Rattle.std.specs.Prelude.{◌≡◌, ℕ, suc, ◌-◌, ◌^◌, ◌<◌, ◌≤◌, Bool, true, List, [], ◌∷◌, map, length, replicate, Option, Some, None, slice_get, slice_index_or, slice_set, refl}
 use Rattle.std.specs.Ordering.{nat_cmp}
 use Rattle.std.specs.Coded.{Coded, code_by, coded_ℕ, coded×, coded_list, coded_option}
 use Rattle.std.specs.FinMap as finite
@@ -8,7 +8,7 @@ use Rattle.hm_slab_meta.specs.Uses.{SlabUse, fresh_slab}
 use Rattle.hm_slab_lists.specs.declared.slab.ListName.{ListName}
 use Rattle.hm_slab_lists.specs.declared.slab.ListName.TheVariants.{Empty, Retired}
 use Rattle.hm_slab_lists.specs.Chained.{Chained}
-use Rattle.hm_slab_lists.specs.Lists.{Lists, no_lists, among, list_in, gone, headed, ended, placed, IsLoose}
+use Rattle.hm_slab_lists.specs.Lists.{Lists, no_lists, among, is_open_in, list_in, gone, headed, ended, placed, IsLoose}
 use Rattle.hm_slab_lists.specs.Named.{list_named}
 use Rattle.hm_slab_lists.specs.Numbers.{nth_slab, after}
 
@@ -71,7 +71,7 @@ with_spare spare t = record t { spare = spare }
 
 -- slab n is in the partial, the empty or the full list
 abbrev pub is_open : ℕ → Table → Bool
-is_open n t = among n t.lists.partial || (among n t.lists.empty || among n t.lists.full)
+is_open n t = is_open_in n t.lists
 
 -- slab n, a fresh one, heads the empty list
 abbrev pub opened_fresh : ℕ → Table → Table

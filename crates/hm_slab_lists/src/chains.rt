@@ -4,7 +4,7 @@ ghost use Rattle.std.specs.Prelude.{◌≡◌, ◌<◌, ◌≤◌, length, slice
 ghost use Rattle.std.specs.Option.{option_copied, option_copied_mut};
 ghost use Rattle.std.specs.Borrow.{sem};
 ghost use Rattle.hm_slab_lists.specs.Links.{front};
-ghost use Rattle.hm_slab_lists.specs.Lists.{list_in, among, gone, headed, ended, placed, IsLoose};
+ghost use Rattle.hm_slab_lists.specs.Lists.{list_in, among, is_open_in, gone, headed, ended, placed, IsLoose};
 ghost use Rattle.hm_slab_lists.specs.Chained.{no_slabs, with_slab, with_lists};
 ghost use Rattle.hm_slab_lists.specs.ChainsLending.{LendsMetaAt};
 
@@ -116,6 +116,16 @@ impl Chains {
             Some(link) => link.list == list,
             None => false,
         }
+    }
+
+    /// Whether the slab is in the partial, the empty or the full list.
+    pub(crate) fn is_open(&self, at: usize) -> bool
+        requires { at < length self.now.metas }
+        ensures { result ≡ is_open_in at self.now.lists }
+    {
+        self.is_in(at, ListName::Partial)
+            || self.is_in(at, ListName::Empty)
+            || self.is_in(at, ListName::Full)
     }
 
     /// Takes the slab out of the list that it is in, if it is in one.

@@ -153,6 +153,14 @@ impl SlabLists {
         self.chains.meta_mut(index)
     }
 
+    /// Whether a slab is in the partial, the empty or the full list.
+    pub fn is_open(&self, n: u64) -> bool
+        ensures { result ≡ is_open n self.now }
+    {
+        let index = index_in(&self.chains, self.guard_interval, n);
+        index < self.chains.len() && self.chains.is_open(index)
+    }
+
     /// How many slabs are in the empty list.
     pub fn empty_count(&self) -> u64
         ensures { result ≡ length self.now.lists.empty }

@@ -20,6 +20,9 @@ fn guards_are_left_out(rt: HostRuntime) -> Result<(), Fail> {
     assert!(rt; matches!(lists.next_source(), Place::Fresh(2)));
     assert!(rt; lists.meta(0).is_some());
     assert!(rt; lists.meta(1).is_none());
+    assert!(rt; lists.is_open(0));
+    assert!(rt; !lists.is_open(1));
+    assert!(rt; !lists.is_open(2));
     Ok(())
 }
 
@@ -29,6 +32,7 @@ fn retired_slabs_are_parked_first(rt: HostRuntime) -> Result<(), Fail> {
     lists.reserve_one()?;
     lists.open_fresh(0);
     assert_eq!(rt; lists.retire(0, 0), None);
+    assert!(rt; !lists.is_open(0));
     assert!(rt;
         matches!(lists.next_source(), Place::Fresh(2)),
         "slab 0 is parked"
@@ -37,7 +41,9 @@ fn retired_slabs_are_parked_first(rt: HostRuntime) -> Result<(), Fail> {
     lists.open_fresh(2);
     assert_eq!(rt; lists.retire(2, 0), Some(0));
     assert!(rt; matches!(lists.next_source(), Place::Retired(0)));
+    assert!(rt; !lists.is_open(0));
     lists.open_retired(0);
+    assert!(rt; lists.is_open(0));
     assert!(rt; matches!(lists.next_source(), Place::Empty(0)));
     lists.after_release(0);
     assert!(rt; matches!(lists.next_source(), Place::Empty(0)));
