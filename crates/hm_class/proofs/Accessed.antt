@@ -98,13 +98,6 @@ trap_on p uses a end q shape e is =
     trap_skip p uses a (q - a) (end - a) (λ j less. accessible_on p uses a (a + j) shape e (omega arith) (omega (arith, less, is)))
     ∙ ap (λ (x : ℕ). trap_in p uses x ((end - a) - (q - a))) (omega (arith, is)) ∙ ap (λ (n : ℕ). trap_in p uses q n) (omega (arith, is))
 
-pub trap_here : (p : Shape) (uses : Uses) (a n : ℕ) → 0 < n → is_accessible p uses a ≡ false → trap_in p uses a n ≡ Some a
-trap_here p uses a zero some e = absurd (omega arith)
-trap_here p uses a (suc n) some e = ap (λ (b : Bool). cond b (trap_in p uses (a + 1) n) (Some a)) e
-
-pub trap_end : (p : Shape) (uses : Uses) (a n : ℕ) → n ≡ 0 → trap_in p uses a n ≡ None
-trap_end p uses a n e = ap (λ (m : ℕ). trap_in p uses a m) e
-
 -- where there is no trap the first address is accessible
 pub begins_inside : (p : Shape) (uses : Uses) (a n : ℕ) → 1 ≤ n → trap_in p uses a n ≡ None → IsInside p uses a
 begins_inside p uses a zero some e = absurd (omega arith)

@@ -1,19 +1,17 @@
 -- The words and the choices of an allotment are the next ones.
-use Rattle.std.proofs.Common.{◌≡◌, ℕ, zero, suc, ◌+◌, ◌*◌, ◌<◌, ◌≤◌, Bool, true, false, IfSome, cond, not, ◌&&◌, List, [], ◌∷◌, Option, Some, None, is_some, unwrap_or, sym, ◌∙◌, ap, subst, refl, arith}
+use Rattle.std.proofs.Common.{◌≡◌, ℕ, ◌+◌, Bool, true, false, IfSome, cond, ◌&&◌, Option, Some, None, sym, ◌∙◌, ap, subst, refl, arith}
 use Rattle.hm_choice.specs.Stream.{Words, next_word, after_word, canary_of, drawn}
 use Rattle.hm_model.specs.declared.entry.Entry.{Entry}
 use Rattle.hm_model.specs.declared.entry.Who.{Who}
 use Rattle.hm_model.specs.declared.entry.Call.TheVariants.{Allot}
 use Rattle.hm_model.specs.declared.entry.Reply.{Reply}
-use Rattle.hm_model.specs.declared.entry.Choices.{Choices}
-use Rattle.hm_model.specs.declared.entry.Draws.{Draws}
 use Rattle.hm_model.specs.Entries.{AreDraws}
 use Rattle.hm_sizes.specs.declared.shape.Shape.{Shape}
 use Rattle.hm_sizes.specs.Shapes.{slab_of, has_bytes}
 use Rattle.hm_class_rules.specs.State.{State}
 use Rattle.hm_class_rules.specs.Steps.{opened}
 use Rattle.hm_class_rules.specs.Drawn.{first_free}
-use Rattle.hm_class_rules.specs.Draws.{Event, Picked, event, event_of, words_of, words_from, after_words, word_count, canary_words, start_words, start_slot, word_after}
+use Rattle.hm_class_rules.specs.Draws.{Event, Picked, event, event_of, words_of, words_from, after_words, word_count, canary_words, start_slot, word_after}
 use Rattle.hm_class_rules.specs.Rules.{Terms}
 use Rattle.hm_class_rules.specs.Stepped.{Cells, front, IsSteppedEntry, IsSteppedEvent}
 use Rattle.hm_class.specs.declared.outcome.Canary.{Canary}

@@ -1,19 +1,16 @@
 -- One entry more: the region keeps what it is to keep.
-use Rattle.std.proofs.Common.{◌≡◌, ℕ, ◌+◌, ◌*◌, ◌^◌, ◌<◌, ◌≤◌, Bool, true, false, IsTrue, cond, not, ◌&&◌, List, [], ◌∷◌, ◌++◌, length, reverse, slice_get, ◌==◌, Option, Some, None, is_some, unwrap_or, option_map, sym, ◌∙◌, ap, subst, refl, arith, length-append, true≢false}
-use Rattle.std.specs.FinMap as map
-use Rattle.std.specs.Option.{option_and_then, option_map_or}
-use Rattle.std.specs.Int.{to_le_bytes}
-use mir.Syntax.{w64}
+use Rattle.std.proofs.Common.{◌≡◌, ℕ, ◌+◌, ◌^◌, ◌<◌, ◌≤◌, Bool, true, false, IsTrue, cond, not, List, [], ◌∷◌, ◌++◌, length, ◌==◌, Option, Some, None, sym, ◌∙◌, ap, subst, refl, arith, true≢false}
 use Rattle.std.proofs.lemmas.Option.{none-some}
-use Rattle.hm_choice.specs.Stream.{Words, next_word, after_word, canary_of, drawn}
+use Rattle.hm_choice.specs.Stream.{Words}
 use Rattle.hm_quarantine.specs.Quarantine.{Kept}
 use Rattle.hm_outside.specs.declared.pages.Pages as pages
-use Rattle.hm_outside.specs.PageRuns.{PageRuns, MeetsNone, IsHeld, Reads, Writes, zeros}
+use Rattle.hm_outside.specs.PageRuns.{PageRuns, IsHeld, Reads}
 use Rattle.hm_model.specs.Machine.{run_push, Legal_push}
+use Rattle.hm_model.specs.Maps.{among, times}
 use Rattle.hm_model.specs.declared.entry.Entry.{Entry}
 use Rattle.hm_model.specs.declared.entry.Who.{Who}
 use Rattle.hm_model.specs.declared.entry.Call.{Call}
-use Rattle.hm_model.specs.declared.entry.Call.TheVariants.{Allot, GiveBack, Measure, Fetch, Fill}
+use Rattle.hm_model.specs.declared.entry.Call.TheVariants.{GiveBack, Measure, Fetch, Fill}
 use Rattle.hm_model.specs.Runs.{expand}
 use Rattle.hm_model.specs.declared.entry.Reply.{Reply}
 use Rattle.hm_model.specs.declared.entry.Reply.TheVariants as reply
@@ -24,17 +21,16 @@ use Rattle.hm_sizes.specs.declared.config.Config.{Config}
 use Rattle.hm_sizes.specs.declared.shape.Shape.{Shape}
 use Rattle.hm_sizes.specs.declared.class.ClassId.{ClassId}
 use Rattle.hm_sizes.specs.Classes.{class_count, class_size, slot_size}
-use Rattle.hm_sizes.specs.Shapes.{IsShape, place, slab_at, slab_of, has_bytes, usable, class_size_of}
-use Rattle.hm_sizes.specs.Sizes.{raised}
+use Rattle.hm_sizes.specs.Shapes.{IsShape, has_bytes, usable, class_size_of}
 use Rattle.hm_class_rules.specs.State.{State, start, is_open, is_live}
-use Rattle.hm_class_rules.specs.Steps.{step, opened, gives, condemns, takes_back, releases}
-use Rattle.hm_class_rules.specs.Bytes.{first_nonzero, usable_bytes, overlaid_slabs, first_trap, write}
-use Rattle.hm_class_rules.specs.Draws.{Event, Picked, Returned, Undrawn, event, event_of, drawn_shape}
+use Rattle.hm_class_rules.specs.Steps.{step}
+use Rattle.hm_class_rules.specs.Bytes.{first_trap, write}
+use Rattle.hm_class_rules.specs.Draws.{Undrawn, event_of, drawn_shape}
 use Rattle.hm_class_rules.specs.Drawn.{IsDrawn}
 use Rattle.hm_class_rules.specs.DrawnLaws.{AreKept, AllowsDrawn}
-use Rattle.hm_class_rules.specs.Rules.{Terms, Allowed, Allows, Asks, Picks, IsLegal, state, IsLiveBlock, wrong_size, wrong_canary}
+use Rattle.hm_class_rules.specs.Rules.{Terms, Allowed, Allows, Asks, IsLegal, state, IsLiveBlock, wrong_size, wrong_canary}
 use Rattle.hm_class_rules.specs.Laws.{IsSound}
-use Rattle.hm_class_rules.specs.Stepped.{Cells, cells, next, IsSteppedEntry, IsStepped, first_cells}
+use Rattle.hm_class_rules.specs.Stepped.{Cells, next, IsSteppedEntry}
 use Rattle.hm_class_rules.proofs.Legal.{sound}
 use Rattle.hm_class_rules.proofs.NextEntry.{lists_are_kept, drawn_is_allowed, one_more_stepped, next_cells}
 use Rattle.hm_class_rules.proofs.Alike.{drawn_is_stepped}
@@ -44,21 +40,26 @@ use Rattle.hm_class.specs.Access.{trap_in, Fetches, IsFetched, FetchTraps, Fills
 use Rattle.hm_class.specs.Calls.{ReplyTraps}
 use Rattle.hm_class.specs.declared.outcome.Outcome.{Outcome}
 use Rattle.hm_class.specs.declared.outcome.Outcome.TheVariants as outcome
-use Rattle.hm_class.specs.declared.slabs.Slot.{Slot}
-use Rattle.hm_class.specs.declared.slabs.Slabs.{Slabs}
-use Rattle.hm_class.specs.Uses.{Uses, SlabUse, canary_at, live_count}
+use Rattle.hm_class.specs.Slabs.{Slabs}
+use Rattle.hm_class.specs.Uses.{Uses, kind_at, canary_at, live_count}
 use Rattle.hm_class.specs.Region.{Region, IsRegion, IsTakenBack, HoldsSlabs, region_shape, region_state, terms}
-use Rattle.hm_class.specs.Rooms.{SameSlabs}
+use Rattle.hm_class.specs.Slabs.{SameSlabs}
 use Rattle.hm_model.specs.Calls.{Adds, no_choices, entry_of, no_words}
 use Rattle.hm_model.specs.Replies.{IsClassReply, IsFetchReply}
-use Rattle.hm_class.specs.Calls.{Added}
 use Rattle.hm_class.specs.Outcomes.{reply_of}
-use Rattle.hm_class.specs.Judgements.{Refusals, RefusesCanary, Accepts, Measures, other_number}
+use Rattle.hm_class.specs.Judgements.{Refusals, RefusesCanary, Measures, other_number}
 use Rattle.hm_class.specs.Kept.{Shows, Follows, IsServed, IsKept, terms_of, cells_of}
 use Rattle.hm_class_rules.proofs.Whole.{whole_run}
+use Rattle.hm_slab_lists.specs.Lists.{Lists}
+use Rattle.hm_class_rules.specs.State.{is_partial, is_empty}
+use Rattle.hm_class_rules.specs.Kinds.{Kind, Partial, Empty, Neither, kind, same_kind}
+use Rattle.hm_model.proofs.Lists.{among_times, among_none}
+use Rattle.hm_class_rules.proofs.Sound.{has_times}
 use Rattle.hm_class.proofs.Accessed.{trap_whole}
+use Rattle.hm_class.proofs.Filing.{Stands, IsLoose, same_full}
+use Rattle.hm_class.proofs.Shown.{kind_is, kind_shut}
 use Rattle.hm_class.proofs.Followed.{shows_count, shows_written}
-use Rattle.hm_class.proofs.Listed.{next_undrawn, stepped_undrawn}
+use Rattle.hm_class.proofs.Listed.{next_undrawn, stepped_undrawn, partial_kind, empty_kind}
 use Rattle.hm_class.proofs.Permitted.{allowed_of, no_slot, unused, double_free, live_block, live_open, canary_found, told_pair}
 
 -- ---- what callers see
@@ -113,11 +114,11 @@ reply_of_region meaning r old p k stream quarantine parking call given answer vi
 -- where a range traps by the slots it traps by the region's state
 pub trap_of_region : {P : Type 0} (meaning : pages.Ghosts P) (r old : Region P) (p : Shape) (k : Slabs) (stream : Words) (quarantine : Kept) (parking : List (Option ℕ)) (a len : ℕ) → r ≡ old → r.class ≡ p.class
     → IsKept (meaning.told r.pages) (meaning.runs r.pages) (meaning.faults r.pages) r.config r.number r.arena p r.entries k stream quarantine parking
-    → trap_in p k.slabs.items a len ≡ first_trap (region_shape old) (region_state meaning.told old) a len
+    → trap_in p k.slabs a len ≡ first_trap (region_shape old) (region_state meaning.told old) a len
 trap_of_region meaning r old p k stream quarantine parking a len view class kept =
     let t : Terms = terms_of (meaning.told r.pages) r.config p in
     let is : p ≡ region_shape r = shape_is meaning r p k stream quarantine parking class kept in
-    sym (trap_whole p k.slabs.items (state t r.entries) a len kept.served.shape kept.follows.shows (whole_run t r.entries kept.legal))
+    sym (trap_whole p k.slabs (state t r.entries) a len kept.served.shape kept.follows.shows (whole_run t r.entries kept.legal))
     ∙ ap (λ (q : Shape). first_trap q (state (terms_of (meaning.told r.pages) r.config q) r.entries) a len) is
     ∙ ap (λ (q : Region _). first_trap (region_shape q) (region_state meaning.told q) a len) view
 
@@ -176,6 +177,44 @@ module _ (told : Bool) (runs : PageRuns) (faults : ℕ) (c : Config) (number are
   pub kept_now : AreKept (terms_of told c p) before held
   kept_now = subst (λ (x : Cells). AreKept (terms_of told c p) before x) kept.lists (lists_are_kept number arena (terms_of told c p) es kept.served.valid.park_some kept.served.shape kept.legal kept.stepped)
 
+  -- where a slab stands
+  in_list : (xs : List ℕ) (n : ℕ) (b : Bool) → times n xs ≡ cond b 1 0 → among n xs ≡ b
+  in_list xs n true e = among_times n xs (omega (arith, e))
+  in_list xs n false e = among_none n xs e
+
+  as_partial : (n : ℕ) → among n k.lists.partial ≡ same_kind (kind p before n) Partial
+  as_partial n = in_list k.lists.partial n (is_partial p before n) (kept_now.partial n) ∙ sym (partial_kind p before n)
+
+  as_empty : (n : ℕ) → among n k.lists.empty ≡ same_kind (kind p before n) Empty
+  as_empty n = in_list k.lists.empty n (is_empty p before n) (kept_now.empty n) ∙ sym (empty_kind p before n)
+
+  retired_times : (n : ℕ) → times n k.lists.retired ≡ times n before.shut
+  retired_times n = ap (λ (l : List ℕ). times n l) kept.follows.shut
+
+  pub stands_now : (n : ℕ) → is_open before n ≡ true → Stands k.lists n (kind_at k.slabs n)
+  stands_now n on =
+      let is : kind p before n ≡ kind_at k.slabs n = kind_is p k.slabs before n kept.served.shape kept.follows.shows in
+      record {
+        partial = as_partial n ∙ ap (λ (x : Kind). same_kind x Partial) is;
+        empty = as_empty n ∙ ap (λ (x : Kind). same_kind x Empty) is;
+        full = λ e. (kept.follows.full n e).1;
+        retired = among_none n k.lists.retired (omega (arith, retired_times n, sound_now.slab_once n, has_times n before.opens on));
+      }
+
+  pub loose_now : (n : ℕ) → is_open before n ≡ false → IsLoose k.lists n
+  loose_now n off =
+      let is : kind p before n ≡ Neither = kind_shut p before n kept.served.shape off in
+      record {
+        partial = as_partial n ∙ ap (λ (x : Kind). same_kind x Partial) is;
+        empty = as_empty n ∙ ap (λ (x : Kind). same_kind x Empty) is;
+        full = never (among n k.lists.full) (λ e. true≢false (sym (kept.follows.full n e).0 ∙ sym (kept.follows.shows.opens n) ∙ off));
+        once = omega (arith, retired_times n, sound_now.slab_once n);
+      }
+    where
+      never : (b : Bool) → (b ≡ true → ⊥) → b ≡ false
+      never true h = absurd (h refl)
+      never false h = refl
+
   pub pushed : (runs' : PageRuns) (faults' : ℕ) (k' : Slabs) (stream' : Words) (quarantine' : Kept) (parking' : List (Option ℕ)) (e : Entry) → Allowed (terms_of told c p) before e → IsSteppedEntry (terms_of told c p) held e → faults' ≡ e.faults_after
       → Follows p (step p before e) k' → (IsTrue told → HoldsSlabs p (step p before e).opens runs') → next (terms_of told c p) held e ≡ cells_of (step p before e) k' stream' quarantine' parking'
       → IsKept told runs' faults' c number arena p (es ++ e ∷ []) k' stream' quarantine' parking'
@@ -201,28 +240,34 @@ module _ (told : Bool) (runs : PageRuns) (faults : ℕ) (c : Config) (number are
     count = is ∙ kept.count;
     follows = record {
       shows = subst (λ (u : Uses). Shows p u before) (sym slabs.slabs) kept.follows.shows;
-      shut = slabs.shut ∙ kept.follows.shut;
+      shut = ap (λ (l : Lists). l.retired) slabs.rest.lists ∙ kept.follows.shut;
+      full = same_full k.slabs k'.slabs k.lists.full k'.lists.full slabs.slabs (ap (λ (l : Lists). l.full) slabs.rest.lists) kept.follows.full;
+      numbers = slabs.rest.numbers ∙ kept.follows.numbers;
       counted = slabs.live ∙ kept.follows.counted ∙ ap live_count (sym slabs.slabs);
       live_all = omega (arith, kept.follows.live_all, slabs.live);
     };
     slabs = λ y. subst (λ (r : PageRuns). HoldsSlabs p before.opens r) (sym (same y)) (kept.slabs y);
-    lists = kept.lists ∙ ap (λ (l : List ℕ). (let x : Cells = record { state = before; stream = stream; partial = reverse l; empty = reverse k.empty.items; quarantine = quarantine; parking = parking } in x)) (sym slabs.partial)
-        ∙ ap (λ (l : List ℕ). (let x : Cells = record { state = before; stream = stream; partial = reverse k'.partial.items; empty = reverse l; quarantine = quarantine; parking = parking } in x)) (sym slabs.empty);
+    lists = kept.lists ∙ ap (λ (l : Lists). lists_with l) (sym slabs.rest.lists);
   })
+    where
+      lists_with : Lists → Cells
+      lists_with l = record { state = before; stream = stream; partial = l.partial; empty = l.empty; quarantine = quarantine; parking = parking }
 
   -- an entry that draws nothing, after which the same slots say what the state says
   pub kept_undrawn : (runs' : PageRuns) (who : Who) (call : Call) (answer : Reply) (f : ℕ) (s' : State) → f ≡ faults → event_of call answer ≡ Undrawn → Allows (terms_of told c p) before f f no_choices call answer → Asks p call
-      → step p before (entry_of who call answer no_choices no_words f f) ≡ record s' { faults = f } → Shows p k.slabs.items s' → s'.live ≡ before.live → s'.shut ≡ before.shut → (IsTrue told → HoldsSlabs p s'.opens runs')
+      → step p before (entry_of who call answer no_choices no_words f f) ≡ record s' { faults = f } → Shows p k.slabs s' → s'.live ≡ before.live → s'.shut ≡ before.shut → (IsTrue told → HoldsSlabs p s'.opens runs')
       → IsKept told runs' faults c number arena p (es ++ entry_of who call answer no_choices no_words f f ∷ []) k stream quarantine parking
   kept_undrawn runs' who call answer f s' is undrawn allows asks after shows live shut slabs =
       let e : Entry = entry_of who call answer no_choices no_words f f in
       let t : Terms = terms_of told c p in
-      let shows' : Shows p k.slabs.items (step p before e) = subst (λ (s : State). Shows p k.slabs.items s) (sym after) (shows_count p k.slabs.items s' f shows) in
+      let shows' : Shows p k.slabs (step p before e) = subst (λ (s : State). Shows p k.slabs s) (sym after) (shows_count p k.slabs s' f shows) in
       pushed runs' faults k stream quarantine parking e
       (allowed_of t before who call answer no_choices no_words f f no_draws_are asks (is ∙ kept.count) (omega arith) allows)
       (stepped_undrawn t held e undrawn refl refl) (sym is)
       (record {
         shows = shows';
+        full = kept.follows.full;
+        numbers = kept.follows.numbers;
         shut = kept.follows.shut ∙ sym shut ∙ ap (λ (s : State). s.shut) (sym after);
         counted = kept.follows.counted;
         live_all = omega (arith, kept.follows.live_all, ap (λ (l : List (ℕ × ℕ)). length l) live, ap (λ (s : State). length s.live) after);
@@ -246,39 +291,39 @@ module _ (told : Bool) (runs : PageRuns) (faults : ℕ) (c : Config) (number are
 
     canary_told : (stated : Option ℕ) (held found : ℕ) → RefusesCanary meaning p k pages a stated held found → IsTrue told → wrong_canary p before a ≡ Some (held, found)
     canary_told stated kept_one found r t =
-        canary_found p k.slabs.items before r.slot.slab r.slot.index a runs (Some found) kept.served.shape r.own r.judged.0
-        (live_open p before r.slot.slab r.slot.index kept.served.shape sound_now r.judged.0.slot (ap (λ (q : ℕ). is_live before q) (sym r.judged.0.is) ∙ (live_block p k.slabs.items before a kept.served.shape kept.follows.shows r.slot r.judged).live)) kept.follows.shows (kept.slabs t)
-        (λ h. subst (λ (x : PageRuns). (last : List ℕ) × Reads x (a + usable p) 8 last × (Some found ≡ other_number last (canary_at k.slabs.items r.slot.slab))) runs_is
+        canary_found p k.slabs before r.slot.slab r.slot.index a runs (Some found) kept.served.shape r.own r.judged.0
+        (live_open p before r.slot.slab r.slot.index kept.served.shape sound_now r.judged.0.slot (ap (λ (q : ℕ). is_live before q) (sym r.judged.0.is) ∙ (live_block p k.slabs before a kept.served.shape kept.follows.shows r.slot r.judged).live)) kept.follows.shows (kept.slabs t)
+        (λ h. subst (λ (x : PageRuns). (last : List ℕ) × Reads x (a + usable p) 8 last × (Some found ≡ other_number last (canary_at k.slabs r.slot.slab))) runs_is
         (r.canary (tell_now t) (subst (λ (x : PageRuns). IsHeld x (a + usable p) 8) (sym runs_is) h)))
         ∙ ap (λ (x : ℕ). told_pair x found) (sym r.kept_is)
 
     -- a block that is to be taken back is not refused
     pub refusal_false : (stated : Option ℕ) (o : Outcome) → Refusals meaning p k pages a stated o → (has_bytes p ≡ true → IsTrue told) → IsLiveBlock p before a → wrong_size p stated ≡ None → wrong_canary p before a ≡ None → ⊥
-    refusal_false stated outcome.NoSlot r t block size canary = no_slot p k.slabs.items before a kept.served.shape kept.follows.shows r block.place
-    refusal_false stated outcome.Unused r t block size canary = true≢false (sym block.given ∙ (unused p k.slabs.items before a kept.served.shape kept.follows.shows r).1)
-    refusal_false stated outcome.DoubleFree r t block size canary = true≢false (sym block.live ∙ (double_free p k.slabs.items before a kept.served.shape kept.follows.shows r).2)
+    refusal_false stated outcome.NoSlot r t block size canary = no_slot p k.slabs before a kept.served.shape kept.follows.shows r block.place
+    refusal_false stated outcome.Unused r t block size canary = true≢false (sym block.given ∙ (unused p k.slabs before a kept.served.shape kept.follows.shows r).1)
+    refusal_false stated outcome.DoubleFree r t block size canary = true≢false (sym block.live ∙ (double_free p k.slabs before a kept.served.shape kept.follows.shows r).2)
     refusal_false stated (outcome.WrongSize b other) r t block size canary = none-some (b, other) (sym size ∙ r.size)
     refusal_false stated (outcome.Canary kept_one found) r t block size canary = none-some (kept_one, found) (sym canary ∙ canary_told stated kept_one found r (t r.own))
     refusal_false stated other r t block size canary = absurd r
 
     pub kept_refused : (stated : Option ℕ) (o : Outcome) → Refusals meaning p k pages a stated o → no_change who (GiveBack a stated) (reply_of o) f
-    kept_refused stated outcome.NoSlot r = kept_still who (GiveBack a stated) reply.NoSlot f is refl (no_slot p k.slabs.items before a kept.served.shape kept.follows.shows r, refl) tt refl
-    kept_refused stated outcome.Unused r = kept_still who (GiveBack a stated) reply.Unused f is refl (unused p k.slabs.items before a kept.served.shape kept.follows.shows r, refl) tt refl
-    kept_refused stated outcome.DoubleFree r = kept_still who (GiveBack a stated) reply.DoubleFree f is refl (double_free p k.slabs.items before a kept.served.shape kept.follows.shows r, refl) tt refl
-    kept_refused stated (outcome.WrongSize block other) r = kept_still who (GiveBack a stated) (reply.WrongSize block other) f is refl (live_block p k.slabs.items before a kept.served.shape kept.follows.shows r.slot r.judged, r.size, refl) tt refl
-    kept_refused stated (outcome.Canary kept_one found) r = kept_still who (GiveBack a stated) (reply.Canary kept_one found) f is refl (live_block p k.slabs.items before a kept.served.shape kept.follows.shows r.slot r.judged, r.size, r.own, canary_told stated kept_one found r, refl) tt refl
+    kept_refused stated outcome.NoSlot r = kept_still who (GiveBack a stated) reply.NoSlot f is refl (no_slot p k.slabs before a kept.served.shape kept.follows.shows r, refl) tt refl
+    kept_refused stated outcome.Unused r = kept_still who (GiveBack a stated) reply.Unused f is refl (unused p k.slabs before a kept.served.shape kept.follows.shows r, refl) tt refl
+    kept_refused stated outcome.DoubleFree r = kept_still who (GiveBack a stated) reply.DoubleFree f is refl (double_free p k.slabs before a kept.served.shape kept.follows.shows r, refl) tt refl
+    kept_refused stated (outcome.WrongSize block other) r = kept_still who (GiveBack a stated) (reply.WrongSize block other) f is refl (live_block p k.slabs before a kept.served.shape kept.follows.shows r.slot r.judged, r.size, refl) tt refl
+    kept_refused stated (outcome.Canary kept_one found) r = kept_still who (GiveBack a stated) (reply.Canary kept_one found) f is refl (live_block p k.slabs before a kept.served.shape kept.follows.shows r.slot r.judged, r.size, r.own, canary_told stated kept_one found r, refl) tt refl
     kept_refused stated other r = absurd r
 
     pub kept_measured : (o : Outcome) → Measures p k a o → no_change who (Measure a) (reply_of o) f
-    kept_measured outcome.NoSlot r = kept_still who (Measure a) reply.NoSlot f is refl (no_slot p k.slabs.items before a kept.served.shape kept.follows.shows r, refl) tt refl
-    kept_measured outcome.Unused r = kept_still who (Measure a) reply.Unused f is refl (unused p k.slabs.items before a kept.served.shape kept.follows.shows r, refl) tt refl
-    kept_measured outcome.DoubleFree r = kept_still who (Measure a) reply.DoubleFree f is refl (double_free p k.slabs.items before a kept.served.shape kept.follows.shows r, refl) tt refl
-    kept_measured (outcome.Usable size) r = kept_still who (Measure a) (reply.Usable size) f is refl (live_block p k.slabs.items before a kept.served.shape kept.follows.shows r.0 r.1, r.2, refl) tt refl
+    kept_measured outcome.NoSlot r = kept_still who (Measure a) reply.NoSlot f is refl (no_slot p k.slabs before a kept.served.shape kept.follows.shows r, refl) tt refl
+    kept_measured outcome.Unused r = kept_still who (Measure a) reply.Unused f is refl (unused p k.slabs before a kept.served.shape kept.follows.shows r, refl) tt refl
+    kept_measured outcome.DoubleFree r = kept_still who (Measure a) reply.DoubleFree f is refl (double_free p k.slabs before a kept.served.shape kept.follows.shows r, refl) tt refl
+    kept_measured (outcome.Usable size) r = kept_still who (Measure a) (reply.Usable size) f is refl (live_block p k.slabs before a kept.served.shape kept.follows.shows r.0 r.1, r.2, refl) tt refl
     kept_measured other r = absurd r
 
   -- ---- reading and writing
   module _ (who : Who) (a f : ℕ) (is : f ≡ faults) (below : a < 2 ^ 47) where
-    pub kept_fetched : (len : ℕ) (fetched : Fetched) (r : Reply) → 1 ≤ len → len ≤ 2 ^ 30 → Fetches told runs p k.slabs.items a len fetched → RepliesTo fetched r → no_change who (Fetch a len) r f
+    pub kept_fetched : (len : ℕ) (fetched : Fetched) (r : Reply) → 1 ≤ len → len ≤ 2 ^ 30 → Fetches told runs p k.slabs a len fetched → RepliesTo fetched r → no_change who (Fetch a len) r f
     kept_fetched len (Bytes read) r some most fetches is_reply =
         subst (λ (x : Reply). no_change who (Fetch a len) x f) (sym is_reply.1)
         (kept_still who (Fetch a len) (reply.Bytes is_reply.0) f is refl (
@@ -290,13 +335,13 @@ module _ (told : Bool) (runs : PageRuns) (faults : ℕ) (c : Config) (number are
         subst (λ (x : Reply). no_change who (Fetch a len) x f) (sym is_reply)
         (kept_still who (Fetch a len) (reply.Trap q) f is refl ((λ t. fetches t before kept.follows.shows (kept.slabs t)), refl) (some, most, below) refl)
 
-    pub kept_filled : (runs' : PageRuns) (rs : List (ℕ × ℕ)) (bytes : List ℕ) (o : Outcome) → bytes ≡ expand rs → 1 ≤ length (expand rs) → length (expand rs) ≤ 2 ^ 30 → Fills told runs runs' p k.slabs.items a bytes o
+    pub kept_filled : (runs' : PageRuns) (rs : List (ℕ × ℕ)) (bytes : List ℕ) (o : Outcome) → bytes ≡ expand rs → 1 ≤ length (expand rs) → length (expand rs) ≤ 2 ^ 30 → Fills told runs runs' p k.slabs a bytes o
         → IsKept told runs' faults c number arena p (es ++ entry_of who (Fill a rs) (reply_of o) no_choices no_words f f ∷ []) k stream quarantine parking
     kept_filled runs' rs bytes outcome.Filled same some most fills =
         let w : List ℕ = expand rs in
         let now : IsTrue told → (first_trap p before a (length w) ≡ None) × HoldsSlabs p (write p a w before).opens runs' = λ t.
         subst (λ (l : List ℕ). (first_trap p before a (length l) ≡ None) × HoldsSlabs p (write p a l before).opens runs') same (fills t before kept.follows.shows (kept.slabs t)) in
-        kept_undrawn runs' who (Fill a rs) reply.Filled f (write p a w before) is refl ((λ t. (now t).0), refl) (some, most, below) refl (shows_written p k.slabs.items before a w kept.follows.shows) refl refl (λ t. (now t).1)
+        kept_undrawn runs' who (Fill a rs) reply.Filled f (write p a w before) is refl ((λ t. (now t).0), refl) (some, most, below) refl (shows_written p k.slabs before a w kept.follows.shows) refl refl (λ t. (now t).1)
     kept_filled runs' rs bytes (outcome.Trap q) same some most fills =
         kept_undrawn runs' who (Fill a rs) (reply.Trap q) f before is refl
         ((λ t. subst (λ (l : List ℕ). first_trap p before a (length l) ≡ Some q) same ((fills t).1 before kept.follows.shows (kept.slabs t))), refl) (some, most, below) refl

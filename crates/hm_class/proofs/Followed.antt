@@ -1,24 +1,23 @@
 -- How the slots follow the state, step by step.
-use Rattle.std.proofs.Common.{◌≡◌, ◌≢◌, ◌⊎◌, inl, inr, ⊎_elim, ℕ, ◌+◌, ◌<◌, ◌≤◌, ◌==◌, Bool, true, false, cond, not, ◌||◌, List, [], ◌∷◌, ◌++◌, length, slice_get, replicate, Option, Some, None, is_some, count_by, sym, ◌∙◌, ap, subst, refl, arith, true≢false}
-use Rattle.std.specs.List.{list_any}
+use Rattle.std.proofs.Common.{◌≡◌, ◌≢◌, ◌⊎◌, inl, inr, ⊎_elim, ℕ, ◌+◌, ◌<◌, ◌==◌, Bool, true, false, cond, ◌||◌, List, [], ◌∷◌, ◌++◌, length, slice_get, Option, Some, None, is_some, sym, ◌∙◌, ap, subst, refl, arith, true≢false}
 use Rattle.std.specs.Option.{option_and_then, option_map_or}
 use Rattle.std.specs.Int.{to_le_bytes}
 use mir.Syntax.{w64}
 use Rattle.std.proofs.lemmas.Bool.{cases_eq}
 use Rattle.std.proofs.lemmas.List.{length-replicate, length-set}
-use Rattle.std.proofs.lemmas.Option.{same_Some, none-some}
+use Rattle.std.proofs.lemmas.Option.{same_Some}
 use Rattle.hm_outside.specs.PageRuns.{zeros}
 use Rattle.hm_sizes.specs.declared.shape.Shape.{Shape}
 use Rattle.hm_sizes.specs.Shapes.{IsShape, place, after, usable}
-use Rattle.hm_model.specs.Maps.{among, at, has, put, removed, without}
+use Rattle.hm_model.specs.Maps.{among, at, has, put, removed}
 use Rattle.hm_model.proofs.Lists.{same_eq, other_eq}
 use Rattle.hm_class_rules.specs.State.{State, Slab, is_open, is_live}
-use Rattle.hm_class_rules.specs.Steps.{new_slab, opened, taken_new, gives, condemns, takes_back, releases, retires, unparks}
+use Rattle.hm_class_rules.specs.Steps.{new_slab, taken_new, gives, condemns, takes_back, releases, retires, unparks}
 use Rattle.hm_class_rules.specs.Bytes.{kept_canary, write}
 use Rattle.hm_class_rules.proofs.Fronts.{among_filter}
-use Rattle.hm_class.specs.declared.slab.SlotUse.{SlotUse}
-use Rattle.hm_class.specs.declared.slab.SlotUse.TheVariants.{Never, Free, Live, Held, Condemned}
-use Rattle.hm_class.specs.Uses.{Uses, SlabUse, lives, is_condemned, is_held, was_given, occupied, slab_in, open_at, canary_at, use_at, passes_at, changed, with_use, with_open, with_shut, with_slab, with_slot, opened_slab, shut_slab, fresh_slab, taken_uses}
+use Rattle.hm_slab_meta.specs.Uses.{SlotUse}
+use Rattle.hm_slab_meta.specs.Uses.{Never, Free, Live, Held, Condemned}
+use Rattle.hm_class.specs.Uses.{numbers_of, Uses, SlabUse, lives, is_condemned, is_held, was_given, occupied, slab_in, use_at, passes_at, changed, with_use, with_open, with_shut, with_slab, with_slot, opened_slab, shut_slab, fresh_slab, taken_uses}
 use Rattle.hm_class.specs.Kept.{Shows}
 use Rattle.hm_class.proofs.Entered.{has_removed_same, has_removed_other, has_put_same, has_put_other, at_put_same, at_put_other, at_removed, has_overlaid, canary_overlaid}
 use Rattle.hm_class.proofs.Places.{place_same}
@@ -332,22 +331,22 @@ shows_unparked p uses s (Some u) was h = record {
     left false x e = e
 
 -- ---- a slab comes from those that are shut, or is a fresh one
-shows_fresh : (p : Shape) (uses : Uses) (s : State) → Shows p uses s → Shows p (with_slab p uses (fresh_slab p.slots)) (record s { next = after p s.next })
+shows_fresh : (p : Shape) (uses : Uses) (s : State) → Shows p uses s → Shows p (with_slab p.guard_interval uses (fresh_slab p.slots)) (record s { next = after p s.next })
 shows_fresh p uses s h =
     let x : SlabUse = fresh_slab p.slots in
     let n : ℕ = length uses in
     let past : slab_in uses n ≡ None = slab_past uses n (omega arith) in
-    let each : (Says : ℕ → Option SlabUse → Type 0) → Says n (Some x) → ((m : ℕ) → m ≢ n → Says m (slab_in uses m)) → (m : ℕ) → Says m (slab_in (with_slab p uses x) m) =
+    let each : (Says : ℕ → Option SlabUse → Type 0) → Says n (Some x) → ((m : ℕ) → m ≢ n → Says m (slab_in uses m)) → (m : ℕ) → Says m (slab_in (with_slab p.guard_interval uses x) m) =
     λ Says here beside m. ⊎_elim
-    (λ (e : m ≡ n). subst (λ (k : ℕ). Says k (slab_in (with_slab p uses x) k)) (sym e) (subst (λ (o : Option SlabUse). Says n o) (sym (slab_new p uses x)) here))
-    (λ (ne : m ≢ n). subst (λ (o : Option SlabUse). Says m o) (sym (slab_old p uses x m ne)) (beside m ne))
+    (λ (e : m ≡ n). subst (λ (k : ℕ). Says k (slab_in (with_slab p.guard_interval uses x) k)) (sym e) (subst (λ (o : Option SlabUse). Says n o) (sym (slab_new p.guard_interval uses x)) here))
+    (λ (ne : m ≢ n). subst (λ (o : Option SlabUse). Says m o) (sym (slab_old p.guard_interval uses x m ne)) (beside m ne))
     (cases_eq m n) in
-    let same_at : (f : SlotUse → Bool) → f Never ≡ false → (m j : ℕ) → j < p.slots → passes_at f uses m j ≡ passes_at f (with_slab p uses x) m j =
+    let same_at : (f : SlotUse → Bool) → f Never ≡ false → (m j : ℕ) → j < p.slots → passes_at f uses m j ≡ passes_at f (with_slab p.guard_interval uses x) m j =
     λ f never m j lt. each (λ k o. passes_at f uses k j ≡ option_map_or f (option_and_then (λ (b : SlabUse). slice_get b.slots j) o) false)
     (ap (λ (o : Option SlabUse). option_map_or f (option_and_then (λ (b : SlabUse). slice_get b.slots j) o) false) past ∙ sym never
     ∙ ap (λ (o : Option SlotUse). option_map_or f o false) (sym (new_slot p.slots j lt)))
     (λ k ne. refl) m in
-    let there : (m : ℕ) → is_some (slab_in uses m) ≡ true → is_some (slab_in (with_slab p uses x) m) ≡ true =
+    let there : (m : ℕ) → is_some (slab_in uses m) ≡ true → is_some (slab_in (with_slab p.guard_interval uses x) m) ≡ true =
     λ m. each (λ k o. is_some (slab_in uses k) ≡ true → is_some o ≡ true) (λ e. refl) (λ k ne e. e) m in
     record {
       opens = each (λ m o. is_open s m ≡ option_map_or (λ (b : SlabUse). b.opened) o false) (h.opens n ∙ ap (λ (o : Option SlabUse). option_map_or (λ (b : SlabUse). b.opened) o false) past) (λ m ne. h.opens m);
@@ -359,10 +358,10 @@ shows_fresh p uses s h =
       given = λ m j lt. h.given m j lt ∙ same_at was_given refl m j lt;
       parked = λ m e. there m (h.parked m e);
       shut = λ m e. there m (h.shut m e);
-      next = ap (λ (m : ℕ). after p m) h.next ∙ sym (length_with_slab p uses x);
+      next = ap (λ (m : ℕ). after p m) h.next ∙ sym (length_with_slab p.guard_interval uses x);
     }
 
-shows_taken : (p : Shape) (uses : Uses) (s : State) (shut : List ℕ) → s.shut ≡ shut → Shows p uses s → Shows p (taken_uses p shut uses) (taken_new p shut s)
+shows_taken : (p : Shape) (uses : Uses) (s : State) (shut : List ℕ) → s.shut ≡ shut → Shows p uses s → Shows p (taken_uses (numbers_of p) shut uses) (taken_new p shut s)
 shows_taken p uses s [] e h = shows_fresh p uses s h
 shows_taken p uses s (m ∷ ms) e h = record {
   opens = h.opens;
@@ -385,13 +384,8 @@ new_opens : (p : Shape) (shut : List ℕ) (s : State) → (taken_new p shut s).o
 new_opens p [] s = refl
 new_opens p (m ∷ ms) s = refl
 
-pub shows_new : (p : Shape) (uses : Uses) (s : State) (n canary : ℕ) (b : SlabUse) → slab_in (taken_uses p s.shut uses) n ≡ Some b → Shows p uses s
-    → Shows p (with_open (taken_uses p s.shut uses) n canary) (record (taken_new p s.shut s) { opens = put n (new_slab p canary) s.opens })
+pub shows_new : (p : Shape) (uses : Uses) (s : State) (n canary : ℕ) (b : SlabUse) → slab_in (taken_uses (numbers_of p) s.shut uses) n ≡ Some b → Shows p uses s
+    → Shows p (with_open (taken_uses (numbers_of p) s.shut uses) n canary) (record (taken_new p s.shut s) { opens = put n (new_slab p canary) s.opens })
 shows_new p uses s n canary b is h =
-    subst (λ (l : List (ℕ × Slab)). Shows p (with_open (taken_uses p s.shut uses) n canary) (record (taken_new p s.shut s) { opens = put n (new_slab p canary) l })) (new_opens p s.shut s)
-    (shows_opened p (taken_uses p s.shut uses) (taken_new p s.shut s) n (new_slab p canary) b is (shows_taken p uses s s.shut refl h))
-
--- the slab that is opened next is there
-pub new_there : (p : Shape) (uses : Uses) (s : State) (shut : List ℕ) (n : ℕ) → s.shut ≡ shut → Shows p uses s → (shut ≡ [] → n ≡ length uses) → ((m : ℕ) (ms : List ℕ) → shut ≡ m ∷ ms → n ≡ m) → is_some (slab_in (taken_uses p shut uses) n) ≡ true
-new_there p uses s [] n e h fresh first = ap (λ (m : ℕ). is_some (slab_in (with_slab p uses (fresh_slab p.slots)) m)) (fresh refl) ∙ ap (λ (o : Option SlabUse). is_some o) (slab_new p uses (fresh_slab p.slots))
-new_there p uses s (m ∷ ms) n e h fresh first = ap (λ (k : ℕ). is_some (slab_in uses k)) (first m ms refl) ∙ h.shut m (ap (λ (l : List ℕ). among m l) e ∙ among_new m ms)
+    subst (λ (l : List (ℕ × Slab)). Shows p (with_open (taken_uses (numbers_of p) s.shut uses) n canary) (record (taken_new p s.shut s) { opens = put n (new_slab p canary) l })) (new_opens p s.shut s)
+    (shows_opened p (taken_uses (numbers_of p) s.shut uses) (taken_new p s.shut s) n (new_slab p canary) b is (shows_taken p uses s s.shut refl h))

@@ -1,12 +1,12 @@
 -- What a search for a slab and for its slot finds.
-use Rattle.std.proofs.Common.{◌≡◌, ℕ, ◌≤◌, Bool, true, false, cond, not, nat_lt, List, [], ◌∷◌, length, get_or, slice_get, Option, Some, None, sym, ◌∙◌, ap, refl, arith, true≢false}
-use Rattle.std.specs.List.{position, position_or_len, list_any}
+use Rattle.std.proofs.Common.{◌≡◌, ℕ, ◌<◌, ◌≤◌, IfSome, Bool, true, false, cond, not, nat_lt, List, length, slice_get, Option, Some, None, sym, ◌∙◌, ap, refl, arith, true≢false}
+use Rattle.std.specs.List.{position, position_or_len}
 use Rattle.std.specs.Option.{option_and_then}
 use Rattle.std.proofs.lemmas.Bool.Decides.{nat_tests}
-use Rattle.std.proofs.lemmas.List.Folds.{Any-from_list_any}
-use Rattle.std.proofs.lemmas.List.Quantifiers.{position-Some}
 use Rattle.std.proofs.lemmas.List.Sums.{prefix_len_passes}
-use Rattle.std.proofs.lemmas.Option.{slice_get_within, get_or_from_slice_get, slice_get-get_or, none-some}
+use Rattle.std.proofs.lemmas.Option.{slice_get_within, get_or_from_slice_get, none-some}
+use Rattle.hm_sizes.specs.declared.shape.Shape.{Shape}
+use Rattle.hm_class.specs.Sources.{AreWhole, IsWithin}
 use Rattle.hm_class.specs.Uses.{Uses, SlabUse, slab_in}
 
 -- ---- positions
@@ -24,15 +24,6 @@ position_none p xs e i x is passes =
     let fails = prefix_len_passes (λ y. not (p y)) xs i x (omega (arith, all, slice_get_within xs i x is)) in
     true≢false (sym fails ∙ ap (λ y. not (p y)) (get_or_from_slice_get xs i x x is) ∙ ap (λ (b : Bool). not b) passes)
 
-pub position_some : {X : Type 0} (p : X → Bool) (xs : List X) (i : ℕ) → position p xs ≡ Some i → (x : X) × (slice_get xs i ≡ Some x) × (p x ≡ true)
-position_some p [] i e = absurd (none-some i e)
-position_some p (d ∷ xs) i e = let r = position-Some p (d ∷ xs) i d e in (get_or (d ∷ xs) i d, slice_get-get_or (d ∷ xs) i d r.0, r.1)
-
-pub position_there : {X : Type 0} (p : X → Bool) (xs : List X) → list_any p xs ≡ true → position p xs ≡ None → ⊥
-position_there p xs any none =
-    let r = Any-from_list_any p xs any in
-    position_none p xs none r.0 r.1 (slice_get-get_or xs r.0 r.1 r.2 ∙ ap (λ x. Some x) r.3) r.4
-
 -- ---- slabs
 opened : (o : Option (Option SlabUse)) (b : SlabUse) → option_and_then (λ slab. slab) o ≡ Some b → o ≡ Some (Some b)
 opened None b e = absurd (none-some b e)
@@ -40,3 +31,11 @@ opened (Some o) b e = ap (λ (x : Option SlabUse). Some x) e
 
 pub slab_there : (uses : Uses) (n : ℕ) (b : SlabUse) → slab_in uses n ≡ Some b → slice_get uses n ≡ Some (Some b)
 slab_there uses n b e = opened (slice_get uses n) b e
+
+-- a slot below the number of slots is there, where each slab has all its slots
+pub within_whole : (p : Shape) (uses : Uses) (n i : ℕ) → AreWhole p uses → i < p.slots → IsWithin uses n i
+within_whole p uses n i whole lt = of (slab_in uses n) refl
+  where
+    of : (o : Option SlabUse) → slab_in uses n ≡ o → IfSome o (λ (b : SlabUse). i < length b.slots)
+    of None is = tt
+    of (Some b) is = omega (arith, lt, whole n b is)

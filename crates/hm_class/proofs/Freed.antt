@@ -1,24 +1,22 @@
 -- A block was taken back: the words and the choices of its entry are the next ones.
-use Rattle.std.proofs.Common.{◌≡◌, ℕ, zero, suc, ◌+◌, ◌*◌, ◌/◌, ◌^◌, ◌<◌, ◌≤◌, ◌==◌, Bool, true, false, cond, List, [], ◌∷◌, slice_index_or, Option, Some, None, is_some, sym, ◌∙◌, ap, subst, refl, arith}
+use Rattle.std.proofs.Common.{◌≡◌, ℕ, zero, suc, ◌+◌, ◌*◌, ◌/◌, ◌^◌, ◌<◌, ◌==◌, Bool, true, false, cond, [], ◌∷◌, slice_index_or, Option, Some, None, sym, ◌∙◌, ap, subst, refl, arith}
 use Rattle.std.proofs.lemmas.Bool.Decides.{nat_tests}
 use Rattle.hm_choice.specs.Stream.{Words, next_word, after_word, drawn}
-use Rattle.hm_quarantine.specs.Quarantine.{Kept, let_go, IsArrayPlace}
-use Rattle.hm_model.specs.declared.entry.Entry.{Entry}
+use Rattle.hm_quarantine.specs.Quarantine.{let_go, IsArrayPlace}
 use Rattle.hm_model.specs.declared.entry.Who.{Who}
 use Rattle.hm_model.specs.declared.entry.Call.TheVariants.{GiveBack}
 use Rattle.hm_model.specs.declared.entry.Reply.TheVariants as reply
-use Rattle.hm_model.specs.declared.entry.Draws.{Draws}
 use Rattle.hm_model.specs.Entries.{AreDraws}
 use Rattle.hm_sizes.specs.declared.shape.Shape.{Shape}
 use Rattle.hm_class_rules.specs.Drawn.{unparked_by}
-use Rattle.hm_class_rules.specs.Draws.{words_of, words_from, after_words, array_words, parking_words, array_place, parking_place, word_after}
+use Rattle.hm_class_rules.specs.Draws.{words_of, words_from, after_words, parking_words, array_place, parking_place, word_after}
 use Rattle.hm_class_rules.specs.Rules.{Terms}
 use Rattle.hm_class_rules.specs.Stepped.{Cells, IsSteppedEntry}
 use Rattle.hm_class_rules.proofs.Alike.{drawn_below}
 use Rattle.hm_class_rules.proofs.Streams.{next_below}
 use Rattle.hm_class.specs.declared.outcome.Emptied.{Emptied}
 use Rattle.hm_class.specs.declared.outcome.Emptied.TheVariants as emptied
-use Rattle.hm_model.specs.Calls.{entry_of, no_words, one_word}
+use Rattle.hm_model.specs.Calls.{entry_of}
 use Rattle.hm_class.specs.Frees.{array_word, place_of_word, array_stream}
 use Rattle.hm_class.specs.Outcomes.{freed_choices, freed_draws}
 

@@ -11,7 +11,6 @@ pub mod Followed
 pub mod Picked
 pub mod Permitted
 pub mod Listed
-pub mod Reversed
 pub mod Entries
 pub mod Serving
 pub mod Taken
@@ -23,4 +22,9 @@ pub mod Returned
 pub mod Allots
 pub mod Settled
 pub mod Built
-pub mod Roomy
+pub mod Tables
+pub mod SourceOf
+pub mod KindsOf
+pub mod Listing
+pub mod Filing
+pub mod LiveCounts

@@ -1,31 +1,23 @@
 -- How the lists, the stream, the quarantine and the parking places follow the cells, entry by entry.
-use Rattle.std.proofs.Common.{◌≡◌, ℕ, zero, suc, ◌+◌, ◌*◌, ◌/◌, ◌^◌, ◌<◌, ◌≤◌, ◌==◌, Bool, true, false, cond, not, ◌&&◌, nat_lt, List, [], ◌∷◌, ◌++◌, length, reverse, slice_get, slice_set, slice_index_or, Option, Some, None, is_some, unwrap_or, sym, ◌∙◌, ap, subst, refl, arith, true≢false}
-use Rattle.std.specs.Option.{option_and_then, option_map_or}
-use Rattle.std.proofs.lemmas.Bool.Decides.{nat_tests}
-use Rattle.std.proofs.lemmas.List.{length-reverse}
-use Rattle.hm_choice.specs.Stream.{Words, next_word, after_word, canary_of, drawn}
-use Rattle.hm_quarantine.specs.Quarantine.{Kept, let_go, kept_with}
+use Rattle.std.proofs.Common.{◌≡◌, ℕ, Bool, true, false, cond, List, [], Option, sym, ◌∙◌, ap, subst, refl}
+use Rattle.hm_choice.specs.Stream.{Words}
+use Rattle.hm_quarantine.specs.Quarantine.{Kept, kept_with}
 use Rattle.hm_model.specs.declared.entry.Entry.{Entry}
 use Rattle.hm_sizes.specs.declared.shape.Shape.{Shape}
-use Rattle.hm_sizes.specs.Shapes.{IsShape, slab_of, has_bytes}
-use Rattle.hm_class_rules.specs.State.{State, is_partial, is_empty, empty_slabs}
+use Rattle.hm_sizes.specs.Shapes.{IsShape, slab_of}
+use Rattle.hm_class_rules.specs.State.{State, is_partial, is_empty}
 use Rattle.hm_class_rules.specs.Kinds.{Kind, Partial, Empty, Neither, kind, same_kind}
 use Rattle.hm_class_rules.specs.Draws.{words_of, words_from, after_words, Event, Picked, Returned, Undrawn, event, word_count, array_place, parking_place}
-use Rattle.hm_class_rules.specs.Rules.{Terms, surplus}
+use Rattle.hm_class_rules.specs.Rules.{Terms}
 use Rattle.hm_class_rules.specs.Steps.{step}
 use Rattle.hm_class_rules.specs.Stepped.{Cells, next, listed, touched, quarantine_with, parking_after, parking_with, IsSteppedEntry, IsSteppedEvent}
-use Rattle.hm_class_rules.proofs.Changes.{kind_empty, kind_by}
-use Rattle.hm_class.specs.declared.slabs.Slabs.{Slabs}
-use Rattle.hm_class.specs.Uses.{Uses, kind_at}
+use Rattle.hm_class_rules.proofs.Changes.{kind_empty}
+use Rattle.hm_class.specs.Slabs.{Slabs}
+use Rattle.hm_class.specs.Uses.{kind_at}
 use Rattle.hm_class.specs.Kept.{Shows, cells_of}
 use Rattle.hm_class.proofs.Shown.{kind_is}
 
 -- ---- kinds
-pub same_itself : (k : Kind) → same_kind k k ≡ true
-same_itself Partial = refl
-same_itself Empty = refl
-same_itself Neither = refl
-
 -- a slab that stays what it is changes no list
 pub listed_same : (wanted k : Kind) (n : ℕ) (list : List ℕ) → listed wanted n k k list ≡ list
 listed_same wanted Partial n list = refl
@@ -63,14 +55,14 @@ listed_as wanted p s after m n before then list list' same was is new =
     ∙ sym new
 
 -- ---- an entry that draws nothing
-pub next_undrawn : (t : Terms) (s : State) (k : Slabs) (stream : Words) (q : Kept) (parking : List (Option ℕ)) (e : Entry) → IsShape t.shape → event e ≡ Undrawn → e.draws.used ≡ 0 → Shows t.shape k.slabs.items s → Shows t.shape k.slabs.items (step t.shape s e)
+pub next_undrawn : (t : Terms) (s : State) (k : Slabs) (stream : Words) (q : Kept) (parking : List (Option ℕ)) (e : Entry) → IsShape t.shape → event e ≡ Undrawn → e.draws.used ≡ 0 → Shows t.shape k.slabs s → Shows t.shape k.slabs (step t.shape s e)
     → next t (cells_of s k stream q parking) e ≡ cells_of (step t.shape s e) k stream q parking
 next_undrawn t s k stream q parking e shape is none h h' =
-    let same : kind t.shape (step t.shape s e) 0 ≡ kind t.shape s 0 = kind_is t.shape k.slabs.items (step t.shape s e) 0 shape h' ∙ sym (kind_is t.shape k.slabs.items s 0 shape h) in
+    let same : kind t.shape (step t.shape s e) 0 ≡ kind t.shape s 0 = kind_is t.shape k.slabs (step t.shape s e) 0 shape h' ∙ sym (kind_is t.shape k.slabs s 0 shape h) in
     let at0 : (wanted : Kind) (list : List ℕ) → listed wanted 0 (kind t.shape s 0) (kind t.shape (step t.shape s e) 0) list ≡ list =
     λ wanted list. ap (λ (x : Kind). listed wanted 0 (kind t.shape s 0) x list) same ∙ listed_same wanted (kind t.shape s 0) 0 list in
     next_is t (cells_of s k stream q parking) e Undrawn is
-    ∙ same_cells (step t.shape s e) _ _ _ _ _ _ _ _ _ _ (ap (λ (n : ℕ). after_words stream n) none) (at0 Partial (reverse k.partial.items)) (at0 Empty (reverse k.empty.items)) refl refl
+    ∙ same_cells (step t.shape s e) _ _ _ _ _ _ _ _ _ _ (ap (λ (n : ℕ). after_words stream n) none) (at0 Partial k.lists.partial) (at0 Empty k.lists.empty) refl refl
 
 pub stepped_undrawn : (t : Terms) (c : Cells) (e : Entry) → event e ≡ Undrawn → e.draws.used ≡ 0 → words_of e.draws ≡ [] → IsSteppedEntry t c e
 stepped_undrawn t c e is none no_words = record {
@@ -81,28 +73,37 @@ stepped_undrawn t c e is none no_words = record {
 
 -- ---- a slot was picked
 pub next_picked : (t : Terms) (s : State) (k k' : Slabs) (stream stream' : Words) (q : Kept) (parking : List (Option ℕ)) (e : Entry) (a n : ℕ) (before : Kind) → IsShape t.shape → event e ≡ Picked a → slab_of t.shape a ≡ n
-    → kind t.shape s n ≡ before → Shows t.shape k'.slabs.items (step t.shape s e) → after_words stream e.draws.used ≡ stream'
-    → reverse k'.partial.items ≡ listed Partial n before (kind_at k'.slabs.items n) (reverse k.partial.items) → reverse k'.empty.items ≡ listed Empty n before (kind_at k'.slabs.items n) (reverse k.empty.items)
+    → kind t.shape s n ≡ before → Shows t.shape k'.slabs (step t.shape s e) → after_words stream e.draws.used ≡ stream'
+    → k'.lists.partial ≡ listed Partial n before (kind_at k'.slabs n) k.lists.partial → k'.lists.empty ≡ listed Empty n before (kind_at k'.slabs n) k.lists.empty
     → next t (cells_of s k stream q parking) e ≡ cells_of (step t.shape s e) k' stream' q parking
 next_picked t s k k' stream stream' q parking e a n before shape is slab was h' taken partial empty =
-    let now : kind t.shape (step t.shape s e) n ≡ kind_at k'.slabs.items n = kind_is t.shape k'.slabs.items (step t.shape s e) n shape h' in
+    let now : kind t.shape (step t.shape s e) n ≡ kind_at k'.slabs n = kind_is t.shape k'.slabs (step t.shape s e) n shape h' in
     next_is t (cells_of s k stream q parking) e (Picked a) is
     ∙ same_cells (step t.shape s e) _ _ _ _ _ _ _ _ _ _ taken
-    (listed_as Partial t.shape s (step t.shape s e) (slab_of t.shape a) n before (kind_at k'.slabs.items n) (reverse k.partial.items) (reverse k'.partial.items) slab was now partial)
-    (listed_as Empty t.shape s (step t.shape s e) (slab_of t.shape a) n before (kind_at k'.slabs.items n) (reverse k.empty.items) (reverse k'.empty.items) slab was now empty) refl refl
+    (listed_as Partial t.shape s (step t.shape s e) (slab_of t.shape a) n before (kind_at k'.slabs n) k.lists.partial k'.lists.partial slab was now partial)
+    (listed_as Empty t.shape s (step t.shape s e) (slab_of t.shape a) n before (kind_at k'.slabs n) k.lists.empty k'.lists.empty slab was now empty) refl refl
 
 -- ---- a slot was freed
 pub next_freed : (t : Terms) (s : State) (k k' : Slabs) (stream stream' : Words) (q q' : Kept) (parking parking' : List (Option ℕ)) (e : Entry) (a n : ℕ) (before then : Kind) → event e ≡ Returned a → touched t.shape e.choices.released (Returned a) ≡ n
     → kind t.shape s n ≡ before → kind t.shape (step t.shape s e) n ≡ then → after_words stream e.draws.used ≡ stream'
-    → reverse k'.partial.items ≡ listed Partial n before then (reverse k.partial.items) → reverse k'.empty.items ≡ listed Empty n before then (reverse k.empty.items)
+    → k'.lists.partial ≡ listed Partial n before then k.lists.partial → k'.lists.empty ≡ listed Empty n before then k.lists.empty
     → q' ≡ kept_with q a (array_place t.shape e.draws) → parking' ≡ parking_with (parking_place t e.draws) e.choices.retired parking
     → next t (cells_of s k stream q parking) e ≡ cells_of (step t.shape s e) k' stream' q' parking'
 next_freed t s k k' stream stream' q q' parking parking' e a n before then is slab was now taken partial empty kept places =
     next_is t (cells_of s k stream q parking) e (Returned a) is
     ∙ same_cells (step t.shape s e) _ _ _ _ _ _ _ _ _ _ taken
-    (listed_as Partial t.shape s (step t.shape s e) (touched t.shape e.choices.released (Returned a)) n before then (reverse k.partial.items) (reverse k'.partial.items) slab was now partial)
-    (listed_as Empty t.shape s (step t.shape s e) (touched t.shape e.choices.released (Returned a)) n before then (reverse k.empty.items) (reverse k'.empty.items) slab was now empty)
+    (listed_as Partial t.shape s (step t.shape s e) (touched t.shape e.choices.released (Returned a)) n before then k.lists.partial k'.lists.partial slab was now partial)
+    (listed_as Empty t.shape s (step t.shape s e) (touched t.shape e.choices.released (Returned a)) n before then k.lists.empty k'.lists.empty slab was now empty)
     (sym kept) (sym places)
+
+-- a slab is partial where its kind is that
+pub partial_kind : (p : Shape) (s : State) (n : ℕ) → same_kind (kind p s n) Partial ≡ is_partial p s n
+partial_kind p s n = of (is_partial p s n) (is_empty p s n)
+  where
+    of : (x y : Bool) → same_kind (cond {A = Kind} x Partial (cond y Empty Neither)) Partial ≡ x
+    of true y = refl
+    of false true = refl
+    of false false = refl
 
 -- ---- too many empty slabs
 -- a slab is empty where its kind is that

@@ -1,13 +1,13 @@
 -- The entries that the calls add are allowed.
-use Rattle.std.proofs.Common.{◌≡◌, ◌≢◌, ◌⊎◌, inl, inr, ⊎_elim, ℕ, zero, suc, ◌+◌, ◌*◌, ◌<◌, ◌≤◌, Bool, true, false, IsTrue, cond, not, ◌||◌, ◌&&◌, ◌==◌, nat_lt, List, [], ◌∷◌, length, get_or, slice_get, Option, Some, None, is_some, unwrap_or, option_map, sym, ◌∙◌, ap, subst, refl, arith, true≢false}
-use Rattle.std.specs.Option.{option_and_then, option_map_or}
+use Rattle.std.proofs.Common.{◌≡◌, ◌≢◌, ◌⊎◌, inl, inr, ⊎_elim, ℕ, ◌+◌, ◌*◌, ◌<◌, ◌≤◌, Bool, true, false, cond, not, ◌||◌, ◌&&◌, ◌==◌, nat_lt, List, [], ◌∷◌, length, slice_get, Option, Some, None, is_some, option_map, sym, ◌∙◌, ap, subst, refl, arith, true≢false}
+use Rattle.std.specs.Option.{option_map_or}
 use Rattle.std.specs.Int.{from_le_bytes}
 use mir.Syntax.{w64}
 use Rattle.std.proofs.lemmas.Bool.{and_parts}
 use Rattle.std.proofs.lemmas.Bool.Decides.{nat_tests}
-use Rattle.std.proofs.lemmas.Option.{slice_get_within, slice_get-get_or, none-some, same_Some}
+use Rattle.std.proofs.lemmas.Option.{none-some, same_Some}
 use Rattle.hm_outside.specs.PageRuns.{PageRuns, IsHeld, Reads}
-use Rattle.hm_model.specs.Maps.{among, at, keys}
+use Rattle.hm_model.specs.Maps.{among, at}
 use Rattle.hm_model.specs.declared.entry.Who.{Who}
 use Rattle.hm_model.specs.declared.entry.Call.{Call}
 use Rattle.hm_model.specs.declared.entry.Reply.{Reply}
@@ -16,22 +16,20 @@ use Rattle.hm_model.specs.declared.entry.Draws.{Draws}
 use Rattle.hm_model.specs.Entries.{AreDraws}
 use Rattle.hm_model.proofs.Lists.{times_among, same_eq}
 use Rattle.hm_sizes.proofs.PlaceTest.{place_is}
-use Rattle.hm_sizes.specs.declared.config.Config.{Config}
 use Rattle.hm_sizes.specs.declared.shape.Shape.{Shape}
 use Rattle.hm_sizes.specs.Shapes.{IsShape, IsPlaceOf, IsGuard, place, slab_of, slot_of, has_bytes, usable}
 use Rattle.hm_class_rules.specs.State.{State, Slab, is_open, is_live, is_taken, is_partial, is_empty, unopened}
-use Rattle.hm_class_rules.specs.Kinds.{Kind, Partial, Empty, Neither, kind, same_kind}
+use Rattle.hm_class_rules.specs.Kinds.{Kind, Partial, Empty, Neither, same_kind}
 use Rattle.hm_class_rules.specs.Bytes.{first_nonzero, usable_bytes, kept_canary, found_canary}
 use Rattle.hm_class_rules.specs.Rules.{Terms, Allows, Allowed, Asks, Source, IsLiveBlock, IsNoSlot, IsUnused, IsDoubleFree, wrong_canary}
 use Rattle.hm_class_rules.specs.Laws.{IsSound, uses}
 use Rattle.hm_class_rules.proofs.Sound.{has_times}
 use Rattle.hm_class_rules.proofs.Changes.{kind_partial, kind_empty}
-use Rattle.hm_class.specs.declared.slab.SlotUse.{SlotUse}
-use Rattle.hm_class.specs.declared.slab.SlotUse.TheVariants.{Never, Live}
+use Rattle.hm_slab_meta.specs.Uses.{SlotUse}
 use Rattle.hm_class.specs.declared.slabs.Slot.{Slot}
 use Rattle.hm_class.specs.declared.slabs.Refusal.TheVariants as refusal
 use Rattle.hm_class.specs.declared.slabs.Verdict.TheVariants as verdict
-use Rattle.hm_class.specs.Uses.{Uses, SlabUse, lives, was_given, occupied, has_available, is_available, is_partly, is_unused, has_occupied, kind_of, kind_at, slab_in, use_at, passes_at, canary_at, taken_uses, with_slab, fresh_slab}
+use Rattle.hm_class.specs.Uses.{numbers_of, Uses, SlabUse, lives, was_given, occupied, has_available, is_partly, is_unused, has_occupied, kind_of, kind_at, slab_in, canary_at, taken_uses, with_slab, fresh_slab}
 use Rattle.hm_class.specs.Sources.{Refuses, Judges}
 use Rattle.hm_model.specs.Calls.{entry_of}
 use Rattle.hm_class.specs.Judgements.{other_number}
@@ -40,7 +38,7 @@ use Rattle.hm_class.specs.Region.{HoldsSlabs}
 use Rattle.hm_class.proofs.Paged.{held_in, reads_bytes}
 use Rattle.hm_class.proofs.Places.{slab_of_place, place_test, place_within, place_same, usable_within}
 use Rattle.hm_class.proofs.Used.{found, slab_new}
-use Rattle.hm_class.proofs.Shown.{taken_is, kind_is, by_false}
+use Rattle.hm_class.proofs.Shown.{kind_is, by_false}
 
 -- an entry is allowed where its call asks and is answered as the rules say
 pub allowed_of : (t : Terms) (s : State) (who : Who) (call : Call) (answer : Reply) (choices : Choices) (draws : Draws) (before now : ℕ) → AreDraws draws → Asks t.shape call → before ≡ s.faults → before ≤ now → Allows t s before now choices call answer
@@ -118,7 +116,7 @@ pub record IsNew (p : Shape) (all : Uses) (s : State) (n : ℕ) : Type 0 where
   pub off : is_open s n ≡ false
   pub below : n < p.limit
   pub no_guard : IsGuard p n → ⊥
-  pub there : is_some (slab_in (taken_uses p s.shut all) n) ≡ true
+  pub there : is_some (slab_in (taken_uses (numbers_of p) s.shut all) n) ≡ true
 
 fresh_next : (next limit n : ℕ) → cond (nat_lt next limit) (Some next) None ≡ Some n → (n ≡ next) × (next < limit)
 fresh_next next limit n e = of (nat_lt next limit) refl e
@@ -146,7 +144,7 @@ new_slab_is p all s n sound h e = of s.shut refl e
           off = closed s n (λ on. absurd (omega (arith, sound.below_next n (omega (arith, has_times n s.opens on)), r.0)));
           below = omega (arith, r.0, r.1);
           no_guard = subst (λ (k : ℕ). IsGuard p k → ⊥) (sym r.0) sound.next_no_guard;
-          there = ap (λ (l : List ℕ). is_some (slab_in (taken_uses p l all) n)) none ∙ ap (λ (m : ℕ). is_some (slab_in (with_slab p all (fresh_slab p.slots)) m)) (r.0 ∙ h.next) ∙ ap (λ (o : Option SlabUse). is_some o) (slab_new p all (fresh_slab p.slots));
+          there = ap (λ (l : List ℕ). is_some (slab_in (taken_uses (numbers_of p) l all) n)) none ∙ ap (λ (m : ℕ). is_some (slab_in (with_slab p.guard_interval all (fresh_slab p.slots)) m)) (r.0 ∙ h.next) ∙ ap (λ (o : Option SlabUse). is_some o) (slab_new p.guard_interval all (fresh_slab p.slots));
         }
     of (m ∷ ms) is e =
         let same : m ≡ n = same_Some m n e in
@@ -155,7 +153,7 @@ new_slab_is p all s n sound h e = of s.shut refl e
           off = closed s n (λ on. absurd (omega (arith, sound.slab_once n, has_times n s.opens on, times_among n s.shut at_n)));
           below = sound.below_limit n (omega (arith, times_among n s.shut at_n));
           no_guard = sound.no_guard n (omega (arith, times_among n s.shut at_n));
-          there = ap (λ (l : List ℕ). is_some (slab_in (taken_uses p l all) n)) is ∙ h.shut n at_n;
+          there = ap (λ (l : List ℕ). is_some (slab_in (taken_uses (numbers_of p) l all) n)) is ∙ h.shut n at_n;
         }
 
 -- where its first slot is not occupied a slab has an available one

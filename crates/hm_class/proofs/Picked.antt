@@ -1,21 +1,21 @@
 -- The slot that is picked is the first available one from the start slot on, cyclically.
-use Rattle.std.proofs.Common.{◌≡◌, ◌⊎◌, inl, inr, ⊎_elim, ℕ, ◌+◌, ◌-◌, ◌<◌, ◌≤◌, Bool, true, false, not, List, [], ◌∷◌, length, get_or, slice_get, take, drop, Option, Some, None, option_map, sym, ◌∙◌, ap, subst, refl, arith, true≢false}
+use Rattle.std.proofs.Common.{◌≡◌, ⊎_elim, ℕ, ◌+◌, ◌-◌, ◌<◌, ◌≤◌, Bool, true, false, not, List, length, get_or, slice_get, take, drop, Option, Some, None, option_map, sym, ◌∙◌, ap, subst, refl, arith, true≢false}
 use Rattle.std.specs.List.{position}
 use Rattle.std.specs.Option.{option_and_then, option_map_or}
 use Rattle.std.proofs.lemmas.Bool.{cases_lt}
 use Rattle.std.proofs.lemmas.List.{get_or-drop, get_or-take, length-drop, length-take}
 use Rattle.std.proofs.lemmas.List.Folds.{Any-from_list_any}
 use Rattle.std.proofs.lemmas.List.Quantifiers.{position-Some}
-use Rattle.std.proofs.lemmas.Option.{slice_get-get_or, none-some, same_Some}
+use Rattle.std.proofs.lemmas.Option.{slice_get-get_or, same_Some}
 use Rattle.hm_sizes.specs.declared.shape.Shape.{Shape}
-use Rattle.hm_sizes.specs.Shapes.{IsShape, place}
+use Rattle.hm_sizes.specs.Shapes.{place}
 use Rattle.hm_class_rules.specs.State.{State, is_free}
 use Rattle.hm_class_rules.specs.Drawn.{first_free}
-use Rattle.hm_class_rules.specs.DrawnLaws.{ComesBefore, IsFirstFree}
+use Rattle.hm_class_rules.specs.DrawnLaws.{ComesBefore}
 use Rattle.hm_class_rules.proofs.FirstFree.{finds_first}
-use Rattle.hm_class.specs.declared.slab.SlotUse.{SlotUse}
-use Rattle.hm_class.specs.declared.slab.SlotUse.TheVariants.{Never}
-use Rattle.hm_class.specs.Uses.{Uses, SlabUse, occupied, is_available, has_available, or_else, first_from, first_at, slab_in, use_at}
+use Rattle.hm_slab_meta.specs.Uses.{SlotUse}
+use Rattle.hm_slab_meta.specs.Uses.{Never}
+use Rattle.hm_class.specs.Uses.{Uses, SlabUse, occupied, is_available, has_available, or_else, first_from, first_at, slab_in}
 use Rattle.hm_class.specs.Kept.{Shows}
 use Rattle.hm_class.specs.Finds.{HasFirst}
 use Rattle.hm_class.proofs.Found.{position_none}

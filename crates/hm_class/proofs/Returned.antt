@@ -1,59 +1,42 @@
 -- A block was taken back: what is kept follows.
-use Rattle.std.proofs.Common.{◌≡◌, ◌⊎◌, inl, inr, ⊎_elim, ℕ, zero, suc, ◌+◌, ◌*◌, ◌<◌, ◌≤◌, ◌==◌, Bool, true, false, IsTrue, IfSome, cond, not, ◌||◌, ◌&&◌, nat_lt, List, [], ◌∷◌, ◌++◌, length, reverse, slice_get, slice_set, slice_index_or, Option, Some, None, is_some, option_map, sym, ◌∙◌, ap, subst, refl, arith, true≢false, length-append}
+use Rattle.std.proofs.Common.{◌≡◌, ℕ, zero, suc, ◌+◌, ◌<◌, ◌≤◌, Bool, true, false, IsTrue, IfSome, cond, not, ◌||◌, ◌&&◌, List, [], ◌∷◌, slice_get, slice_set, Option, Some, None, sym, ◌∙◌, ap, subst, refl, arith, true≢false}
 use Rattle.std.specs.List.{list_any}
-use Rattle.std.specs.FinMap as map
-use Rattle.std.specs.Option.{option_and_then, option_map_or}
-use Rattle.std.proofs.lemmas.List.{length-replicate, length-reverse}
+use Rattle.std.specs.Option.{option_map_or}
+use Rattle.std.proofs.lemmas.List.{length-replicate}
 use Rattle.std.proofs.lemmas.Option.{none-some, same_Some}
-use Rattle.hm_choice.specs.Stream.{Words, next_word, after_word, drawn}
-use Rattle.hm_quarantine.specs.Quarantine.{Kept, let_go, kept_with}
+use Rattle.hm_choice.specs.Stream.{Words, next_word}
+use Rattle.hm_quarantine.specs.Quarantine.{Kept, let_go}
 use Rattle.hm_outside.specs.declared.pages.Pages as pages
-use Rattle.hm_outside.specs.PageRuns.{PageRuns, IsHeld, IsRun, Reads, Writes, zeros}
-use Rattle.hm_model.specs.Maps.{among, at, has, removed, without}
+use Rattle.hm_outside.specs.PageRuns.{PageRuns, IsHeld, zeros}
+use Rattle.hm_model.specs.Maps.{among}
 use Rattle.hm_model.proofs.Lists.{times_among}
 use Rattle.hm_model.specs.declared.entry.Entry.{Entry}
-use Rattle.hm_model.specs.declared.entry.Who.{Who}
-use Rattle.hm_model.specs.declared.entry.Call.TheVariants.{GiveBack}
-use Rattle.hm_model.specs.declared.entry.Reply.TheVariants as reply
 use Rattle.hm_sizes.specs.declared.config.Config.{Config}
 use Rattle.hm_sizes.specs.declared.shape.Shape.{Shape}
-use Rattle.hm_sizes.specs.Shapes.{IsShape, place, slab_at, slab_of, slot_of, has_bytes, usable}
-use Rattle.hm_class_rules.specs.State.{State, Slab, is_open, is_live, is_empty, empty_slabs}
-use Rattle.hm_class_rules.specs.Kinds.{Kind, Partial, Empty, Neither, kind, same_kind}
-use Rattle.hm_class_rules.specs.Steps.{takes_back, releases, unparks, retires, purges, step}
-use Rattle.hm_class_rules.specs.Bytes.{overlaid_slabs, write}
+use Rattle.hm_sizes.specs.Shapes.{place, slab_of, slot_of, has_bytes, usable}
+use Rattle.hm_class_rules.specs.State.{State, is_open, is_live}
+use Rattle.hm_class_rules.specs.Kinds.{Kind, Partial, Empty, Neither, kind}
+use Rattle.hm_class_rules.specs.Steps.{takes_back}
 use Rattle.hm_class_rules.specs.Laws.{IsSound, bytes_of_slab}
-use Rattle.hm_class_rules.specs.Rules.{Terms, Allowed, AllowsFreed, Releases, Empties, Unparks, surplus, state, wrong_size, wrong_canary}
-use Rattle.hm_class_rules.specs.Stepped.{Cells, listed, touched}
-use Rattle.hm_class_rules.specs.Draws.{Returned}
-use Rattle.hm_class_rules.proofs.Sound.{sound_takes_back, has_times}
-use Rattle.hm_class_rules.proofs.Emptied.{one_more_empty}
+use Rattle.hm_class_rules.specs.Rules.{Releases, state}
+use Rattle.hm_class_rules.proofs.Sound.{sound_takes_back}
 use Rattle.hm_class_rules.proofs.Whole.{whole_write}
-use Rattle.hm_class.specs.declared.outcome.Emptied.{Emptied}
-use Rattle.hm_class.specs.declared.outcome.Emptied.TheVariants as emptied
-use Rattle.hm_class.specs.declared.slab.SlotUse.{SlotUse}
-use Rattle.hm_class.specs.declared.slab.SlotUse.TheVariants.{Never, Free, Live, Held, Condemned}
-use Rattle.hm_class.specs.declared.slabs.Slabs.{Slabs}
-use Rattle.hm_class.specs.declared.slabs.Slot.{Slot}
-use Rattle.hm_class.specs.Uses.{Uses, SlabUse, lives, occupied, is_available, has_occupied, has_available, is_partly, is_unused, is_held, kind_of, kind_at, slab_in, use_at, passes_at, with_slot, with_use, with_shut, shut_slab, live_count}
-use Rattle.hm_class.specs.Rooms.{SameLists}
-use Rattle.hm_model.specs.Calls.{entry_of}
-use Rattle.hm_class.specs.Outcomes.{freed_choices, freed_draws}
-use Rattle.hm_class.specs.Frees as frees
-use Rattle.hm_class.specs.Frees.{array_word, place_of_word, array_stream, Clears, CanRelease, Settles, KeepsPlaces, JoinsSlab, RetiresSlab, PurgesSlab, is_surplus, freed_uses, with_unparked, released_slab}
+use Rattle.hm_slab_meta.specs.Uses.{SlotUse}
+use Rattle.hm_slab_meta.specs.Uses.{Never, Free, Live, Held, Condemned}
+use Rattle.hm_class.specs.Slabs.{Slabs}
+use Rattle.hm_class.specs.Uses.{Uses, SlabUse, lives, occupied, is_available, has_occupied, has_available, is_held, kind_of, kind_at, slab_in, use_at, passes_at, with_slot, with_use, with_shut, shut_slab, live_count}
+use Rattle.hm_class.specs.Frees.{place_of_word, Clears, CanRelease}
 use Rattle.hm_class.specs.Region.{HoldsSlabs}
-use Rattle.hm_class.specs.Kept.{Shows, Follows, IsKept, terms_of, cells_of}
+use Rattle.hm_class.specs.Kept.{Shows, IsKept, terms_of}
 use Rattle.hm_class.proofs.Counts.{weight}
-use Rattle.hm_class.proofs.Entered.{length_taken}
-use Rattle.hm_class.proofs.Followed.{shows_count, shows_held, shows_released, shows_retired, shows_unparked, shows_written}
-use Rattle.hm_class.proofs.Freed.{draws_are, stepped_freed, after_freed, stream_after, IsNextWord, IsUnparked, place_drawn, place_fits, parking_drawn}
-use Rattle.hm_class.proofs.Listed.{next_freed, listed_same, empty_kind}
-use Rattle.hm_class.proofs.Paged.{holds_write, holds_without, holds_retired, holds_purged, slab_run}
-use Rattle.hm_class.proofs.Permitted.{allowed_of, usable_held, live_open}
+use Rattle.hm_class.proofs.Followed.{shows_held}
+use Rattle.hm_class.proofs.Freed.{place_fits}
+use Rattle.hm_class.proofs.Paged.{holds_write, holds_without, slab_run}
+use Rattle.hm_class.proofs.Permitted.{usable_held, live_open}
 use Rattle.hm_class.proofs.Places.{slab_of_place, slot_of_place}
 use Rattle.hm_class.proofs.Shown.{kind_is}
 use Rattle.hm_class.proofs.Used.{found, counted, each_slab, count_changed}
-use Rattle.hm_class.proofs.Entries.{pushed, sound_now, allows_now, kept_now}
+use Rattle.hm_class.proofs.Entries.{sound_now, allows_now}
 
 -- ---- a slot that is held is occupied, as it was
 module _ (test : SlotUse → Bool) where
@@ -88,7 +71,7 @@ shut_live all n b is = omega (arith, count_changed all n shut_slab b is lives)
 module _ (told : Bool) (runs : PageRuns) (faults : ℕ) (c : Config) (number arena : ℕ) (p : Shape) (es : List Entry) (k : Slabs) (stream : Words) (quarantine : Kept) (parking : List (Option ℕ))
     (kept : IsKept told runs faults c number arena p es k stream quarantine parking)
     {P : Type 0} (meaning : pages.Ghosts P) (begun half : P) (k₁ : Slabs) (a n i : ℕ) (told_is : meaning.told begun ≡ told) (runs_is : meaning.runs begun ≡ runs)
-    (is : a ≡ place p n i) (lt : i < p.slots) (was : use_at k.slabs.items n i ≡ Some Live) (items : k₁.slabs.items ≡ with_use k.slabs.items n i Held)
+    (is : a ≡ place p n i) (lt : i < p.slots) (was : use_at k.slabs n i ≡ Some Live) (items : k₁.slabs ≡ with_use k.slabs n i Held)
     (cleared : Clears meaning p begun half a) where
   abbrev first : State
   first = state (terms_of told c p) es
@@ -99,11 +82,11 @@ module _ (told : Bool) (runs : PageRuns) (faults : ℕ) (c : Config) (number are
   pub was_live : is_live first a ≡ true
   was_live = ap (λ (q : ℕ). is_live first q) is ∙ kept.follows.shows.live n i lt ∙ ap (λ (o : Option SlotUse). option_map_or lives o false) was
 
-  pub held_shows : Shows p k₁.slabs.items taken
+  pub held_shows : Shows p k₁.slabs taken
   held_shows =
-      let f = found k.slabs.items n i Live was in
-      subst (λ (q : ℕ). Shows p k₁.slabs.items (takes_back p q first)) (sym is)
-      (subst (λ (u : Uses). Shows p u (takes_back p (place p n i) first)) (sym items) (shows_held p k.slabs.items first n i f.slab Live kept.served.shape lt f.is_slab was kept.follows.shows refl))
+      let f = found k.slabs n i Live was in
+      subst (λ (q : ℕ). Shows p k₁.slabs (takes_back p q first)) (sym is)
+      (subst (λ (u : Uses). Shows p u (takes_back p (place p n i) first)) (sym items) (shows_held p k.slabs first n i f.slab Live kept.served.shape lt f.is_slab was kept.follows.shows refl))
 
   was_open : is_open first n ≡ true
   was_open = live_open p first n i kept.served.shape (sound_now told runs faults c number arena p es k stream quarantine parking kept) lt (ap (λ (q : ℕ). is_live first q) (sym is) ∙ was_live)
@@ -126,8 +109,8 @@ module _ (told : Bool) (runs : PageRuns) (faults : ℕ) (c : Config) (number are
   pub held_sound : IsSound p taken
   held_sound = sound_takes_back p first a (sound_now told runs faults c number arena p es k stream quarantine parking kept) was_live
 
-  pub kind_then : (m : ℕ) → kind p first m ≡ kind_at k₁.slabs.items m
-  kind_then m = kind_is p k.slabs.items first m kept.served.shape kept.follows.shows ∙ sym (ap (λ (u : Uses). kind_at u m) items ∙ kind_held k.slabs.items n i Held Live was refl m)
+  pub kind_then : (m : ℕ) → kind p first m ≡ kind_at k₁.slabs m
+  kind_then m = kind_is p k.slabs first m kept.served.shape kept.follows.shows ∙ sym (ap (λ (u : Uses). kind_at u m) items ∙ kind_held k.slabs n i Held Live was refl m)
 
   -- what leaves the quarantine
   pub release_now : Releases p taken (let_go quarantine a (place_of_word p (next_word stream)))
@@ -140,7 +123,7 @@ module _ (told : Bool) (runs : PageRuns) (faults : ℕ) (c : Config) (number are
     pub is_place : b ≡ place p (slab_of p b) (slot_of p b)
     pub open_slab : is_open taken (slab_of p b) ≡ true
     pub below : slab_of p b < p.limit
-    pub used : use_at k₁.slabs.items (slab_of p b) (slot_of p b) ≡ Some Held
+    pub used : use_at k₁.slabs (slab_of p b) (slot_of p b) ≡ Some Held
 
   held_use : (all : Uses) (m j : ℕ) → passes_at is_held all m j ≡ true → use_at all m j ≡ Some Held
   held_use all m j e = of (use_at all m j) e
@@ -164,8 +147,8 @@ module _ (told : Bool) (runs : PageRuns) (faults : ℕ) (c : Config) (number are
         is_place = r.is_place.is ∙ ap (λ (m : ℕ). place p m r.slot) (sym slab) ∙ ap (λ (j : ℕ). place p (slab_of p b) j) (sym slot);
         open_slab = ap (λ (m : ℕ). is_open taken m) slab ∙ r.open_slab;
         below = omega (arith, slab, r.is_place.below);
-        used = ap (λ (m : ℕ). use_at k₁.slabs.items m (slot_of p b)) slab ∙ ap (λ (j : ℕ). use_at k₁.slabs.items r.slab j) slot
-            ∙ held_use k₁.slabs.items r.slab r.slot (sym (held_shows.held r.slab r.slot r.is_place.slot) ∙ ap (λ (q : ℕ). among q taken.held) (sym r.is_place.is) ∙ at_b);
+        used = ap (λ (m : ℕ). use_at k₁.slabs m (slot_of p b)) slab ∙ ap (λ (j : ℕ). use_at k₁.slabs r.slab j) slot
+            ∙ held_use k₁.slabs r.slab r.slot (sym (held_shows.held r.slab r.slot r.is_place.slot) ∙ ap (λ (q : ℕ). among q taken.held) (sym r.is_place.is) ∙ at_b);
       }
 
   pub can_release : (b : ℕ) (told_half : meaning.told half ≡ told) → among b taken.held ≡ true → CanRelease meaning p k₁ half b
@@ -174,7 +157,8 @@ module _ (told : Bool) (runs : PageRuns) (faults : ℕ) (c : Config) (number are
       record {
         from = r.from;
         below = r.below;
-        there = ap (λ (o : Option SlotUse). is_some o) r.used;
+        on = sym (held_shows.opens (slab_of p b)) ∙ r.open_slab;
+        held = r.used;
         run = λ own y. slab_run p taken.opens (slab_of p b) (meaning.runs half) own r.open_slab (held_slabs (sym told_half ∙ y));
       }
 

@@ -1,66 +1,59 @@
 -- What left the quarantine is released: what is kept follows.
-use Rattle.std.proofs.Common.{◌≡◌, ◌⊎◌, inl, inr, ⊎_elim, ℕ, zero, suc, ◌+◌, ◌*◌, ◌^◌, ◌<◌, ◌≤◌, ◌==◌, Bool, true, false, IsTrue, IfSome, cond, not, ◌||◌, ◌&&◌, nat_lt, List, [], ◌∷◌, ◌++◌, length, reverse, slice_get, slice_set, slice_index_or, Option, Some, None, is_some, option_map, sym, ◌∙◌, ap, subst, refl, arith, true≢false, length-append}
-use Rattle.std.specs.List.{list_any}
+use Rattle.std.proofs.Common.{◌≡◌, ◌≢◌, inl, inr, ℕ, ◌+◌, ◌*◌, ◌^◌, ◌<◌, ◌≤◌, ◌==◌, Bool, true, false, IsTrue, cond, not, ◌&&◌, nat_lt, List, [], ◌∷◌, ◌++◌, length, slice_set, slice_index_or, Option, Some, None, sym, ◌∙◌, ap, subst, refl, arith}
 use Rattle.std.specs.FinMap as map
-use Rattle.std.specs.Option.{option_and_then, option_map_or}
-use Rattle.std.proofs.lemmas.List.{length-replicate, length-reverse}
 use Rattle.std.proofs.lemmas.Option.{none-some, same_Some, slice_get_within}
-use Rattle.hm_choice.specs.Stream.{Words, next_word, after_word, drawn}
+use Rattle.hm_choice.specs.Stream.{Words, next_word, drawn}
 use Rattle.hm_quarantine.specs.Quarantine.{Kept, let_go, kept_with}
 use Rattle.hm_outside.specs.declared.pages.Pages as pages
-use Rattle.hm_outside.specs.PageRuns.{PageRuns, IsHeld, IsRun, Reads, Writes, zeros}
-use Rattle.hm_model.specs.Maps.{among, at, has, removed, without}
-use Rattle.hm_model.proofs.Lists.{times_among}
+use Rattle.hm_outside.specs.PageRuns.{PageRuns, zeros}
+use Rattle.hm_model.specs.Maps.{among, at, removed}
 use Rattle.hm_model.specs.declared.entry.Entry.{Entry}
 use Rattle.hm_model.specs.declared.entry.Who.{Who}
 use Rattle.hm_model.specs.declared.entry.Call.TheVariants.{GiveBack}
 use Rattle.hm_model.specs.declared.entry.Reply.TheVariants as reply
 use Rattle.hm_sizes.specs.declared.config.Config.{Config}
 use Rattle.hm_sizes.specs.declared.shape.Shape.{Shape}
-use Rattle.hm_sizes.specs.Shapes.{IsShape, place, slab_at, slab_of, slot_of, has_bytes, usable}
+use Rattle.hm_sizes.specs.Shapes.{slab_at, slab_of, slot_of, has_bytes, usable}
 use Rattle.hm_class_rules.specs.State.{State, Slab, is_open, is_live, is_empty, empty_slabs}
 use Rattle.hm_class_rules.specs.Kinds.{Kind, Partial, Empty, Neither, kind, same_kind}
 use Rattle.hm_class_rules.specs.Steps.{takes_back, releases, unparks, retires, purges, step}
-use Rattle.hm_class_rules.specs.Bytes.{overlaid_slabs, write, found_canary, kept_canary}
-use Rattle.hm_class_rules.specs.Laws.{IsSound, bytes_of_slab}
-use Rattle.hm_class_rules.specs.Rules.{Terms, Allowed, AllowsFreed, Releases, Empties, Unparks, surplus, chose, state, wrong_size, wrong_canary}
-use Rattle.hm_class_rules.specs.Stepped.{Cells, listed, touched, parking_with}
+use Rattle.hm_class_rules.specs.Bytes.{found_canary, kept_canary}
+use Rattle.hm_class_rules.specs.Rules.{Terms, Releases, Empties, Unparks, surplus, chose, state, wrong_canary}
+use Rattle.hm_class_rules.specs.Stepped.{listed, touched, parking_with}
 use Rattle.hm_class_rules.specs.DrawnLaws.{AreKept}
 use Rattle.hm_class_rules.specs.Draws.{Returned, parking_place}
-use Rattle.hm_class_rules.proofs.Sound.{sound_takes_back, has_times}
 use Rattle.hm_class_rules.proofs.Emptied.{one_more_empty}
 use Rattle.hm_class_rules.proofs.Changes.{kind_empty}
 use Rattle.hm_class_rules.proofs.Alike.{drawn_below}
 use Rattle.hm_class_rules.proofs.Streams.{next_below}
-use Rattle.hm_class_rules.proofs.Whole.{whole_write}
 use Rattle.hm_class.specs.declared.outcome.Emptied.{Emptied}
 use Rattle.hm_class.specs.declared.outcome.Emptied.TheVariants as emptied
-use Rattle.hm_class.specs.declared.slab.SlotUse.{SlotUse}
-use Rattle.hm_class.specs.declared.slab.SlotUse.TheVariants.{Never, Free, Live, Held, Condemned}
-use Rattle.hm_class.specs.declared.slabs.Slabs.{Slabs}
+use Rattle.hm_slab_meta.specs.Uses.{Free, Live, Held}
+use Rattle.hm_class.specs.Slabs.{Slabs}
 use Rattle.hm_class.specs.declared.slabs.Slot.{Slot}
-use Rattle.hm_class.specs.Uses.{Uses, SlabUse, lives, occupied, is_available, has_occupied, has_available, is_partly, is_unused, is_held, kind_of, kind_at, slab_in, use_at, passes_at, with_slot, with_use, with_shut, shut_slab, live_count}
-use Rattle.hm_class.specs.Rooms.{SameLists}
+use Rattle.hm_class.specs.Uses.{numbers_of, open_at, Uses, SlabUse, lives, kind_at, slab_in, use_at, with_slot, with_use, with_shut, shut_slab, live_count}
+use Rattle.hm_class.specs.Slabs.{SameLists, Parks, list_of}
+use Rattle.hm_slab_lists.specs.Lists.{Lists, gone, placed}
+use Rattle.hm_slab_lists.specs.Table.{unparked}
+use Rattle.hm_class.proofs.Filing.{Stands, Moved, placed_moved, placed_full, retired_partial, retired_empty, retired_shut, retired_full, same_full}
 use Rattle.hm_model.specs.Calls.{entry_of}
 use Rattle.hm_class.specs.Outcomes.{freed_choices, freed_draws}
 use Rattle.hm_class.specs.Frees as frees
-use Rattle.hm_class.specs.Frees.{array_word, place_of_word, array_stream, Clears, CanRelease, Settles, KeepsPlaces, JoinsSlab, RetiresSlab, PurgesSlab, is_surplus, freed_uses, with_unparked, released_slab}
+use Rattle.hm_class.specs.Frees.{array_word, place_of_word, array_stream, Clears, CanRelease, Settles, KeepsPlaces, is_surplus, freed_uses, with_unparked, released_slab}
 use Rattle.hm_class.specs.Region.{HoldsSlabs}
-use Rattle.hm_class.specs.Kept.{Shows, Follows, IsKept, terms_of, cells_of}
-use Rattle.hm_class.proofs.Counts.{weight}
-use Rattle.hm_class.proofs.Entered.{length_taken, has_removed_same}
-use Rattle.hm_class.proofs.Followed.{shows_count, shows_held, shows_released, shows_retired, shows_unparked, shows_written}
-use Rattle.hm_class.proofs.Freed.{draws_are, stepped_freed, after_freed, stream_after, IsNextWord, IsUnparked, place_drawn, place_fits, parking_drawn}
+use Rattle.hm_class.specs.Kept.{Shows, AreFull, IsKept, terms_of, cells_of}
+use Rattle.hm_class.proofs.Entered.{length_taken, has_removed_same, has_overlaid}
+use Rattle.hm_class.proofs.Followed.{shows_count, shows_released, shows_retired, shows_unparked, shows_written}
+use Rattle.hm_class.proofs.Freed.{draws_are, stepped_freed, after_freed, stream_after, IsNextWord, IsUnparked, place_drawn, parking_drawn}
 use Rattle.hm_class.proofs.Listed.{next_freed, listed_same, empty_kind}
-use Rattle.hm_class.proofs.Paged.{holds_write, holds_without, holds_retired, holds_purged, slab_run}
+use Rattle.hm_class.proofs.Paged.{holds_retired, holds_purged}
 use Rattle.hm_class.proofs.Permitted.{allowed_of, told_pair}
-use Rattle.hm_class.proofs.Places.{slab_of_place, slot_of_place}
 use Rattle.hm_class.proofs.Shown.{kind_is, kind_shut}
-use Rattle.hm_class.proofs.Used.{found, counted, count_changed, use_here}
-use Rattle.hm_class.proofs.Returned.{was_live, held_shows, held_slabs, held_sound, kind_then, release_now, IsReleased, is_released}
+use Rattle.hm_class.proofs.Used.{found, counted, count_changed, use_here, slab_beside, open_changed}
+use Rattle.hm_class.proofs.Returned.{was_live, held_shows, held_slabs, kind_then, release_now, IsReleased, is_released}
 use Rattle.hm_class.proofs.Permitted.{live_block, canary_found, live_open}
-use Rattle.hm_class.specs.Judgements.{Accepts, other_number}
-use Rattle.hm_class.proofs.Entries.{pushed, sound_now, allows_now, kept_now}
+use Rattle.hm_class.specs.Judgements.{Accepts}
+use Rattle.hm_class.proofs.Entries.{pushed, stands_now, sound_now, allows_now, kept_now}
 
 first_of : (x y : Bool) → (x && y) ≡ true → x ≡ true
 first_of true y e = refl
@@ -105,11 +98,11 @@ released_is released n emptied.Purged = refl
 clean_without : (p : Shape) (s : State) (a : ℕ) → has_bytes p ≡ false → wrong_canary p s a ≡ None
 clean_without p s a off = ap (λ (b : Bool). cond (b && not (found_canary p s a == kept_canary p s a)) (told_pair (kept_canary p s a) (found_canary p s a)) None) off
 
-module _ (told : Bool) (runs : PageRuns) (faults : ℕ) (c : Config) (number arena : ℕ) (p : Shape) (es : List Entry) (k : Slabs) (stream : Words) (quarantine : Kept) (parking : List (Option ℕ))
-    (kept : IsKept told runs faults c number arena p es k stream quarantine parking)
-    {P : Type 0} (meaning : pages.Ghosts P) (begun half now : P) (k₁ k' : Slabs) (stream' : Words) (parking' : List (Option ℕ)) (a : ℕ) (slot : Slot) (stated : Option ℕ) (who : Who) (f f' : ℕ)
+module _ (told : Bool) (runs : PageRuns) (faults : ℕ) (c : Config) (number arena : ℕ) (p : Shape) (es : List Entry) (k : Slabs) (stream : Words) (quarantine : Kept)
+    (kept : IsKept told runs faults c number arena p es k stream quarantine k.parking)
+    {P : Type 0} (meaning : pages.Ghosts P) (begun half now : P) (k₁ k' : Slabs) (stream' : Words) (a : ℕ) (slot : Slot) (stated : Option ℕ) (who : Who) (f f' : ℕ)
     (told_is : meaning.told begun ≡ told) (runs_is : meaning.runs begun ≡ runs) (accepts : Accepts meaning p k begun a stated slot)
-    (items : k₁.slabs.items ≡ with_use k.slabs.items slot.slab slot.index Held) (cleared : Clears meaning p begun half a) (lists : SameLists k k₁) (live₁ : k₁.live ≡ live_count k₁.slabs.items) (live' : k'.live ≡ live_count k'.slabs.items)
+    (items : k₁.slabs ≡ with_use k.slabs slot.slab slot.index Held) (cleared : Clears meaning p begun half a) (lists : SameLists k k₁) (live₁ : k₁.live ≡ live_count k₁.slabs) (live' : k'.live ≡ live_count k'.slabs)
     (is : f ≡ faults) (later : f ≤ f') where
   abbrev t : Terms
   t = terms_of told c p
@@ -127,84 +120,98 @@ module _ (told : Bool) (runs : PageRuns) (faults : ℕ) (c : Config) (number are
       slabs = subst (λ (r : PageRuns). HoldsSlabs p first.opens r) (sym runs_is) (kept.slabs y)
 
       on : is_open first slot.slab ≡ true
-      on = live_open p first slot.slab slot.index kept.served.shape (sound_now told runs faults c number arena p es k stream quarantine parking kept) accepts.judged.0.slot
-          (ap (λ (q : ℕ). is_live first q) (sym accepts.judged.0.is) ∙ (live_block p k.slabs.items first a kept.served.shape kept.follows.shows slot accepts.judged).live)
+      on = live_open p first slot.slab slot.index kept.served.shape (sound_now told runs faults c number arena p es k stream quarantine k.parking kept) accepts.judged.0.slot
+          (ap (λ (q : ℕ). is_live first q) (sym accepts.judged.0.is) ∙ (live_block p k.slabs first a kept.served.shape kept.follows.shows slot accepts.judged).live)
 
       of : (own : Bool) → has_bytes p ≡ own → wrong_canary p first a ≡ None
-      of true own = canary_found p k.slabs.items first slot.slab slot.index a (meaning.runs begun) None kept.served.shape own accepts.judged.0 on kept.follows.shows slabs (accepts.canary own (told_is ∙ y))
+      of true own = canary_found p k.slabs first slot.slab slot.index a (meaning.runs begun) None kept.served.shape own accepts.judged.0 on kept.follows.shows slabs (accepts.canary own (told_is ∙ y))
       of false off = clean_without p first a off
 
   -- once the slabs, the pages and the lists follow
   finish : (released : Option ℕ) (n m : ℕ) (e : Emptied) (final : State) (kb ka : Kind) → released ≡ let_go quarantine a (place_of_word p (next_word stream))
       → step p first (entry_freed p stream who a stated released n e f f') ≡ record final { faults = f' }
       → Empties t (releases released taken) f f' (freed_choices released n e) (surplus p (releases released taken) released)
-      → IsNextWord stream (p.array == 0) e → IsUnparked t (cells_of first k stream quarantine parking) e
-      → Shows p k'.slabs.items final → k'.shut.items ≡ final.shut → length final.live ≤ k'.live → (IsTrue told → HoldsSlabs p final.opens (meaning.runs now))
+      → IsNextWord stream (p.array == 0) e → IsUnparked t (cells_of first k stream quarantine k.parking) e
+      → Shows p k'.slabs final → k'.lists.retired ≡ final.shut → AreFull k'.slabs k'.lists.full → k'.numbers ≡ numbers_of p → length final.live ≤ k'.live → (IsTrue told → HoldsSlabs p final.opens (meaning.runs now))
       → touched p released (Returned a) ≡ m → kind p first m ≡ kb → kind p final m ≡ ka
-      → reverse k'.partial.items ≡ listed Partial m kb ka (reverse k.partial.items) → reverse k'.empty.items ≡ listed Empty m kb ka (reverse k.empty.items)
-      → stream' ≡ stream_after (array_stream p stream) e → parking' ≡ parking_with (parking_place t (freed_draws (array_word p (next_word stream)) e)) (freed_choices released n e).retired parking
-      → IsKept told (meaning.runs now) f' c number arena p (es ++ entry_freed p stream who a stated released n e f f' ∷ []) k' stream' (kept_with quarantine a (place_of_word p (next_word stream))) parking'
-  finish released n m e final kb ka let_is after empties next unparked shows shut live slabs at was now_is partial empty taken_words places =
+      → k'.lists.partial ≡ listed Partial m kb ka k.lists.partial → k'.lists.empty ≡ listed Empty m kb ka k.lists.empty
+      → stream' ≡ stream_after (array_stream p stream) e → k'.parking ≡ parking_with (parking_place t (freed_draws (array_word p (next_word stream)) e)) (freed_choices released n e).retired k.parking
+      → IsKept told (meaning.runs now) f' c number arena p (es ++ entry_freed p stream who a stated released n e f f' ∷ []) k' stream' (kept_with quarantine a (place_of_word p (next_word stream))) k'.parking
+  finish released n m e final kb ka let_is after empties next unparked shows shut full numbers live slabs at was now_is partial empty taken_words places =
       let x : Entry = entry_freed p stream who a stated released n e f f' in
       let same : (freed_choices released n e).released ≡ released = released_is released n e in
       let release : Releases p taken released = subst (λ (o : Option ℕ). Releases p taken o) (sym let_is)
-      (release_now told runs faults c number arena p es k stream quarantine parking kept meaning begun half k₁ a slot.slab slot.index told_is runs_is accepts.judged.0.is accepts.judged.0.slot accepts.judged.1 items cleared) in
-      pushed told runs faults c number arena p es k stream quarantine parking kept (meaning.runs now) f' k' stream' (kept_with quarantine a (place_of_word p (next_word stream))) parking' x
+      (release_now told runs faults c number arena p es k stream quarantine k.parking kept meaning begun half k₁ a slot.slab slot.index told_is runs_is accepts.judged.0.is accepts.judged.0.slot accepts.judged.1 items cleared) in
+      pushed told runs faults c number arena p es k stream quarantine k.parking kept (meaning.runs now) f' k' stream' (kept_with quarantine a (place_of_word p (next_word stream))) k'.parking x
       (allowed_of t first who (GiveBack a stated) reply.Freed (freed_choices released n e) (freed_draws (array_word p (next_word stream)) e) f f' (draws_are p stream e) tt (is ∙ kept.count) later (record {
-        block = live_block p k.slabs.items first a kept.served.shape kept.follows.shows slot accepts.judged;
+        block = live_block p k.slabs first a kept.served.shape kept.follows.shows slot accepts.judged;
         size = accepts.size;
         canary = clean;
         release = subst (λ (o : Option ℕ). Releases p taken o) (sym same) release;
         emptied = subst (λ (o : Option ℕ). Empties t (releases o taken) f f' (freed_choices released n e) (surplus p (releases o taken) o)) (sym same) empties;
         choices = chosen_is released n e;
       }))
-      (stepped_freed t (cells_of first k stream quarantine parking) who a f f' n stated released e next unparked let_is) refl
+      (stepped_freed t (cells_of first k stream quarantine k.parking) who a f f' n stated released e next unparked let_is) refl
       (record {
-        shows = subst (λ (s : State). Shows p k'.slabs.items s) (sym after) (shows_count p k'.slabs.items final f' shows);
+        shows = subst (λ (s : State). Shows p k'.slabs s) (sym after) (shows_count p k'.slabs final f' shows);
         shut = shut ∙ ap (λ (s : State). s.shut) (sym after);
+        full = full;
+        numbers = numbers;
         counted = live';
         live_all = omega (arith, live, ap (λ (s : State). length s.live) after);
       })
       (λ y. subst (λ (s : State). HoldsSlabs p s.opens (meaning.runs now)) (sym after) (slabs y))
-      (next_freed t first k k' stream stream' quarantine (kept_with quarantine a (place_of_word p (next_word stream))) parking parking' x a m kb ka refl (ap (λ (o : Option ℕ). touched p o (Returned a)) same ∙ at) was
+      (next_freed t first k k' stream stream' quarantine (kept_with quarantine a (place_of_word p (next_word stream))) k.parking k'.parking x a m kb ka refl (ap (λ (o : Option ℕ). touched p o (Returned a)) same ∙ at) was
       (ap (λ (s : State). kind p s m) after ∙ now_is) (after_freed p stream e ∙ sym taken_words) partial empty
       (ap (λ (i : ℕ). kept_with quarantine a i) (sym (place_drawn p stream e))) places)
 
   -- the slots with the freed one held
-  shows₁ : Shows p k₁.slabs.items taken
-  shows₁ = held_shows told runs faults c number arena p es k stream quarantine parking kept meaning begun half k₁ a slot.slab slot.index told_is runs_is accepts.judged.0.is accepts.judged.0.slot accepts.judged.1 items cleared
+  shows₁ : Shows p k₁.slabs taken
+  shows₁ = held_shows told runs faults c number arena p es k stream quarantine k.parking kept meaning begun half k₁ a slot.slab slot.index told_is runs_is accepts.judged.0.is accepts.judged.0.slot accepts.judged.1 items cleared
 
   slabs₁ : IsTrue told → HoldsSlabs p taken.opens (meaning.runs half)
-  slabs₁ = held_slabs told runs faults c number arena p es k stream quarantine parking kept meaning begun half k₁ a slot.slab slot.index told_is runs_is accepts.judged.0.is accepts.judged.0.slot accepts.judged.1 items cleared
+  slabs₁ = held_slabs told runs faults c number arena p es k stream quarantine k.parking kept meaning begun half k₁ a slot.slab slot.index told_is runs_is accepts.judged.0.is accepts.judged.0.slot accepts.judged.1 items cleared
 
-  kind₁ : (m : ℕ) → kind p first m ≡ kind_at k₁.slabs.items m
-  kind₁ = kind_then told runs faults c number arena p es k stream quarantine parking kept meaning begun half k₁ a slot.slab slot.index told_is runs_is accepts.judged.0.is accepts.judged.0.slot accepts.judged.1 items cleared
+  kind₁ : (m : ℕ) → kind p first m ≡ kind_at k₁.slabs m
+  kind₁ = kind_then told runs faults c number arena p es k stream quarantine k.parking kept meaning begun half k₁ a slot.slab slot.index told_is runs_is accepts.judged.0.is accepts.judged.0.slot accepts.judged.1 items cleared
 
   live : is_live first a ≡ true
-  live = was_live told runs faults c number arena p es k stream quarantine parking kept meaning begun half k₁ a slot.slab slot.index told_is runs_is accepts.judged.0.is accepts.judged.0.slot accepts.judged.1 items cleared
+  live = was_live told runs faults c number arena p es k stream quarantine k.parking kept meaning begun half k₁ a slot.slab slot.index told_is runs_is accepts.judged.0.is accepts.judged.0.slot accepts.judged.1 items cleared
 
   live_taken : length taken.live ≤ k₁.live
-  live_taken = omega (arith, kept.follows.live_all, kept.follows.counted, live₁, ap live_count items, counted lives k.slabs.items slot.slab slot.index Held Live accepts.judged.1, length_taken a first.live live)
+  live_taken = omega (arith, kept.follows.live_all, kept.follows.counted, live₁, ap live_count items, counted lives k.slabs slot.slab slot.index Held Live accepts.judged.1, length_taken a first.live live)
 
-  lists_from : (wanted : Kind) (m : ℕ) (kb ka : Kind) (old mid new : List ℕ) → mid ≡ old → reverse new ≡ listed wanted m kb ka (reverse mid) → reverse new ≡ listed wanted m kb ka (reverse old)
-  lists_from wanted m kb ka old mid new same e = e ∙ ap (λ (l : List ℕ). listed wanted m kb ka (reverse l)) same
+  -- what was open is open, and slabs are what they were
+  open₁ : (m : ℕ) → is_open taken m ≡ is_open first m
+  open₁ m = has_overlaid p a (zeros (usable p)) m first.opens
+
+  same_kind₁ : (m : ℕ) → kind_at k.slabs m ≡ kind_at k₁.slabs m
+  same_kind₁ m = sym (kind_is p k.slabs first m kept.served.shape kept.follows.shows) ∙ kind₁ m
+
+  full₁ : AreFull k₁.slabs k.lists.full
+  full₁ m at =
+      let is = kept.follows.full m at in
+      (sym (shows₁.opens m) ∙ open₁ m ∙ kept.follows.shows.opens m ∙ is.0, sym (same_kind₁ m) ∙ is.1)
 
   abbrev Ends : Option ℕ → ℕ → Emptied → Type 0
-  Ends released n e = IsKept told (meaning.runs now) f' c number arena p (es ++ entry_freed p stream who a stated released n e f f' ∷ []) k' stream' (kept_with quarantine a (place_of_word p (next_word stream))) parking'
+  Ends released n e = IsKept told (meaning.runs now) f' c number arena p (es ++ entry_freed p stream who a stated released n e f f' ∷ []) k' stream' (kept_with quarantine a (place_of_word p (next_word stream))) k'.parking
 
   -- nothing left the quarantine
-  pub kept_held : (e : Emptied) → None ≡ let_go quarantine a (place_of_word p (next_word stream)) → e ≡ emptied.Kept → k'.slabs.items ≡ k₁.slabs.items → SameLists k₁ k' → k'.live ≡ k₁.live → (IsTrue told → meaning.runs now ≡ meaning.runs half) → stream' ≡ array_stream p stream → parking' ≡ parking
+  pub kept_held : (e : Emptied) → None ≡ let_go quarantine a (place_of_word p (next_word stream)) → e ≡ emptied.Kept → k'.slabs ≡ k₁.slabs → SameLists k₁ k' → k'.live ≡ k₁.live → (IsTrue told → meaning.runs now ≡ meaning.runs half) → stream' ≡ array_stream p stream → k'.parking ≡ k.parking
       → Ends None 0 e
   kept_held e none e_is same same_lists same_live same_runs words places =
       let m : ℕ = slab_of p a in
       let ka : Kind = kind p first m in
+      let all_lists : k'.lists ≡ k.lists = same_lists.lists ∙ lists.lists in
       subst (λ (x : Emptied). Ends None 0 x) (sym e_is)
       (finish None 0 m emptied.Kept taken ka ka none refl (refl, refl, refl) tt tt
-      (subst (λ (u : Uses). Shows p u taken) (sym same) shows₁) (ap (λ v. v.items) (same_lists.shut ∙ lists.shut) ∙ kept.follows.shut) (omega (arith, live_taken, same_live))
+      (subst (λ (u : Uses). Shows p u taken) (sym same) shows₁) (ap (λ (l : Lists). l.retired) all_lists ∙ kept.follows.shut)
+      (same_full k₁.slabs k'.slabs k.lists.full k'.lists.full same (ap (λ (l : Lists). l.full) all_lists) full₁) (same_lists.numbers ∙ lists.numbers ∙ kept.follows.numbers)
+      (omega (arith, live_taken, same_live))
       (λ y. subst (λ (r : PageRuns). HoldsSlabs p taken.opens r) (sym (same_runs y)) (slabs₁ y))
-      refl refl (kind_is p k₁.slabs.items taken m kept.served.shape shows₁ ∙ sym (kind₁ m))
-      (ap (λ v. reverse v.items) (same_lists.partial ∙ lists.partial) ∙ sym (listed_same Partial ka m (reverse k.partial.items)))
-      (ap (λ v. reverse v.items) (same_lists.empty ∙ lists.empty) ∙ sym (listed_same Empty ka m (reverse k.empty.items)))
+      refl refl (kind_is p k₁.slabs taken m kept.served.shape shows₁ ∙ sym (kind₁ m))
+      (ap (λ (l : Lists). l.partial) all_lists ∙ sym (listed_same Partial ka m k.lists.partial))
+      (ap (λ (l : Lists). l.empty) all_lists ∙ sym (listed_same Empty ka m k.lists.empty))
       words places)
 
   -- ---- slot b left the quarantine
@@ -216,109 +223,218 @@ module _ (told : Bool) (runs : PageRuns) (faults : ℕ) (c : Config) (number are
     freed = releases (Some b) taken
 
     abbrev uses₂ : Uses
-    uses₂ = freed_uses p b k₁.slabs.items
+    uses₂ = freed_uses p b k₁.slabs
 
     release : Releases p taken (Some b)
     release = subst (λ (o : Option ℕ). Releases p taken o) (sym let_is)
-        (release_now told runs faults c number arena p es k stream quarantine parking kept meaning begun half k₁ a slot.slab slot.index told_is runs_is accepts.judged.0.is accepts.judged.0.slot accepts.judged.1 items cleared)
+        (release_now told runs faults c number arena p es k stream quarantine k.parking kept meaning begun half k₁ a slot.slab slot.index told_is runs_is accepts.judged.0.is accepts.judged.0.slot accepts.judged.1 items cleared)
 
-    place_b : IsReleased told runs faults c number arena p es k stream quarantine parking kept meaning begun half k₁ a slot.slab slot.index told_is runs_is accepts.judged.0.is accepts.judged.0.slot accepts.judged.1 items cleared b
-    place_b = is_released told runs faults c number arena p es k stream quarantine parking kept meaning begun half k₁ a slot.slab slot.index told_is runs_is accepts.judged.0.is accepts.judged.0.slot accepts.judged.1 items cleared b release.0
+    place_b : IsReleased told runs faults c number arena p es k stream quarantine k.parking kept meaning begun half k₁ a slot.slab slot.index told_is runs_is accepts.judged.0.is accepts.judged.0.slot accepts.judged.1 items cleared b
+    place_b = is_released told runs faults c number arena p es k stream quarantine k.parking kept meaning begun half k₁ a slot.slab slot.index told_is runs_is accepts.judged.0.is accepts.judged.0.slot accepts.judged.1 items cleared b release.0
 
     shows₂ : Shows p uses₂ freed
     shows₂ =
         let r = place_b in
-        let g = found k₁.slabs.items m (slot_of p b) Held r.used in
-        subst (λ (q : ℕ). Shows p uses₂ (releases (Some q) taken)) (sym r.is_place) (shows_released p k₁.slabs.items taken m (slot_of p b) g.slab Held kept.served.shape r.slot g.is_slab r.used shows₁ refl)
+        let g = found k₁.slabs m (slot_of p b) Held r.used in
+        subst (λ (q : ℕ). Shows p uses₂ (releases (Some q) taken)) (sym r.is_place) (shows_released p k₁.slabs taken m (slot_of p b) g.slab Held kept.served.shape r.slot g.is_slab r.used shows₁ refl)
 
     -- whether the slab is one too many
-    surplus_is : is_surplus p uses₂ (length k₁.empty.items) m ≡ (is_empty p freed m && nat_lt 131072 (length (empty_slabs p freed) * p.slab))
+    surplus_is : is_surplus p uses₂ (length k₁.lists.empty) m ≡ (is_empty p freed m && nat_lt 131072 (length (empty_slabs p freed) * p.slab))
     surplus_is =
-        ap (λ (x : Bool). x && nat_lt 131072 ((length k₁.empty.items + 1) * p.slab)) (ap (λ (x : Kind). same_kind x Empty) (sym (kind_is p uses₂ freed m kept.served.shape shows₂)) ∙ empty_kind p freed m)
+        ap (λ (x : Bool). x && nat_lt 131072 ((length k₁.lists.empty + 1) * p.slab)) (ap (λ (x : Kind). same_kind x Empty) (sym (kind_is p uses₂ freed m kept.served.shape shows₂)) ∙ empty_kind p freed m)
         ∙ of (is_empty p freed m) refl
       where
-        now_kept : AreKept t first (cells_of first k stream quarantine parking)
-        now_kept = kept_now told runs faults c number arena p es k stream quarantine parking kept
+        now_kept : AreKept t first (cells_of first k stream quarantine k.parking)
+        now_kept = kept_now told runs faults c number arena p es k stream quarantine k.parking kept
 
-        of : (x : Bool) → is_empty p freed m ≡ x → (x && nat_lt 131072 ((length k₁.empty.items + 1) * p.slab)) ≡ (x && nat_lt 131072 (length (empty_slabs p freed) * p.slab))
+        of : (x : Bool) → is_empty p freed m ≡ x → (x && nat_lt 131072 ((length k₁.lists.empty + 1) * p.slab)) ≡ (x && nat_lt 131072 (length (empty_slabs p freed) * p.slab))
         of true e = ap (λ (n : ℕ). nat_lt 131072 (n * p.slab))
-            (omega (arith, one_more_empty p first a b kept.served.shape (sound_now told runs faults c number arena p es k stream quarantine parking kept) live release e, now_kept.empty_count, length-reverse k.empty.items, ap (λ v. length v.items) lists.empty))
+            (omega (arith, one_more_empty p first a b kept.served.shape (sound_now told runs faults c number arena p es k stream quarantine k.parking kept) live release e, now_kept.empty_count, ap (λ (l : Lists). length l.empty) lists.lists))
         of false e = refl
 
-    surplus_when : (x : Bool) → is_surplus p uses₂ (length k₁.empty.items) m ≡ x → surplus p freed (Some b) ≡ cond x (Some m) None
+    surplus_when : (x : Bool) → is_surplus p uses₂ (length k₁.lists.empty) m ≡ x → surplus p freed (Some b) ≡ cond x (Some m) None
     surplus_when x e = ap (λ (y : Bool). cond y (Some m) None) (sym surplus_is ∙ e)
 
-    free_live : live_count uses₂ ≡ live_count k₁.slabs.items
-    free_live = omega (arith, counted lives k₁.slabs.items m (slot_of p b) Free Held place_b.used)
+    free_live : live_count uses₂ ≡ live_count k₁.slabs
+    free_live = omega (arith, counted lives k₁.slabs m (slot_of p b) Free Held place_b.used)
 
-    pub kept_released : (e : Emptied) → frees.Releases meaning p b k₁ k' half now (array_stream p stream) stream' parking parking' e → meaning.told half ≡ told → f ≡ meaning.faults half → f' ≡ meaning.faults now → Ends (Some b) m e
-    kept_released emptied.Kept v told_half half_is now_is =
-        let j = v.1 in
-        finish (Some b) m m emptied.Kept freed (kind_at k₁.slabs.items m) (kind_at uses₂ m) let_is refl
-        (subst (λ (o : Option ℕ). Empties t freed f f' (freed_choices (Some b) m emptied.Kept) o) (sym (surplus_when false v.0)) (refl, refl, refl)) tt tt
-        (subst (λ (u : Uses). Shows p u freed) (sym j.slabs) shows₂) (j.shut ∙ ap (λ v. v.items) lists.shut ∙ kept.follows.shut) (omega (arith, live_taken, live₁, live', ap live_count j.slabs, free_live))
-        (λ y. subst (λ (r : PageRuns). HoldsSlabs p taken.opens r) (sym (j.places.runs_same (told_half ∙ y))) (slabs₁ y))
-        refl (kind₁ m) (kind_is p uses₂ freed m kept.served.shape shows₂)
-        (lists_from Partial m (kind_at k₁.slabs.items m) (kind_at uses₂ m) k.partial.items k₁.partial.items k'.partial.items (ap (λ v. v.items) lists.partial) j.lists.partial) (lists_from Empty m (kind_at k₁.slabs.items m) (kind_at uses₂ m) k.empty.items k₁.empty.items k'.empty.items (ap (λ v. v.items) lists.empty) j.lists.empty)
-        j.places.stream_is j.places.parking_is
-    kept_released (emptied.Retired w u) v told_half half_is now_is =
-        let j = v.1 in
-        let r = place_b in
-        let g = found uses₂ m (slot_of p b) Free (freed_use k₁.slabs.items m (slot_of p b) r.used) in
-        let length_is : length parking ≡ c.park_length = (kept_now told runs faults c number arena p es k stream quarantine parking kept).parking_length in
-        let some : 0 < c.park_length = omega (arith, kept.served.valid.park_some) in
-        let word_low : w < 2 ^ 32 = subst (λ (x : ℕ). x < 2 ^ 32) (sym j.word_is) (next_below (array_stream p stream)) in
-        let here : u ≡ slice_index_or parking (drawn c.park_length w) None = j.unparked_is ∙ ap (λ (x : ℕ). slice_index_or parking (drawn x w) None) length_is in
-        let allowed : Unparks c.park_length first.parked u = subst (λ (o : Option ℕ). Unparks c.park_length first.parked o) (sym here)
-        ((allows_now told runs faults c number arena p es k stream quarantine parking kept).unparked (drawn c.park_length w) (drawn_below c.park_length w some word_low)) in
-        let s₃ : State = unparks u freed in
-        let shows₃ : Shows p uses₂ s₃ = shows_unparked p uses₂ freed u (was_parked c.park_length first.parked u allowed) shows₂ in
-        finish (Some b) m m (emptied.Retired w u) (retires (Some m) s₃) (kind_at k₁.slabs.items m) Neither let_is refl
-        (subst (λ (o : Option ℕ). Empties t freed f f' (freed_choices (Some b) m (emptied.Retired w u)) o) (sym (surplus_when true v.0)) (inl (refl, refl, allowed)))
-        (j.word_is) here
-        (subst (λ (x : Uses). Shows p x (retires (Some m) s₃)) (sym j.slabs) (shows_retired p uses₂ s₃ m g.slab g.is_slab shows₃))
-        (j.shut ∙ ap (λ (l : List ℕ). with_unparked l u) (ap (λ v. v.items) lists.shut ∙ kept.follows.shut) ∙ shut_with u freed)
-        (omega (arith, live_taken, live₁, live', ap live_count j.slabs, shut_live uses₂ m g.slab g.is_slab, free_live, ap (λ (l : List (ℕ × ℕ)). length l) (unparked_live u freed)))
-        (λ y. subst (λ (r : PageRuns). HoldsSlabs p (retires (Some m) s₃).opens r) (sym (j.dropped.0 (told_half ∙ y)))
-        (subst (λ (l : List (ℕ × Slab)). HoldsSlabs p (removed m l) (cond (has_bytes p) (map.remove (meaning.runs half) (slab_at p m)) (meaning.runs half))) (sym (unparked_opens u freed)) (holds_retired p taken.opens m (meaning.runs half) kept.served.shape (slabs₁ y))))
-        refl (kind₁ m) (kind_shut p (retires (Some m) s₃) m kept.served.shape (has_removed_same m s₃.opens))
-        (lists_from Partial m (kind_at k₁.slabs.items m) Neither k.partial.items k₁.partial.items k'.partial.items (ap (λ v. v.items) lists.partial) j.lists.partial) (lists_from Empty m (kind_at k₁.slabs.items m) Neither k.empty.items k₁.empty.items k'.empty.items (ap (λ v. v.items) lists.empty) j.lists.empty)
-        j.stream_is (j.parking_is ∙ ap (λ (x : ℕ). slice_set parking (drawn x w) (Some m)) length_is ∙ ap (λ (i : ℕ). slice_set parking i (Some m)) (sym (parking_drawn t stream w u)))
-    kept_released emptied.Purged v told_half half_is now_is =
-        let j = v.1 in
-        let final : State = purges p (Some m) freed in
-        let rose : f < f' = omega (arith, j.dropped.2, half_is, now_is) in
-        let shows₃ : Shows p uses₂ final = shows_written p uses₂ freed (slab_at p m) (zeros p.slab) shows₂ in
-        finish (Some b) m m emptied.Purged final (kind_at k₁.slabs.items m) Empty let_is refl
-        (subst (λ (o : Option ℕ). Empties t freed f f' (freed_choices (Some b) m emptied.Purged) o) (sym (surplus_when true v.0)) (inr (refl, refl, refl, j.dropped.0, rose))) tt tt
-        (subst (λ (x : Uses). Shows p x final) (sym j.slabs) shows₃) (j.shut ∙ ap (λ v. v.items) lists.shut ∙ kept.follows.shut) (omega (arith, live_taken, live₁, live', ap live_count j.slabs, free_live))
-        (λ y. subst (λ (r : PageRuns). HoldsSlabs p final.opens r) (sym (j.dropped.1 (told_half ∙ y))) (holds_purged p taken.opens m (meaning.runs half) kept.served.shape j.dropped.0 place_b.open_slab (slabs₁ y)))
-        refl (kind₁ m) (kind_is p uses₂ final m kept.served.shape shows₃ ∙ sym (kind_is p uses₂ freed m kept.served.shape shows₂) ∙ kind_empty p freed m (first_of _ _ (sym surplus_is ∙ v.0)))
-        (lists_from Partial m (kind_at k₁.slabs.items m) Empty k.partial.items k₁.partial.items k'.partial.items (ap (λ v. v.items) lists.partial) j.lists.partial) (lists_from Empty m (kind_at k₁.slabs.items m) Empty k.empty.items k₁.empty.items k'.empty.items (ap (λ v. v.items) lists.empty) j.lists.empty)
-        j.stream_is j.parking_is
+    -- where the slab stands
+    stands : Stands k.lists m (kind_at k₁.slabs m)
+    stands = subst (λ (x : Kind). Stands k.lists m x) (same_kind₁ m) (stands_now told runs faults c number arena p es k stream quarantine k.parking kept m (sym (open₁ m) ∙ place_b.open_slab))
+
+    -- the slabs before the lists follow
+    module _ (mid : Slabs) (mid_slabs : mid.slabs ≡ uses₂) (mid_lists : SameLists k₁ mid) where
+      all_mid : mid.lists ≡ k.lists
+      all_mid = mid_lists.lists ∙ lists.lists
+
+      beside₂ : (n : ℕ) → n ≢ m → slab_in uses₂ n ≡ slab_in k₁.slabs n
+      beside₂ n ne =
+          let g = found k₁.slabs m (slot_of p b) Held place_b.used in
+          slab_beside k₁.slabs m (with_slot (slot_of p b) Free) g.slab g.is_slab n ne
+
+      open₂ : open_at uses₂ m ≡ true
+      open₂ =
+          let g = found k₁.slabs m (slot_of p b) Held place_b.used in
+          open_changed k₁.slabs m (with_slot (slot_of p b) Free) g.slab g.is_slab refl ∙ sym (shows₁.opens m) ∙ place_b.open_slab
+
+      -- it goes to the list of its kind
+      module _ (ka : Kind) (joins : frees.Joins m mid.slabs mid k') (is_ka : kind_at uses₂ m ≡ ka) where
+        lists_are : k'.lists ≡ placed (list_of ka) m k.lists
+        lists_are = joins.lists ∙ ap (λ (u : Uses). placed (list_of (kind_at u m)) m mid.lists) mid_slabs
+            ∙ ap (λ (x : Kind). placed (list_of x) m mid.lists) is_ka ∙ ap (λ (l : Lists). placed (list_of ka) m l) all_mid
+
+        slabs_are : k'.slabs ≡ uses₂
+        slabs_are = joins.slabs ∙ mid_slabs
+
+        moved_to : Moved k.lists (placed (list_of ka) m k.lists) m (kind_at k₁.slabs m) ka
+        moved_to = placed_moved k.lists m (kind_at k₁.slabs m) ka stands
+
+        joined_full : AreFull k'.slabs k'.lists.full
+        joined_full = subst (λ (u : Uses). AreFull u k'.lists.full) (sym slabs_are) (subst (λ (l : Lists). AreFull uses₂ l.full) (sym lists_are)
+            (placed_full k₁.slabs uses₂ k.lists m (kind_at k₁.slabs m) ka stands full₁ open₂ is_ka beside₂))
+
+        joined_shut : k'.lists.retired ≡ first.shut
+        joined_shut = ap (λ (l : Lists). l.retired) lists_are ∙ moved_to.retired ∙ kept.follows.shut
+
+        joined_partial : k'.lists.partial ≡ listed Partial m (kind_at k₁.slabs m) ka k.lists.partial
+        joined_partial = ap (λ (l : Lists). l.partial) lists_are ∙ moved_to.partial
+
+        joined_empty : k'.lists.empty ≡ listed Empty m (kind_at k₁.slabs m) ka k.lists.empty
+        joined_empty = ap (λ (l : Lists). l.empty) lists_are ∙ moved_to.empty
+
+        joined_numbers : k'.numbers ≡ numbers_of p
+        joined_numbers = joins.numbers ∙ mid_lists.numbers ∙ lists.numbers ∙ kept.follows.numbers
+
+      -- it is retired
+      module _ (w : ℕ) (u : Option ℕ) (parks : Parks m (drawn (length mid.parking) w) mid k') (was_there : u ≡ slice_index_or mid.parking (drawn (length mid.parking) w) None) where
+        parked_lists : k'.lists ≡ unparked u (gone m k.lists)
+        parked_lists = parks.lists ∙ ap (λ (o : Option ℕ). unparked o (gone m mid.lists)) (sym was_there) ∙ ap (λ (l : Lists). unparked u (gone m l)) all_mid
+
+        parked_slabs : k'.slabs ≡ with_shut uses₂ m
+        parked_slabs = parks.slabs ∙ ap (λ (l : Uses). with_shut l m) mid_slabs
+
+        parked_beside : (n : ℕ) → n ≢ m → slab_in k'.slabs n ≡ slab_in k₁.slabs n
+        parked_beside n ne =
+            let f = found uses₂ m (slot_of p b) Free (freed_use k₁.slabs m (slot_of p b) place_b.used) in
+            ap (λ (l : Uses). slab_in l n) parked_slabs ∙ slab_beside uses₂ m shut_slab f.slab f.is_slab n ne ∙ beside₂ n ne
+
+        parked_full : AreFull k'.slabs k'.lists.full
+        parked_full = subst (λ (l : Lists). AreFull k'.slabs l.full) (sym parked_lists) (retired_full k₁.slabs k'.slabs k.lists m u full₁ parked_beside)
+
+        parked_shut : k'.lists.retired ≡ with_unparked first.shut u
+        parked_shut = ap (λ (l : Lists). l.retired) parked_lists ∙ retired_shut k.lists m u (kind_at k₁.slabs m) stands
+            ∙ ap (λ (l : List ℕ). with_unparked l u) kept.follows.shut
+
+        parked_numbers : k'.numbers ≡ numbers_of p
+        parked_numbers = parks.numbers ∙ mid_lists.numbers ∙ lists.numbers ∙ kept.follows.numbers
+
+    pub kept_released : (e : Emptied) → frees.Releases meaning p b k₁ k' half now (array_stream p stream) stream' e → meaning.told half ≡ told → f ≡ meaning.faults half → f' ≡ meaning.faults now → Ends (Some b) m e
+    kept_released e v told_half half_is now_is = by_end e v.empties
+      where
+        mid : Slabs
+        mid = v.mid
+
+        places : mid.parking ≡ k.parking
+        places = v.lists.parking ∙ lists.parking
+
+        over : Bool → Type 0
+        over x = is_surplus p mid.slabs (length mid.lists.empty) m ≡ x
+
+        surplus_by : (x : Bool) → over x → is_surplus p uses₂ (length k₁.lists.empty) m ≡ x
+        surplus_by x e = ap (λ (u : Uses). is_surplus p u (length k₁.lists.empty) m) (sym v.slabs)
+            ∙ ap (λ (l : Lists). is_surplus p mid.slabs (length l.empty) m) (sym v.lists.lists) ∙ e
+
+        by_end : (e : Emptied) → frees.Empties meaning p m mid k' half now (array_stream p stream) stream' e → Ends (Some b) m e
+        by_end emptied.Kept w =
+            let ka : Kind = kind_at uses₂ m in
+            let j = w.1.joins in
+            let q = w.1.places in
+            finish (Some b) m m emptied.Kept freed (kind_at k₁.slabs m) ka let_is refl
+            (subst (λ (o : Option ℕ). Empties t freed f f' (freed_choices (Some b) m emptied.Kept) o) (sym (surplus_when false (surplus_by false w.0))) (refl, refl, refl)) tt tt
+            (subst (λ (u : Uses). Shows p u freed) (sym (slabs_are mid v.slabs v.lists ka j refl)) shows₂) (joined_shut mid v.slabs v.lists ka j refl)
+            (joined_full mid v.slabs v.lists ka j refl) (joined_numbers mid v.slabs v.lists ka j refl)
+            (omega (arith, live_taken, live₁, live', ap live_count (slabs_are mid v.slabs v.lists ka j refl), free_live))
+            (λ y. subst (λ (r : PageRuns). HoldsSlabs p taken.opens r) (sym (q.runs_same (told_half ∙ y))) (slabs₁ y))
+            refl (kind₁ m) (kind_is p uses₂ freed m kept.served.shape shows₂)
+            (joined_partial mid v.slabs v.lists ka j refl) (joined_empty mid v.slabs v.lists ka j refl)
+            q.stream_is (q.parking_is ∙ places)
+        by_end (emptied.Retired w u) x =
+            let j = x.1 in
+            let r = place_b in
+            let g = found uses₂ m (slot_of p b) Free (freed_use k₁.slabs m (slot_of p b) r.used) in
+            let length_is : length mid.parking ≡ c.park_length =
+            ap (λ (l : List (Option ℕ)). length l) places ∙ (kept_now told runs faults c number arena p es k stream quarantine k.parking kept).parking_length in
+            let some : 0 < c.park_length = omega (arith, kept.served.valid.park_some) in
+            let word_low : w < 2 ^ 32 = subst (λ (x : ℕ). x < 2 ^ 32) (sym j.word_is) (next_below (array_stream p stream)) in
+            let here : u ≡ slice_index_or k.parking (drawn c.park_length w) None =
+            j.unparked_is ∙ ap (λ (x : ℕ). slice_index_or mid.parking (drawn x w) None) length_is ∙ ap (λ (l : List (Option ℕ)). slice_index_or l (drawn c.park_length w) None) places in
+            let allowed : Unparks c.park_length first.parked u = subst (λ (o : Option ℕ). Unparks c.park_length first.parked o) (sym here)
+            ((allows_now told runs faults c number arena p es k stream quarantine k.parking kept).unparked (drawn c.park_length w) (drawn_below c.park_length w some word_low)) in
+            let s₃ : State = unparks u freed in
+            let shows₃ : Shows p uses₂ s₃ = shows_unparked p uses₂ freed u (was_parked c.park_length first.parked u allowed) shows₂ in
+            let slabs : k'.slabs ≡ with_shut uses₂ m = parked_slabs mid v.slabs v.lists w u j.parks j.unparked_is in
+            let all : k'.lists ≡ unparked u (gone m k.lists) = parked_lists mid v.slabs v.lists w u j.parks j.unparked_is in
+            finish (Some b) m m (emptied.Retired w u) (retires (Some m) s₃) (kind_at k₁.slabs m) Neither let_is refl
+            (subst (λ (o : Option ℕ). Empties t freed f f' (freed_choices (Some b) m (emptied.Retired w u)) o) (sym (surplus_when true (surplus_by true x.0))) (inl (refl, refl, allowed)))
+            (j.word_is) here
+            (subst (λ (x : Uses). Shows p x (retires (Some m) s₃)) (sym slabs) (shows_retired p uses₂ s₃ m g.slab g.is_slab shows₃))
+            (parked_shut mid v.slabs v.lists w u j.parks j.unparked_is ∙ shut_with u freed)
+            (parked_full mid v.slabs v.lists w u j.parks j.unparked_is) (parked_numbers mid v.slabs v.lists w u j.parks j.unparked_is)
+            (omega (arith, live_taken, live₁, live', ap live_count slabs, shut_live uses₂ m g.slab g.is_slab, free_live, ap (λ (l : List (ℕ × ℕ)). length l) (unparked_live u freed)))
+            (λ y. subst (λ (r : PageRuns). HoldsSlabs p (retires (Some m) s₃).opens r) (sym (j.dropped.0 (told_half ∙ y)))
+            (subst (λ (l : List (ℕ × Slab)). HoldsSlabs p (removed m l) (cond (has_bytes p) (map.remove (meaning.runs half) (slab_at p m)) (meaning.runs half))) (sym (unparked_opens u freed)) (holds_retired p taken.opens m (meaning.runs half) kept.served.shape (slabs₁ y))))
+            refl (kind₁ m) (kind_shut p (retires (Some m) s₃) m kept.served.shape (has_removed_same m s₃.opens))
+            (ap (λ (l : Lists). l.partial) all ∙ retired_partial k.lists m u (kind_at k₁.slabs m) stands)
+            (ap (λ (l : Lists). l.empty) all ∙ retired_empty k.lists m u (kind_at k₁.slabs m) stands)
+            j.stream_is
+            (j.parks.parking ∙ ap (λ (x : ℕ). slice_set mid.parking (drawn x w) (Some m)) length_is ∙ ap (λ (l : List (Option ℕ)). slice_set l (drawn c.park_length w) (Some m)) places
+            ∙ ap (λ (i : ℕ). slice_set k.parking i (Some m)) (sym (parking_drawn t stream w u)))
+        by_end emptied.Purged w =
+            let q = w.1 in
+            let j = q.joins in
+            let final : State = purges p (Some m) freed in
+            let rose : f < f' = omega (arith, q.dropped.2, half_is, now_is) in
+            let shows₃ : Shows p uses₂ final = shows_written p uses₂ freed (slab_at p m) (zeros p.slab) shows₂ in
+            let empty₂ : kind p freed m ≡ Empty = kind_empty p freed m (first_of _ _ (sym surplus_is ∙ surplus_by true w.0)) in
+            let is : kind_at uses₂ m ≡ Empty = sym (kind_is p uses₂ freed m kept.served.shape shows₂) ∙ empty₂ in
+            finish (Some b) m m emptied.Purged final (kind_at k₁.slabs m) Empty let_is refl
+            (subst (λ (o : Option ℕ). Empties t freed f f' (freed_choices (Some b) m emptied.Purged) o) (sym (surplus_when true (surplus_by true w.0))) (inr (refl, refl, refl, q.dropped.0, rose))) tt tt
+            (subst (λ (x : Uses). Shows p x final) (sym (slabs_are mid v.slabs v.lists Empty j is)) shows₃) (joined_shut mid v.slabs v.lists Empty j is)
+            (joined_full mid v.slabs v.lists Empty j is) (joined_numbers mid v.slabs v.lists Empty j is)
+            (omega (arith, live_taken, live₁, live', ap live_count (slabs_are mid v.slabs v.lists Empty j is), free_live))
+            (λ y. subst (λ (r : PageRuns). HoldsSlabs p final.opens r) (sym (q.dropped.1 (told_half ∙ y))) (holds_purged p taken.opens m (meaning.runs half) kept.served.shape q.dropped.0 place_b.open_slab (slabs₁ y)))
+            refl (kind₁ m) (kind_is p uses₂ final m kept.served.shape shows₃ ∙ is)
+            (joined_partial mid v.slabs v.lists Empty j is) (joined_empty mid v.slabs v.lists Empty j is)
+            q.stream_is (q.parking_is ∙ places)
 
   -- what was released, if anything, and its slab
-  pub kept_ended : (released : Option ℕ) (e : Emptied) → released ≡ let_go quarantine a (place_of_word p (next_word stream)) → Settles meaning p k₁ k' half now (array_stream p stream) stream' parking parking' released e
+  pub kept_ended : (released : Option ℕ) (e : Emptied) → released ≡ let_go quarantine a (place_of_word p (next_word stream)) → Settles meaning p k₁ k' half now (array_stream p stream) stream' released e
       → meaning.told half ≡ told → f ≡ meaning.faults half → f' ≡ meaning.faults now → Ends released (released_slab p released) e
-  kept_ended None e let_is v told_half half_is now_is = kept_held e let_is v.0 v.1 v.2 (live' ∙ ap live_count v.1 ∙ sym live₁) (λ y. v.3.runs_same (told_half ∙ y)) v.3.stream_is v.3.parking_is
+  kept_ended None e let_is v told_half half_is now_is = kept_held e let_is v.0 v.1 v.2 (live' ∙ ap live_count v.1 ∙ sym live₁) (λ y. v.3.runs_same (told_half ∙ y)) v.3.stream_is (v.3.parking_is ∙ lists.parking)
   kept_ended (Some b) e let_is v told_half half_is now_is = kept_released b let_is e v told_half half_is now_is
 
   -- what is released was not live, and no fault is taken back
-  pub live_ended : (released : Option ℕ) (e : Emptied) → released ≡ let_go quarantine a (place_of_word p (next_word stream)) → Settles meaning p k₁ k' half now (array_stream p stream) stream' parking parking' released e
-      → live_count k'.slabs.items + 1 ≡ live_count k.slabs.items
-  live_ended released e let_is v = omega (arith, same released e let_is v, ap live_count items, counted lives k.slabs.items slot.slab slot.index Held Live accepts.judged.1)
+  pub live_ended : (released : Option ℕ) (e : Emptied) → released ≡ let_go quarantine a (place_of_word p (next_word stream)) → Settles meaning p k₁ k' half now (array_stream p stream) stream' released e
+      → live_count k'.slabs + 1 ≡ live_count k.slabs
+  live_ended released e let_is v = omega (arith, same released e let_is v, ap live_count items, counted lives k.slabs slot.slab slot.index Held Live accepts.judged.1)
     where
-      same : (released : Option ℕ) (e : Emptied) → released ≡ let_go quarantine a (place_of_word p (next_word stream)) → Settles meaning p k₁ k' half now (array_stream p stream) stream' parking parking' released e → live_count k'.slabs.items ≡ live_count k₁.slabs.items
+      same : (released : Option ℕ) (e : Emptied) → released ≡ let_go quarantine a (place_of_word p (next_word stream)) → Settles meaning p k₁ k' half now (array_stream p stream) stream' released e → live_count k'.slabs ≡ live_count k₁.slabs
       same None e let_is v = ap live_count v.1
-      same (Some b) emptied.Kept let_is v = ap live_count v.1.slabs ∙ free_live b let_is
-      same (Some b) (emptied.Retired w u) let_is v =
-          let g = found (uses₂ b let_is) (slab_of p b) (slot_of p b) Free (freed_use k₁.slabs.items (slab_of p b) (slot_of p b) (place_b b let_is).used) in
-          ap live_count v.1.slabs ∙ shut_live (uses₂ b let_is) (slab_of p b) g.slab g.is_slab ∙ free_live b let_is
-      same (Some b) emptied.Purged let_is v = ap live_count v.1.slabs ∙ free_live b let_is
+      same (Some b) e let_is v = by_end e v.empties
+        where
+          by_end : (e : Emptied) → frees.Empties meaning p (slab_of p b) v.mid k' half now (array_stream p stream) stream' e → live_count k'.slabs ≡ live_count k₁.slabs
+          by_end emptied.Kept w = ap live_count (w.1.joins.slabs ∙ v.slabs) ∙ free_live b let_is
+          by_end (emptied.Retired w u) x =
+              let g = found (uses₂ b let_is) (slab_of p b) (slot_of p b) Free (freed_use k₁.slabs (slab_of p b) (slot_of p b) (place_b b let_is).used) in
+              ap live_count (x.1.parks.slabs ∙ ap (λ (l : Uses). with_shut l (slab_of p b)) v.slabs) ∙ shut_live (uses₂ b let_is) (slab_of p b) g.slab g.is_slab ∙ free_live b let_is
+          by_end emptied.Purged w = ap live_count (w.1.joins.slabs ∙ v.slabs) ∙ free_live b let_is
 
-pub settled_later : {P : Type 0} (meaning : pages.Ghosts P) (p : Shape) (k₁ k' : Slabs) (half now : P) (stream stream' : Words) (parking parking' : List (Option ℕ)) (released : Option ℕ) (e : Emptied)
-    → Settles meaning p k₁ k' half now stream stream' parking parking' released e → meaning.faults half ≤ meaning.faults now
-settled_later meaning p k₁ k' half now stream stream' parking parking' None e v = omega (arith, v.3.count_same)
-settled_later meaning p k₁ k' half now stream stream' parking parking' (Some b) emptied.Kept v = omega (arith, v.1.places.count_same)
-settled_later meaning p k₁ k' half now stream stream' parking parking' (Some b) (emptied.Retired w u) v = v.1.dropped.1
-settled_later meaning p k₁ k' half now stream stream' parking parking' (Some b) emptied.Purged v = omega (arith, v.1.dropped.2)
+pub settled_later : {P : Type 0} (meaning : pages.Ghosts P) (p : Shape) (k₁ k' : Slabs) (half now : P) (stream stream' : Words) (released : Option ℕ) (e : Emptied)
+    → Settles meaning p k₁ k' half now stream stream' released e → meaning.faults half ≤ meaning.faults now
+settled_later meaning p k₁ k' half now stream stream' None e v = omega (arith, v.3.count_same)
+settled_later meaning p k₁ k' half now stream stream' (Some b) e v = by_end e v.empties
+  where
+    by_end : (e : Emptied) → frees.Empties meaning p (slab_of p b) v.mid k' half now stream stream' e → meaning.faults half ≤ meaning.faults now
+    by_end emptied.Kept w = omega (arith, w.1.places.count_same)
+    by_end (emptied.Retired w u) x = x.1.dropped.1
+    by_end emptied.Purged w = omega (arith, w.1.dropped.2)

@@ -1,18 +1,18 @@
 -- What the slots say of the state.
-use Rattle.std.proofs.Common.{◌≡◌, ℕ, zero, suc, ◌+◌, ◌<◌, ◌≤◌, Bool, true, false, cond, not, ◌||◌, ◌&&◌, List, [], ◌∷◌, length, slice_get, Option, Some, None, option_map, sym, ◌∙◌, ap, subst, refl, arith, true≢false}
+use Rattle.std.proofs.Common.{◌≡◌, ℕ, zero, suc, ◌+◌, ◌<◌, ◌≤◌, Bool, true, false, cond, not, ◌||◌, ◌&&◌, List, [], ◌∷◌, length, slice_get, Option, Some, None, sym, ◌∙◌, ap, refl, arith, true≢false}
 use Rattle.std.specs.List.{list_any, list_all, range_with_len}
 use Rattle.std.specs.Option.{option_and_then, option_map_or}
 use Rattle.std.proofs.lemmas.Option.{none-some}
 use Rattle.hm_sizes.specs.declared.shape.Shape.{Shape}
 use Rattle.hm_sizes.specs.Shapes.{IsShape, place}
 use Rattle.hm_model.specs.Maps.{among}
-use Rattle.hm_class_rules.specs.State.{State, is_open, is_live, is_taken, is_free, has_free, is_empty, is_partial}
-use Rattle.hm_class_rules.specs.Kinds.{Kind, Partial, Empty, Neither, kind}
+use Rattle.hm_class_rules.specs.State.{State, is_open, is_taken, is_free, has_free, is_empty, is_partial}
+use Rattle.hm_class_rules.specs.Kinds.{Partial, Empty, Neither, kind}
 use Rattle.hm_class_rules.proofs.Changes.{kind_neither}
 use Rattle.hm_class_rules.proofs.Legal.{empty_open}
-use Rattle.hm_class.specs.declared.slab.SlotUse.{SlotUse}
-use Rattle.hm_class.specs.declared.slab.SlotUse.TheVariants.{Never, Free, Live, Held, Condemned}
-use Rattle.hm_class.specs.Uses.{Uses, SlabUse, lives, is_condemned, is_held, occupied, is_available, has_occupied, has_available, is_partly, is_unused, kind_of, kind_at, open_at, slab_in, use_at, passes_at}
+use Rattle.hm_slab_meta.specs.Uses.{SlotUse}
+use Rattle.hm_slab_meta.specs.Uses.{Never, Free, Live, Held, Condemned}
+use Rattle.hm_class.specs.Uses.{Uses, SlabUse, lives, is_condemned, is_held, occupied, is_available, has_occupied, has_available, is_partly, is_unused, kind_of, kind_at, slab_in, use_at, passes_at}
 use Rattle.hm_class.specs.Kept.{Shows}
 
 -- ---- one slot
@@ -57,7 +57,7 @@ all_range f g k (x ∷ xs) same =
     ap (λ (b : Bool). b && list_all f (range_with_len (k + 1) (length xs))) (ap f (omega arith) ∙ same 0 x refl)
     ∙ ap (λ (b : Bool). g x && b) (all_range f g (k + 1) xs (λ i y is. ap f (omega arith) ∙ same (suc i) y is))
 
-all_available : (us : List SlotUse) → list_all is_available us ≡ not (has_occupied us)
+pub all_available : (us : List SlotUse) → list_all is_available us ≡ not (has_occupied us)
 all_available [] = refl
 all_available (Live ∷ us) = refl
 all_available (Held ∷ us) = refl
@@ -95,7 +95,7 @@ module _ (p : Shape) (uses : Uses) (s : State) (n : ℕ) (b : SlabUse) (h : Show
       turned false false = refl
 
 -- where no slot is occupied one is available
-unused_is : (us : List SlotUse) → 1 ≤ length us → not (has_occupied us) ≡ (not (has_occupied us) && has_available us)
+pub unused_is : (us : List SlotUse) → 1 ≤ length us → not (has_occupied us) ≡ (not (has_occupied us) && has_available us)
 unused_is [] some = absurd (omega arith)
 unused_is (Live ∷ us) some = refl
 unused_is (Held ∷ us) some = refl

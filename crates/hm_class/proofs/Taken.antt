@@ -1,10 +1,9 @@
 -- A slot was picked: the entry of an allotment is allowed, its choices are drawn, and what is kept follows.
-use Rattle.std.proofs.Common.{◌≡◌, ℕ, zero, suc, ◌+◌, ◌-◌, ◌*◌, ◌/◌, ◌^◌, ◌<◌, ◌≤◌, Bool, true, false, IsTrue, cond, not, ◌&&◌, List, [], ◌∷◌, ◌++◌, length, reverse, slice_get, Option, Some, None, is_some, unwrap_or, option_map, sym, ◌∙◌, ap, subst, refl, arith, true≢false}
-use Rattle.std.specs.Option.{option_and_then, option_map_or}
+use Rattle.std.proofs.Common.{◌≡◌, ℕ, ◌+◌, ◌-◌, ◌<◌, ◌≤◌, Bool, true, false, IsTrue, cond, List, [], ◌∷◌, ◌++◌, length, Option, Some, None, sym, ◌∙◌, ap, subst, refl, arith}
+use Rattle.std.specs.Option.{option_map_or}
 use Rattle.std.specs.Int.{to_le_bytes}
 use mir.Syntax.{w64}
-use Rattle.std.proofs.lemmas.Option.{none-some, same_Some}
-use Rattle.hm_choice.specs.Stream.{Words, next_word, after_word, canary_of, drawn}
+use Rattle.hm_choice.specs.Stream.{Words}
 use Rattle.hm_quarantine.specs.Quarantine.{Kept}
 use Rattle.hm_outside.specs.declared.pages.Pages as pages
 use Rattle.hm_outside.specs.PageRuns.{PageRuns, IsHeld, Reads, Writes}
@@ -18,35 +17,35 @@ use Rattle.hm_model.specs.declared.entry.Draws.{Draws}
 use Rattle.hm_model.specs.Entries.{AreDraws}
 use Rattle.hm_sizes.specs.declared.config.Config.{Config}
 use Rattle.hm_sizes.specs.declared.shape.Shape.{Shape}
-use Rattle.hm_sizes.specs.Shapes.{IsShape, place, slab_of, has_bytes, usable, class_size_of}
+use Rattle.hm_sizes.specs.Shapes.{IsShape, place, has_bytes, usable, class_size_of}
 use Rattle.hm_sizes.specs.Sizes.{raised}
 use Rattle.hm_class_rules.specs.State.{State, is_open}
 use Rattle.hm_class_rules.specs.Kinds.{Kind, Partial, Empty, kind}
-use Rattle.hm_class_rules.specs.Steps.{step, opened, gives, condemns}
+use Rattle.hm_class_rules.specs.Steps.{opened, gives, condemns}
 use Rattle.hm_class_rules.specs.Bytes.{first_nonzero, usable_bytes, bytes_from, overlaid_slabs}
-use Rattle.hm_class_rules.specs.Draws.{Event, Picked, event, event_of, after_words}
-use Rattle.hm_class_rules.specs.Rules.{Terms, Allowed, Picks, state, reuse_finds}
-use Rattle.hm_class_rules.specs.Stepped.{Cells, next, IsSteppedEntry, listed}
+use Rattle.hm_class_rules.specs.Draws.{Picked, event_of, after_words}
+use Rattle.hm_class_rules.specs.Rules.{Terms, Picks, state, reuse_finds}
+use Rattle.hm_class_rules.specs.Stepped.{IsSteppedEntry, listed}
 use Rattle.hm_class_rules.specs.Laws.{bytes_of_slab}
 use Rattle.hm_class_rules.proofs.Whole.{whole_write}
 use Rattle.hm_class.specs.declared.outcome.Outcome.{Outcome}
 use Rattle.hm_class.specs.declared.outcome.Outcome.TheVariants as outcome
-use Rattle.hm_class.specs.declared.slab.SlotUse.{SlotUse}
-use Rattle.hm_class.specs.declared.slab.SlotUse.TheVariants.{Live, Condemned}
-use Rattle.hm_class.specs.declared.slabs.Slabs.{Slabs}
-use Rattle.hm_class.specs.Uses.{Uses, SlabUse, slab_in, lives, was_given, occupied, kind_at, use_at, passes_at, canary_at, with_use, live_count, first_at}
+use Rattle.hm_slab_meta.specs.Uses.{SlotUse}
+use Rattle.hm_slab_meta.specs.Uses.{Live, Condemned}
+use Rattle.hm_class.specs.Slabs.{Slabs}
+use Rattle.hm_class.specs.Uses.{numbers_of, Uses, SlabUse, slab_in, lives, was_given, occupied, kind_at, use_at, passes_at, canary_at, with_use, live_count}
 use Rattle.hm_model.specs.Calls.{entry_of}
 use Rattle.hm_class.specs.Outcomes.{reply_of}
 use Rattle.hm_class.specs.Gives.{Gives, Stains, Seals}
-use Rattle.hm_class.specs.Finds.{Serve, slot_in}
+use Rattle.hm_class.specs.Finds.{slot_in}
 use Rattle.hm_class.specs.Region.{HoldsSlabs}
-use Rattle.hm_class.specs.Kept.{Shows, Follows, IsKept, terms_of, cells_of}
+use Rattle.hm_class.specs.Kept.{Shows, AreFull, IsKept, terms_of, cells_of}
 use Rattle.hm_class.proofs.Counts.{weight}
 use Rattle.hm_class.proofs.Entered.{length_removed}
 use Rattle.hm_class.proofs.Followed.{shows_count, shows_given, shows_condemned, available_is}
 use Rattle.hm_class.proofs.Listed.{next_picked}
 use Rattle.hm_class.proofs.Paged.{holds_write, holds_without}
-use Rattle.hm_class.proofs.Permitted.{allowed_of, first_found, kept_is, canary_held, usable_held}
+use Rattle.hm_class.proofs.Permitted.{allowed_of, first_found, kept_is, canary_held}
 use Rattle.hm_class.proofs.Places.{slab_of_place}
 use Rattle.hm_class.proofs.Used.{found, counted}
 use Rattle.hm_class.proofs.Entries.{pushed}
@@ -100,15 +99,16 @@ module _ (told : Bool) (runs : PageRuns) (faults : ℕ) (c : Config) (number are
     (kept : IsKept told runs faults c number arena p es k stream quarantine parking)
     {P : Type 0} (meaning : pages.Ghosts P) (mid now : P) (k₁ k' : Slabs) (stream' : Words) (n i : ℕ) (kind₀ : Kind) (b : SlabUse) (choices : Choices) (draws : Draws) (who : Who) (asked f f' : ℕ)
     (tell : IsTrue told → IsTrue (meaning.told mid)) (asks : raised asked ≤ class_size_of p) (is : f ≡ faults) (later : f ≤ f')
-    (lt : i < p.slots) (is_slab : slab_in k₁.slabs.items n ≡ Some b) (v : SlotUse) (was : use_at k₁.slabs.items n i ≡ Some v) (free : occupied v ≡ false)
+    (lt : i < p.slots) (is_slab : slab_in k₁.slabs n ≡ Some b) (v : SlotUse) (was : use_at k₁.slabs n i ≡ Some v) (free : occupied v ≡ false)
     (on : is_open (opened p choices.opened choices.canary (state (terms_of told c p) es)) n ≡ true)
-    (shows : Shows p k₁.slabs.items (opened p choices.opened choices.canary (state (terms_of told c p) es)))
+    (shows : Shows p k₁.slabs (opened p choices.opened choices.canary (state (terms_of told c p) es)))
     (slabs : IsTrue told → HoldsSlabs p (opened p choices.opened choices.canary (state (terms_of told c p) es)).opens (meaning.runs mid))
-    (live_mid : k₁.live ≡ live_count k₁.slabs.items) (live_now : k'.live ≡ live_count k'.slabs.items)
+    (live_mid : k₁.live ≡ live_count k₁.slabs) (live_now : k'.live ≡ live_count k'.slabs)
     (live_all : length (opened p choices.opened choices.canary (state (terms_of told c p) es)).live ≤ k₁.live)
-    (shut : k'.shut.items ≡ (opened p choices.opened choices.canary (state (terms_of told c p) es)).shut)
-    (partial : reverse k'.partial.items ≡ listed Partial n kind₀ (kind_at k'.slabs.items n) (reverse k.partial.items))
-    (empty : reverse k'.empty.items ≡ listed Empty n kind₀ (kind_at k'.slabs.items n) (reverse k.empty.items))
+    (shut : k'.lists.retired ≡ (opened p choices.opened choices.canary (state (terms_of told c p) es)).shut)
+    (partial : k'.lists.partial ≡ listed Partial n kind₀ (kind_at k'.slabs n) k.lists.partial)
+    (empty : k'.lists.empty ≡ listed Empty n kind₀ (kind_at k'.slabs n) k.lists.empty)
+    (full : AreFull k'.slabs k'.lists.full) (numbers : k'.numbers ≡ numbers_of p)
     (was_kind : kind p (state (terms_of told c p) es) n ≡ kind₀)
     (are : AreDraws draws) (taken : after_words stream draws.used ≡ stream')
     (picks : Picks p (state (terms_of told c p) es) (opened p choices.opened choices.canary (state (terms_of told c p) es)) choices (place p n i))
@@ -125,20 +125,22 @@ module _ (told : Bool) (runs : PageRuns) (faults : ℕ) (c : Config) (number are
         let e : Entry = entry_of who (Allot asked 1) (reply.Given q size) choices draws f f' in
         let off = available_is v free in
         let dead : weight lives v ≡ 0 = ap (λ (b : Bool). cond {A = ℕ} b 1 0) off.0 in
-        let shows' : Shows p k'.slabs.items (record (gives p q asked then) { faults = f' }) = shows_count p k'.slabs.items (gives p q asked then) f'
-        (subst (λ (u : Uses). Shows p u (gives p q asked then)) (sym g.slabs) (shows_given p k₁.slabs.items then n i b v kept.served.shape lt is_slab was shows asked free)) in
+        let shows' : Shows p k'.slabs (record (gives p q asked then) { faults = f' }) = shows_count p k'.slabs (gives p q asked then) f'
+        (subst (λ (u : Uses). Shows p u (gives p q asked then)) (sym g.slabs) (shows_given p k₁.slabs then n i b v kept.served.shape lt is_slab was shows asked free)) in
         subst (λ (x : ℕ). IsKept told (meaning.runs now) f' c number arena p (es ++ entry_of who (Allot asked 1) (reply.Given x size) choices draws f f' ∷ []) k' stream' quarantine parking) (sym g.addr_is)
         (pushed told runs faults c number arena p es k stream quarantine parking kept (meaning.runs now) f' k' stream' quarantine parking e
         (allowed_of t (state t es) who (Allot asked 1) (reply.Given q size) choices draws f f' are (asks, refl) (is ∙ kept.count) later
-        (picks, g.size_is, λ y. finds_is c p then q None kept.served.valid.reuse (ap (λ (x : ℕ). first_nonzero (usable_bytes p then x)) (sym g.addr_is) ∙ found_told meaning p k₁.slabs.items then n i mid now told tell kept.served.shape on lt shows slabs a None g.addr_is g.clean y)))
+        (picks, g.size_is, λ y. finds_is c p then q None kept.served.valid.reuse (ap (λ (x : ℕ). first_nonzero (usable_bytes p then x)) (sym g.addr_is) ∙ found_told meaning p k₁.slabs then n i mid now told tell kept.served.shape on lt shows slabs a None g.addr_is g.clean y)))
         (stepped (reply.Given q size) refl) refl
         (record {
           shows = shows';
           shut = shut;
+          full = full;
+          numbers = numbers;
           counted = live_now;
-          live_all = omega (arith, live_all, live_mid, live_now, more_live k₁.slabs.items k'.slabs.items n i Live v was g.slabs, dead, length_removed q then.live);
+          live_all = omega (arith, live_all, live_mid, live_now, more_live k₁.slabs k'.slabs n i Live v was g.slabs, dead, length_removed q then.live);
         })
-        (given_slabs meaning p k₁.slabs.items then n i mid now told tell kept.served.shape on lt shows slabs a asked g.addr_is g.written)
+        (given_slabs meaning p k₁.slabs then n i mid now told tell kept.served.shape on lt shows slabs a asked g.addr_is g.written)
         (next_picked t (state t es) k k' stream stream' quarantine parking e q n kind₀ kept.served.shape refl (slab_of_place p n i kept.served.shape lt) was_kind shows' taken partial empty))
     kept_gives (outcome.Overwritten a at found) g =
         let t : Terms = terms_of told c p in
@@ -146,20 +148,22 @@ module _ (told : Bool) (runs : PageRuns) (faults : ℕ) (c : Config) (number are
         let e : Entry = entry_of who (Allot asked 1) (reply.Overwritten q at found) choices draws f f' in
         let off = available_is v free in
         let dead : weight lives v ≡ 0 = ap (λ (b : Bool). cond {A = ℕ} b 1 0) off.0 in
-        let given : passes_at was_given k₁.slabs.items n i ≡ was_given v = ap (λ (o : Option SlotUse). option_map_or was_given o false) was in
-        let items : k'.slabs.items ≡ with_use k₁.slabs.items n i (Condemned (was_given v)) = g.slabs ∙ ap (λ (b : Bool). with_use k₁.slabs.items n i (Condemned b)) given in
-        let shows' : Shows p k'.slabs.items (record (condemns q then) { faults = f' }) = shows_count p k'.slabs.items (condemns q then) f'
-        (subst (λ (u : Uses). Shows p u (condemns q then)) (sym items) (shows_condemned p k₁.slabs.items then n i b v kept.served.shape lt is_slab was shows free)) in
+        let given : passes_at was_given k₁.slabs n i ≡ was_given v = ap (λ (o : Option SlotUse). option_map_or was_given o false) was in
+        let items : k'.slabs ≡ with_use k₁.slabs n i (Condemned (was_given v)) = g.slabs ∙ ap (λ (b : Bool). with_use k₁.slabs n i (Condemned b)) given in
+        let shows' : Shows p k'.slabs (record (condemns q then) { faults = f' }) = shows_count p k'.slabs (condemns q then) f'
+        (subst (λ (u : Uses). Shows p u (condemns q then)) (sym items) (shows_condemned p k₁.slabs then n i b v kept.served.shape lt is_slab was shows free)) in
         subst (λ (x : ℕ). IsKept told (meaning.runs now) f' c number arena p (es ++ entry_of who (Allot asked 1) (reply.Overwritten x at found) choices draws f f' ∷ []) k' stream' quarantine parking) (sym g.addr_is)
         (pushed told runs faults c number arena p es k stream quarantine parking kept (meaning.runs now) f' k' stream' quarantine parking e
         (allowed_of t (state t es) who (Allot asked 1) (reply.Overwritten q at found) choices draws f f' are (asks, refl) (is ∙ kept.count) later
-        (picks, kept.served.valid.reuse, λ y. finds_is c p then q (Some (at, found)) kept.served.valid.reuse (ap (λ (x : ℕ). first_nonzero (usable_bytes p then x)) (sym g.addr_is) ∙ found_told meaning p k₁.slabs.items then n i mid now told tell kept.served.shape on lt shows slabs a (Some (at, found)) g.addr_is g.stained y)))
+        (picks, kept.served.valid.reuse, λ y. finds_is c p then q (Some (at, found)) kept.served.valid.reuse (ap (λ (x : ℕ). first_nonzero (usable_bytes p then x)) (sym g.addr_is) ∙ found_told meaning p k₁.slabs then n i mid now told tell kept.served.shape on lt shows slabs a (Some (at, found)) g.addr_is g.stained y)))
         (stepped (reply.Overwritten q at found) refl) refl
         (record {
           shows = shows';
           shut = shut;
+          full = full;
+          numbers = numbers;
           counted = live_now;
-          live_all = omega (arith, live_all, live_mid, live_now, more_live k₁.slabs.items k'.slabs.items n i (Condemned (was_given v)) v was items, dead);
+          live_all = omega (arith, live_all, live_mid, live_now, more_live k₁.slabs k'.slabs n i (Condemned (was_given v)) v was items, dead);
         })
         (λ y. subst (λ (r : PageRuns). HoldsSlabs p then.opens r) (sym (g.same (tell y))) (slabs y))
         (next_picked t (state t es) k k' stream stream' quarantine parking e q n kind₀ kept.served.shape refl (slab_of_place p n i kept.served.shape lt) was_kind shows' taken partial empty))

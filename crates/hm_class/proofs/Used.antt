@@ -1,16 +1,15 @@
 -- How slots are used after one of them changed, or a slab was opened.
 use Rattle.std.proofs.Common.{◌≡◌, ◌≢◌, ⊎_elim, ℕ, zero, suc, ◌+◌, ◌<◌, ◌≤◌, Bool, true, false, cond, List, [], ◌∷◌, ◌++◌, length, get_or, slice_get, slice_set, replicate, Option, Some, None, is_some, option_map, count_by, sum_by, sym, ◌∙◌, ap, subst, refl, arith, length-append, append-nil, true≢false}
-use Rattle.std.specs.Option.{option_and_then}
+use Rattle.std.specs.Option.{option_and_then, option_map_or}
 use Rattle.std.proofs.lemmas.Bool.{cases_eq}
-use Rattle.std.proofs.lemmas.List.{length-set, get_or-set_same}
+use Rattle.std.proofs.lemmas.List.{length-set, get_or-set_same, set-get_or, set-set}
 use Rattle.std.proofs.lemmas.List.Sums.{sum_by-set, sum_by-cons, sum_by_push, sum_by-append}
 use Rattle.std.proofs.lemmas.Option.{slice_get_within, get_or_from_slice_get, slice_get-get_or, slice_get_past, none-some}
-use Rattle.hm_sizes.specs.declared.shape.Shape.{Shape}
-use Rattle.hm_sizes.specs.Shapes.{is_guard, after}
-use Rattle.hm_class.specs.declared.slab.SlotUse.{SlotUse}
-use Rattle.hm_class.specs.declared.slab.SlotUse.TheVariants.{Never}
-use Rattle.hm_class.specs.Uses.{Uses, SlabUse, slab_in, use_at, changed, with_slot, with_use, with_slab, count_in}
-use Rattle.hm_class.proofs.Counts.{weight, count_set}
+use Rattle.hm_slab_lists.specs.Numbers.{is_guard, after}
+use Rattle.hm_slab_meta.specs.Uses.{SlotUse}
+use Rattle.hm_slab_meta.specs.Uses.{Never, Free, Live, Held, Condemned}
+use Rattle.hm_class.specs.Uses.{Uses, SlabUse, lives, occupied, live_count, slab_in, open_at, use_at, changed, with_slot, with_use, with_slab, count_in}
+use Rattle.hm_class.proofs.Counts.{mapped, weight, count_set}
 use Rattle.hm_class.proofs.Found.{slab_there}
 
 -- ---- lists
@@ -27,7 +26,7 @@ module _ {X : Type 0} where
 
 -- ---- one slab changes
 module _ (uses : Uses) (n : ℕ) (f : SlabUse → SlabUse) (b : SlabUse) (is : slab_in uses n ≡ Some b) where
-  changed_is : changed uses n f ≡ slice_set uses n (Some (f b))
+  pub changed_is : changed uses n f ≡ slice_set uses n (Some (f b))
   changed_is = ap (λ (o : Option SlabUse). slice_set uses n (option_map f o)) is
 
   pub within : n < length uses
@@ -64,6 +63,46 @@ module _ (uses : Uses) (n : ℕ) (f : SlabUse → SlabUse) (b : SlabUse) (is : s
       (λ ne. subst (λ (o : Option SlabUse). Says m o) (sym (slab_beside m ne)) (beside m ne))
       (cases_eq m n)
 
+-- where there is no slab nothing changes
+pub changed_none : (uses : Uses) (n : ℕ) (f : SlabUse → SlabUse) → slab_in uses n ≡ None → changed uses n f ≡ uses
+changed_none uses n f none =
+    ap (λ (o : Option SlabUse). slice_set uses n (option_map f o)) none
+    ∙ ap (λ (o : Option SlabUse). slice_set uses n o) (sym (no_slab (slice_get uses n) refl none)) ∙ set-get_or uses n None
+  where
+    no_slab : (o : Option (Option SlabUse)) → slice_get uses n ≡ o → option_and_then (λ slab. slab) o ≡ None → get_or uses n None ≡ None
+    no_slab None is e = get_or_past uses n is
+      where
+        get_or_past : (xs : Uses) (i : ℕ) → slice_get xs i ≡ None → get_or xs i None ≡ None
+        get_or_past [] i e = refl
+        get_or_past (x ∷ xs) zero e = absurd (none-some x (sym e))
+        get_or_past (x ∷ xs) (suc i) e = get_or_past xs i e
+    no_slab (Some o) is e = get_or_from_slice_get uses n o None is ∙ e
+
+-- a slab that is there changes twice
+pub changed_twice : (uses : Uses) (n : ℕ) (f g : SlabUse → SlabUse) (b : SlabUse) → slab_in uses n ≡ Some b
+    → changed (changed uses n f) n g ≡ changed uses n (λ (b : SlabUse). g (f b))
+changed_twice uses n f g b is =
+    changed_is (changed uses n f) n g (f b) (slab_changed uses n f b is)
+    ∙ ap (λ (l : Uses). slice_set l n (Some (g (f b)))) (changed_is uses n f b is)
+    ∙ set-set uses n (Some (f b)) (Some (g (f b)))
+    ∙ sym (changed_is uses n (λ (b : SlabUse). g (f b)) b is)
+
+pub open_changed : (uses : Uses) (n : ℕ) (f : SlabUse → SlabUse) (b : SlabUse) → slab_in uses n ≡ Some b → (f b).opened ≡ b.opened → open_at (changed uses n f) n ≡ open_at uses n
+open_changed uses n f b is same =
+    ap (λ (o : Option SlabUse). option_map_or (λ (b : SlabUse). b.opened) o false) (slab_changed uses n f b is) ∙ same
+    ∙ ap (λ (o : Option SlabUse). option_map_or (λ (b : SlabUse). b.opened) o false) (sym is)
+
+pub some_slab : (o : Option SlabUse) → is_some o ≡ true → (b : SlabUse) × (o ≡ Some b)
+some_slab None e = absurd (true≢false (sym e))
+some_slab (Some b) e = (b, refl)
+
+pub open_there : (uses : Uses) (n : ℕ) → open_at uses n ≡ true → (b : SlabUse) × (slab_in uses n ≡ Some b)
+open_there uses n on = of (slab_in uses n) refl on
+  where
+    of : (o : Option SlabUse) → slab_in uses n ≡ o → option_map_or (λ (b : SlabUse). b.opened) o false ≡ true → (b : SlabUse) × (slab_in uses n ≡ Some b)
+    of None is e = absurd (true≢false (sym e))
+    of (Some b) is e = (b, is)
+
 -- ---- one slot changes
 module _ (uses : Uses) (n i : ℕ) (u : SlotUse) (b : SlabUse) (is : slab_in uses n ≡ Some b) where
   pub use_here : i < length b.slots → use_at (with_use uses n i u) n i ≡ Some u
@@ -96,17 +135,35 @@ found uses n i u e = of (slab_in uses n) refl e
     of None is e = absurd (none-some u e)
     of (Some b) is e = record { slab = b; is_slab = is; is_use = e }
 
-pub some_use : (uses : Uses) (n i : ℕ) → is_some (use_at uses n i) ≡ true → (u : SlotUse) × (use_at uses n i ≡ Some u)
-some_use uses n i e = of (use_at uses n i) e
-  where
-    of : (o : Option SlotUse) → is_some o ≡ true → (u : SlotUse) × (o ≡ Some u)
-    of None e = absurd (true≢false (sym e))
-    of (Some u) e = (u, refl)
-
 -- how many pass a test, once a slot that is there is used otherwise
 pub counted : (test : SlotUse → Bool) (uses : Uses) (n i : ℕ) (u v : SlotUse) → use_at uses n i ≡ Some v
     → sum_by (count_in test) (with_use uses n i u) + weight test v ≡ sum_by (count_in test) uses + weight test u
 counted test uses n i u v e = let f = found uses n i v e in count_with_use uses n i u f.slab f.is_slab test v f.is_use
+
+-- ---- how many are live
+free_weighs : (u : SlotUse) → occupied u ≡ false → weight lives u ≡ 0
+free_weighs Never e = refl
+free_weighs Free e = refl
+free_weighs Live e = absurd (true≢false e)
+free_weighs Held e = absurd (true≢false e)
+free_weighs (Condemned given) e = absurd (true≢false e)
+
+module _ (uses : Uses) (n i : ℕ) where
+  pub live_given : option_map occupied (use_at uses n i) ≡ Some false → live_count (with_use uses n i Live) ≡ live_count uses + 1
+  live_given free =
+      let v = mapped occupied (use_at uses n i) false free in
+      omega (arith, counted lives uses n i Live v.0 v.1, free_weighs v.0 v.2)
+
+  pub live_condemned : (given : Bool) → option_map occupied (use_at uses n i) ≡ Some false → live_count (with_use uses n i (Condemned given)) ≡ live_count uses
+  live_condemned given free =
+      let v = mapped occupied (use_at uses n i) false free in
+      omega (arith, counted lives uses n i (Condemned given) v.0 v.1, free_weighs v.0 v.2)
+
+  pub live_held : use_at uses n i ≡ Some Live → live_count (with_use uses n i Held) + 1 ≡ live_count uses
+  live_held was = omega (arith, counted lives uses n i Held Live was)
+
+  pub live_freed : use_at uses n i ≡ Some Held → live_count (with_use uses n i Free) ≡ live_count uses
+  live_freed was = omega (arith, counted lives uses n i Free Held was)
 
 -- ---- a slab is opened
 slab_guard : (uses : Uses) (m : ℕ) → slab_in (uses ++ None ∷ []) m ≡ slab_in uses m
@@ -125,26 +182,26 @@ slab_before [] b (suc m) ne = refl
 slab_before (o ∷ uses) b zero ne = refl
 slab_before (o ∷ uses) b (suc m) ne = slab_before uses b m (λ e. ne (ap (λ n. suc n) e))
 
-module _ (p : Shape) (uses : Uses) (b : SlabUse) where
+module _ (g : ℕ) (uses : Uses) (b : SlabUse) where
   guarded : (t : Bool) (m : ℕ) → slab_in ((uses ++ Some b ∷ []) ++ cond t (None ∷ []) []) m ≡ slab_in (uses ++ Some b ∷ []) m
   guarded true m = slab_guard (uses ++ Some b ∷ []) m
   guarded false m = ap (λ (l : Uses). slab_in l m) (append-nil (uses ++ Some b ∷ []))
 
-  pub slab_new : slab_in (with_slab p uses b) (length uses) ≡ Some b
-  slab_new = guarded (is_guard p (length uses + 1)) (length uses) ∙ slab_push uses b
+  pub slab_new : slab_in (with_slab g uses b) (length uses) ≡ Some b
+  slab_new = guarded (is_guard g (length uses + 1)) (length uses) ∙ slab_push uses b
 
-  pub slab_old : (m : ℕ) → m ≢ length uses → slab_in (with_slab p uses b) m ≡ slab_in uses m
-  slab_old m ne = guarded (is_guard p (length uses + 1)) m ∙ slab_before uses b m ne
+  pub slab_old : (m : ℕ) → m ≢ length uses → slab_in (with_slab g uses b) m ≡ slab_in uses m
+  slab_old m ne = guarded (is_guard g (length uses + 1)) m ∙ slab_before uses b m ne
 
-  pub length_with_slab : length (with_slab p uses b) ≡ after p (length uses)
-  length_with_slab = of (is_guard p (length uses + 1))
+  pub length_with_slab : length (with_slab g uses b) ≡ after g (length uses)
+  length_with_slab = of (is_guard g (length uses + 1))
     where
       of : (t : Bool) → length ((uses ++ Some b ∷ []) ++ cond t (None ∷ []) []) ≡ cond t (length uses + 2) (length uses + 1)
       of true = omega (arith, length-append (uses ++ Some b ∷ []) (None ∷ []), length-append uses (Some b ∷ []))
       of false = omega (arith, length-append (uses ++ Some b ∷ []) [], length-append uses (Some b ∷ []))
 
-  pub count_with_slab : (test : SlotUse → Bool) → sum_by (count_in test) (with_slab p uses b) ≡ sum_by (count_in test) uses + count_by test b.slots
-  count_with_slab test = of (is_guard p (length uses + 1))
+  pub count_with_slab : (test : SlotUse → Bool) → sum_by (count_in test) (with_slab g uses b) ≡ sum_by (count_in test) uses + count_by test b.slots
+  count_with_slab test = of (is_guard g (length uses + 1))
     where
       of : (t : Bool) → sum_by (count_in test) ((uses ++ Some b ∷ []) ++ cond t (None ∷ []) []) ≡ sum_by (count_in test) uses + count_by test b.slots
       of true = omega (arith, sum_by_push (count_in test) (uses ++ Some b ∷ []) None, sum_by_push (count_in test) uses (Some b))

@@ -30,8 +30,10 @@ trap_in p uses a (suc len) = if is_accessible p uses a then trap_in p uses (a + 
 abbrev pub Fetches : Bool → PageRuns → Shape → Uses → ℕ → ℕ → Fetched → Type 0
 Fetches told runs p uses a len (Bytes read) =
     (length read.items ≡ len)
-    × (IsTrue told → (s : State) → Shows p uses s → HoldsSlabs p s.opens runs → (first_trap p s a len ≡ None) × (read.items ≡ bytes_read p s a len))
-Fetches told runs p uses a len (Trap q) = IsTrue told → (s : State) → Shows p uses s → HoldsSlabs p s.opens runs → first_trap p s a len ≡ Some q
+    × (IsTrue told → (s : State) → Shows p uses s → HoldsSlabs p s.opens runs → (first_trap p s a len ≡ None)
+    × (read.items ≡ bytes_read p s a len))
+Fetches told runs p uses a len (Trap q) = IsTrue told → (s : State) → Shows p uses s → HoldsSlabs p s.opens runs
+    → first_trap p s a len ≡ Some q
 
 -- as many bytes as were asked for, or an address of the range
 abbrev pub IsFetched : ℕ → ℕ → Fetched → Type 0
@@ -50,9 +52,11 @@ FillTraps found a other = ⊤
 -- writing changes the bytes of the state, or nothing and names the first address that is not accessible
 abbrev pub Fills : Bool → PageRuns → PageRuns → Shape → Uses → ℕ → List ℕ → Outcome → Type 0
 Fills told before now p uses a bytes outcome.Filled =
-    IsTrue told → (s : State) → Shows p uses s → HoldsSlabs p s.opens before → (first_trap p s a (length bytes) ≡ None) × HoldsSlabs p (write p a bytes s).opens now
+    IsTrue told → (s : State) → Shows p uses s → HoldsSlabs p s.opens before
+    → (first_trap p s a (length bytes) ≡ None) × HoldsSlabs p (write p a bytes s).opens now
 Fills told before now p uses a bytes (outcome.Trap q) =
-    IsTrue told → (now ≡ before) × ((s : State) → Shows p uses s → HoldsSlabs p s.opens before → first_trap p s a (length bytes) ≡ Some q)
+    IsTrue told → (now ≡ before)
+    × ((s : State) → Shows p uses s → HoldsSlabs p s.opens before → first_trap p s a (length bytes) ≡ Some q)
 Fills told before now p uses a bytes other = ⊥
 
 -- the reply to a fetch

@@ -1,37 +1,39 @@
 -- What finding a slab for the next block changes, and what picking and giving a slot of it does.
-use Rattle.std.specs.Prelude.{◌≡◌, ℕ, ◌+◌, ◌<◌, ◌≤◌, Bool, true, false, IsTrue, if◌then◌else◌, Option, Some, None, is_some, length, reverse, option_map, unwrap_or, IfSome, ⊤}
+use Rattle.std.specs.Prelude.{◌≡◌, ℕ, ◌<◌, ◌≤◌, true, false, IsTrue, if◌then◌else◌, Option, Some, None, is_some, length, option_map, unwrap_or, IfSome, ⊤}
 use Rattle.std.specs.FinMap as map
 use Rattle.hm_choice.specs.Stream.{Words, next_word, after_word, canary_of, drawn}
 use Rattle.hm_outside.specs.declared.pages.Pages as pages
 use Rattle.hm_outside.specs.PageRuns.{PageRuns, zeros}
 use Rattle.hm_sizes.specs.declared.shape.Shape.{Shape}
 use Rattle.hm_sizes.specs.Shapes.{slab_at, has_bytes}
-use Rattle.hm_class_rules.specs.Kinds.{Kind, Partial, Empty, Neither}
-use Rattle.hm_class_rules.specs.Stepped.{listed}
+use Rattle.hm_slab_lists.specs.Lists.{placed}
 use Rattle.hm_class.specs.declared.next_slab.NextSlab.{NextSlab}
 use Rattle.hm_class.specs.declared.next_slab.NextSlab.TheVariants as next
 use Rattle.hm_class.specs.declared.outcome.Canary.{Canary}
 use Rattle.hm_class.specs.declared.outcome.Event.{Event}
 use Rattle.hm_class.specs.declared.outcome.Outcome.{Outcome}
 use Rattle.hm_class.specs.declared.outcome.Outcome.TheVariants as outcome
-use Rattle.hm_class.specs.declared.slabs.Slabs.{Slabs}
+use Rattle.hm_class.specs.Slabs.{Slabs, SameLists, taken_of, list_of, opened_lists}
 use Rattle.hm_class.specs.declared.slabs.Slot.{Slot}
 use Rattle.hm_class.specs.declared.slabs.Source.TheVariants as from
 use Rattle.hm_model.specs.Calls.{no_choices, one_word}
 use Rattle.hm_class.specs.Gives.{Gives}
 use Rattle.hm_class.specs.Outcomes.{plain, canary_value, chose_opened, start_draws}
-use Rattle.hm_class.specs.Rooms.{HasRoom, SameLists}
 use Rattle.hm_class.specs.Sources.{Sources}
-use Rattle.hm_class.specs.Uses.{Uses, SlabUse, slab_in, use_at, occupied, kind_at, first_at, with_open, taken_uses, still_shut}
+use Rattle.hm_class.specs.Uses.{Uses, SlabUse, slab_in, open_at, use_at, occupied, kind_at, first_at, with_open}
 
 -- ---- opening
 -- the runs once slab n was made accessible
 abbrev pub made_runs : Shape → ℕ → PageRuns → PageRuns
 made_runs p n runs = if has_bytes p then map.insert runs (slab_at p n) (zeros p.slab) else runs
 
+-- the canary that two words make
+abbrev pub canary_by : ℕ → ℕ → Canary
+canary_by low high = record { low = low; high = high; canary = canary_of low high }
+
 -- the canary that is drawn, and the stream after it
 abbrev pub drawn_canary : Shape → Words → Option Canary
-drawn_canary p stream = if has_bytes p then Some (record { low = next_word stream; high = next_word (after_word stream); canary = canary_of (next_word stream) (next_word (after_word stream)) }) else None
+drawn_canary p stream = if has_bytes p then Some (canary_by (next_word stream) (next_word (after_word stream))) else None
 
 abbrev pub canary_stream : Shape → Words → Words
 canary_stream p stream = if has_bytes p then after_word (after_word stream) else stream
@@ -39,12 +41,12 @@ canary_stream p stream = if has_bytes p then after_word (after_word stream) else
 -- slab n can be opened
 pub record CanOpen (p : Shape) (k : Slabs) (n : ℕ) : Type 0 where
   pub below : n < p.limit
-  pub there : is_some (slab_in (taken_uses p k.shut.items k.slabs.items) n) ≡ true
+  pub there : is_some (slab_in (taken_of k) n) ≡ true
 
 module _ {P : Type 0} (meaning : pages.Ghosts P) where
   -- the slabs, the meaning.runs and the stream are as before
   pub record KeepsRuns (old new : Slabs) (before now : P) (stream stream' : Words) : Type 0 where
-    pub slabs : new.slabs.items ≡ old.slabs.items
+    pub slabs : new.slabs ≡ old.slabs
     pub live : new.live ≡ old.live
     pub lists : SameLists old new
     pub runs_same : IsTrue (meaning.told before) → meaning.runs now ≡ meaning.runs before
@@ -52,27 +54,32 @@ module _ {P : Type 0} (meaning : pages.Ghosts P) where
 
   -- so is the count of meaning.faults
   abbrev pub Stays : Slabs → Slabs → P → P → Words → Words → Type 0
-  Stays old new before now stream stream' = KeepsRuns old new before now stream stream' × (meaning.faults now ≡ meaning.faults before)
+  Stays old new before now stream stream' = KeepsRuns old new before now stream stream'
+      × (meaning.faults now ≡ meaning.faults before)
 
   -- slab n was opened with this canary
-  pub record Opens (p : Shape) (n : ℕ) (canary : Option Canary) (old new : Slabs) (before now : P) (stream stream' : Words) : Type 0 where
-    pub slabs : new.slabs.items ≡ with_open (taken_uses p old.shut.items old.slabs.items) n (unwrap_or (canary_value canary) 0)
+  pub record Opens (p : Shape) (n : ℕ) (canary : Option Canary) (old new : Slabs) (before now : P)
+      (stream stream' : Words) : Type 0 where
+    pub slabs : new.slabs ≡ with_open (taken_of old) n (unwrap_or (canary_value canary) 0)
     pub live : new.live ≡ old.live
-    pub partial : new.partial ≡ old.partial
-    pub empty : new.empty ≡ old.empty
-    pub shut : new.shut.items ≡ still_shut old.shut.items
-    pub room : (m : ℕ) → HasRoom old m → HasRoom new m
+    pub lists : new.lists ≡ opened_lists n old.lists
+    pub parking : new.parking ≡ old.parking
+    pub numbers : new.numbers ≡ old.numbers
     pub made : IsTrue (meaning.told before) → meaning.runs now ≡ made_runs p n (meaning.runs before)
     pub canary_is : canary ≡ drawn_canary p stream
     pub stream_is : stream' ≡ canary_stream p stream
     pub later : meaning.faults before ≤ meaning.faults now
 
   abbrev pub Finds : Shape → Slabs → Slabs → P → P → Words → Words → NextSlab → Type 0
-  Finds p old new before now stream stream' (next.Open n) = Sources p old (from.Open n) × Stays old new before now stream stream'
-  Finds p old new before now stream stream' (next.New n canary) = Sources p old (from.New n) × Opens p n canary old new before now stream stream'
-  Finds p old new before now stream stream' next.Exhausted = Sources p old from.Exhausted × Stays old new before now stream stream'
+  Finds p old new before now stream stream' (next.Open n) = Sources old (from.Open n)
+      × Stays old new before now stream stream'
+  Finds p old new before now stream stream' (next.New n canary) = Sources old (from.New n)
+      × Opens p n canary old new before now stream stream'
+  Finds p old new before now stream stream' next.Exhausted = Sources old from.Exhausted
+      × Stays old new before now stream stream'
   Finds p old new before now stream stream' next.PagesFailed =
-      (n : ℕ) × Sources p old (from.New n) × KeepsRuns old new before now stream stream' × (has_bytes p ≡ true) × (meaning.faults before < meaning.faults now)
+      (n : ℕ) × Sources old (from.New n) × KeepsRuns old new before now stream stream' × (has_bytes p ≡ true)
+      × (meaning.faults before < meaning.faults now)
 
 -- ---- picking
 -- from slot i on slab n has an available slot
@@ -85,8 +92,9 @@ pub record HasFirst (p : Shape) (uses : Uses) (n i : ℕ) : Type 0 where
 -- a slot of slab n can be picked
 pub record CanPick (p : Shape) (k : Slabs) (n : ℕ) : Type 0 where
   pub below : n < p.limit
-  pub whole : IfSome (slab_in k.slabs.items n) (λ (b : SlabUse). length b.slots ≡ p.slots)
-  pub first : (i : ℕ) → i < p.slots → HasFirst p k.slabs.items n i
+  pub on : open_at k.slabs n ≡ true
+  pub whole : IfSome (slab_in k.slabs n) (λ (b : SlabUse). length b.slots ≡ p.slots)
+  pub first : (i : ℕ) → i < p.slots → HasFirst p k.slabs n i
 
 abbrev pub CanServe : Shape → Slabs → NextSlab → Type 0
 CanServe p k (next.Open n) = CanPick p k n
@@ -98,22 +106,26 @@ abbrev pub slot_in : ℕ → ℕ → Slot
 slot_in n i = record { slab = n; index = i }
 
 module _ {P : Type 0} (meaning : pages.Ghosts P) where
-  -- a slot of slab n, which was of this kind, was picked by the next word, and given or condemned
-  pub record Serve (p : Shape) (n : ℕ) (kind : Kind) (old new : Slabs) (before now : P) (stream stream' : Words) (o : Outcome) : Type 0 where
+  -- a slot of slab n was picked by the next word, and given or condemned; the slab went to the list of its kind
+  pub record Serve (p : Shape) (n : ℕ) (old new : Slabs) (before now : P) (stream stream' : Words)
+      (o : Outcome) : Type 0 where
     pub index : ℕ
-    pub first : first_at old.slabs.items n (drawn p.slots (next_word stream)) ≡ Some index
+    pub first : first_at old.slabs n (drawn p.slots (next_word stream)) ≡ Some index
     pub gives : Gives meaning p old new before now (slot_in n index) o
-    pub partial : reverse new.partial.items ≡ listed Partial n kind (kind_at new.slabs.items n) (reverse old.partial.items)
-    pub empty : reverse new.empty.items ≡ listed Empty n kind (kind_at new.slabs.items n) (reverse old.empty.items)
-    pub shut : new.shut ≡ old.shut
-    pub room : (m : ℕ) → HasRoom old (m + 1) → HasRoom new m
+    pub lists : new.lists ≡ placed (list_of (kind_at new.slabs n)) n old.lists
+    pub parking : new.parking ≡ old.parking
+    pub numbers : new.numbers ≡ old.numbers
     pub stream_is : stream' ≡ after_word stream
 
   -- where there is no slab all stays
   abbrev pub Serves : Shape → Slabs → Slabs → P → P → Words → Words → NextSlab → Event → Type 0
   Serves p old new before now stream stream' (next.Open n) e =
-      Serve p n (kind_at old.slabs.items n) old new before now stream stream' e.outcome × (e.choices ≡ no_choices) × (e.draws ≡ one_word (next_word stream))
+      Serve p n old new before now stream stream' e.outcome × (e.choices ≡ no_choices)
+      × (e.draws ≡ one_word (next_word stream))
   Serves p old new before now stream stream' (next.New n canary) e =
-      Serve p n Neither old new before now stream stream' e.outcome × (e.choices ≡ chose_opened n canary) × (e.draws ≡ start_draws canary (next_word stream))
-  Serves p old new before now stream stream' next.Exhausted e = (e ≡ plain outcome.Exhausted) × KeepsRuns meaning old new before now stream stream'
-  Serves p old new before now stream stream' next.PagesFailed e = (e ≡ plain outcome.PagesFailed) × KeepsRuns meaning old new before now stream stream'
+      Serve p n old new before now stream stream' e.outcome × (e.choices ≡ chose_opened n canary)
+      × (e.draws ≡ start_draws canary (next_word stream))
+  Serves p old new before now stream stream' next.Exhausted e = (e ≡ plain outcome.Exhausted)
+      × KeepsRuns meaning old new before now stream stream'
+  Serves p old new before now stream stream' next.PagesFailed e = (e ≡ plain outcome.PagesFailed)
+      × KeepsRuns meaning old new before now stream stream'

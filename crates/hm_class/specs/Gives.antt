@@ -1,16 +1,16 @@
 -- What giving a slot changes.
-use Rattle.std.specs.Prelude.{◌≡◌, ℕ, ◌+◌, Bool, true, false, IsTrue, List, Option, Some, None}
+use Rattle.std.specs.Prelude.{◌≡◌, ℕ, ◌+◌, true, false, IsTrue, List, Option, Some, None}
 use Rattle.std.specs.Int.{to_le_bytes}
 use mir.Syntax.{w64}
 use Rattle.hm_outside.specs.declared.pages.Pages as pages
-use Rattle.hm_outside.specs.PageRuns.{PageRuns, IsHeld, Reads, Writes}
+use Rattle.hm_outside.specs.PageRuns.{IsHeld, Reads, Writes}
 use Rattle.hm_sizes.specs.declared.shape.Shape.{Shape}
 use Rattle.hm_sizes.specs.Shapes.{place, usable, has_bytes}
 use Rattle.hm_class_rules.specs.Bytes.{first_nonzero}
 use Rattle.hm_class.specs.declared.outcome.Outcome.{Outcome}
 use Rattle.hm_class.specs.declared.outcome.Outcome.TheVariants as outcome
-use Rattle.hm_class.specs.declared.slab.SlotUse.TheVariants.{Live, Condemned}
-use Rattle.hm_class.specs.declared.slabs.Slabs.{Slabs}
+use Rattle.hm_slab_meta.specs.Uses.{Live, Condemned}
+use Rattle.hm_class.specs.Slabs.{Slabs}
 use Rattle.hm_class.specs.declared.slabs.Slot.{Slot}
 use Rattle.hm_class.specs.Uses.{was_given, passes_at, canary_at, with_use}
 
@@ -18,26 +18,28 @@ module _ {P : Type 0} (meaning : pages.Ghosts P) where
   -- what is found among the usable bytes of the slot at a, where slots have bytes
   pub record Stains (p : Shape) (pages : P) (a : ℕ) (found : Option (ℕ × ℕ)) : Type 0 where
     pub none : has_bytes p ≡ false → found ≡ None
-    pub some : has_bytes p ≡ true → IsTrue (meaning.told pages) → IsHeld (meaning.runs pages) a (usable p) → (slice : List ℕ) × Reads (meaning.runs pages) a (usable p) slice × (found ≡ first_nonzero slice)
+    pub some : has_bytes p ≡ true → IsTrue (meaning.told pages) → IsHeld (meaning.runs pages) a (usable p)
+        → (slice : List ℕ) × Reads (meaning.runs pages) a (usable p) slice × (found ≡ first_nonzero slice)
 
   -- the canary was set behind them
   pub record Seals (p : Shape) (before now : P) (a canary : ℕ) : Type 0 where
     pub none : has_bytes p ≡ false → IsTrue (meaning.told before) → meaning.runs now ≡ meaning.runs before
-    pub some : has_bytes p ≡ true → IsTrue (meaning.told before) → IsHeld (meaning.runs before) (a + usable p) 8 → Writes (meaning.runs before) (a + usable p) 8 (to_le_bytes w64 canary) (meaning.runs now)
+    pub some : has_bytes p ≡ true → IsTrue (meaning.told before) → IsHeld (meaning.runs before) (a + usable p) 8
+        → Writes (meaning.runs before) (a + usable p) 8 (to_le_bytes w64 canary) (meaning.runs now)
 
   -- all usable bytes are zero; the slot becomes live, and its last 8 bytes the canary
   pub record GivesSlot (p : Shape) (old new : Slabs) (before now : P) (s : Slot) (a size : ℕ) : Type 0 where
     pub addr_is : a ≡ place p s.slab s.index
     pub size_is : size ≡ usable p
     pub clean : Stains p before a None
-    pub slabs : new.slabs.items ≡ with_use old.slabs.items s.slab s.index Live
-    pub written : Seals p before now a (canary_at old.slabs.items s.slab)
+    pub slabs : new.slabs ≡ with_use old.slabs s.slab s.index Live
+    pub written : Seals p before now a (canary_at old.slabs s.slab)
 
   -- a usable byte is not zero; the slot is condemned
   pub record CondemnsSlot (p : Shape) (old new : Slabs) (before now : P) (s : Slot) (a at found : ℕ) : Type 0 where
     pub addr_is : a ≡ place p s.slab s.index
     pub stained : Stains p before a (Some (at, found))
-    pub slabs : new.slabs.items ≡ with_use old.slabs.items s.slab s.index (Condemned (passes_at was_given old.slabs.items s.slab s.index))
+    pub slabs : new.slabs ≡ with_use old.slabs s.slab s.index (Condemned (passes_at was_given old.slabs s.slab s.index))
     pub same : IsTrue (meaning.told before) → meaning.runs now ≡ meaning.runs before
 
   abbrev pub Gives : Shape → Slabs → Slabs → P → P → Slot → Outcome → Type 0

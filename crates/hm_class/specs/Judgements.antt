@@ -1,9 +1,9 @@
 -- What is said of a block that is given back.
-use Rattle.std.specs.Prelude.{◌≡◌, ◌==◌, ℕ, ◌+◌, Bool, true, IsTrue, List, Option, Some, None, if◌then◌else◌, ⊤}
+use Rattle.std.specs.Prelude.{◌≡◌, ◌==◌, ℕ, ◌+◌, true, IsTrue, List, Option, Some, None, if◌then◌else◌, ⊤}
 use Rattle.std.specs.Int.{from_le_bytes}
 use mir.Syntax.{w64}
 use Rattle.hm_outside.specs.declared.pages.Pages as pages
-use Rattle.hm_outside.specs.PageRuns.{PageRuns, IsHeld, Reads}
+use Rattle.hm_outside.specs.PageRuns.{IsHeld, Reads}
 use Rattle.hm_model.specs.Replies.{IsFreeReply}
 use Rattle.hm_sizes.specs.declared.shape.Shape.{Shape}
 use Rattle.hm_sizes.specs.Shapes.{usable, has_bytes}
@@ -14,7 +14,7 @@ use Rattle.hm_class.specs.declared.outcome.Outcome.{Outcome}
 use Rattle.hm_class.specs.declared.outcome.Outcome.TheVariants as outcome
 use Rattle.hm_class.specs.declared.slabs.Refusal.{Refusal}
 use Rattle.hm_class.specs.declared.slabs.Refusal.TheVariants as refusal
-use Rattle.hm_class.specs.declared.slabs.Slabs.{Slabs}
+use Rattle.hm_class.specs.Slabs.{Slabs}
 use Rattle.hm_class.specs.declared.slabs.Slot.{Slot}
 use Rattle.hm_class.specs.declared.slabs.Verdict.TheVariants as verdict
 use Rattle.hm_class.specs.Outcomes.{reply_of}
@@ -35,30 +35,32 @@ module _ {P : Type 0} (meaning : pages.Ghosts P) where
   abbrev pub FindsCanary : Shape → Slabs → P → ℕ → Slot → Option ℕ → Type 0
   FindsCanary p k pages a s found =
       IsTrue (meaning.told pages) → IsHeld (meaning.runs pages) (a + usable p) 8
-      → (last : List ℕ) × Reads (meaning.runs pages) (a + usable p) 8 last × (found ≡ other_number last (canary_at k.slabs.items s.slab))
+      → (last : List ℕ) × Reads (meaning.runs pages) (a + usable p) 8 last
+      × (found ≡ other_number last (canary_at k.slabs s.slab))
 
   pub record RefusesSize (p : Shape) (k : Slabs) (a : ℕ) (stated : Option ℕ) (block other : ℕ) : Type 0 where
     pub slot : Slot
-    pub judged : Judges p k.slabs.items a (verdict.Live slot)
+    pub judged : Judges p k.slabs a (verdict.Live slot)
     pub size : wrong_size p stated ≡ Some (block, other)
 
-  pub record RefusesCanary (p : Shape) (k : Slabs) (pages : P) (a : ℕ) (stated : Option ℕ) (kept found : ℕ) : Type 0 where
+  pub record RefusesCanary (p : Shape) (k : Slabs) (pages : P) (a : ℕ) (stated : Option ℕ)
+      (kept found : ℕ) : Type 0 where
     pub slot : Slot
-    pub judged : Judges p k.slabs.items a (verdict.Live slot)
+    pub judged : Judges p k.slabs a (verdict.Live slot)
     pub size : wrong_size p stated ≡ None
     pub own : has_bytes p ≡ true
-    pub kept_is : kept ≡ canary_at k.slabs.items slot.slab
+    pub kept_is : kept ≡ canary_at k.slabs slot.slab
     pub canary : FindsCanary p k pages a slot (Some found)
 
   pub record Accepts (p : Shape) (k : Slabs) (pages : P) (a : ℕ) (stated : Option ℕ) (slot : Slot) : Type 0 where
-    pub judged : Judges p k.slabs.items a (verdict.Live slot)
+    pub judged : Judges p k.slabs a (verdict.Live slot)
     pub size : wrong_size p stated ≡ None
     pub canary : has_bytes p ≡ true → FindsCanary p k pages a slot None
 
   abbrev pub Refusals : Shape → Slabs → P → ℕ → Option ℕ → Outcome → Type 0
-  Refusals p k pages a stated outcome.NoSlot = Refuses p k.slabs.items a refusal.NoSlot
-  Refusals p k pages a stated outcome.Unused = Refuses p k.slabs.items a refusal.Unused
-  Refusals p k pages a stated outcome.DoubleFree = Refuses p k.slabs.items a refusal.DoubleFree
+  Refusals p k pages a stated outcome.NoSlot = Refuses p k.slabs a refusal.NoSlot
+  Refusals p k pages a stated outcome.Unused = Refuses p k.slabs a refusal.Unused
+  Refusals p k pages a stated outcome.DoubleFree = Refuses p k.slabs a refusal.DoubleFree
   Refusals p k pages a stated (outcome.WrongSize block other) = RefusesSize p k a stated block other
   Refusals p k pages a stated (outcome.Canary kept found) = RefusesCanary p k pages a stated kept found
   Refusals p k pages a stated other = ⊥
@@ -73,8 +75,8 @@ RefusesWith (Refused o) = IsFreeReply (reply_of o)
 RefusesWith (Accepted slot) = ⊤
 
 abbrev pub Measures : Shape → Slabs → ℕ → Outcome → Type 0
-Measures p k a outcome.NoSlot = Refuses p k.slabs.items a refusal.NoSlot
-Measures p k a outcome.Unused = Refuses p k.slabs.items a refusal.Unused
-Measures p k a outcome.DoubleFree = Refuses p k.slabs.items a refusal.DoubleFree
-Measures p k a (outcome.Usable size) = (slot : Slot) × Judges p k.slabs.items a (verdict.Live slot) × (size ≡ usable p)
+Measures p k a outcome.NoSlot = Refuses p k.slabs a refusal.NoSlot
+Measures p k a outcome.Unused = Refuses p k.slabs a refusal.Unused
+Measures p k a outcome.DoubleFree = Refuses p k.slabs a refusal.DoubleFree
+Measures p k a (outcome.Usable size) = (slot : Slot) × Judges p k.slabs a (verdict.Live slot) × (size ≡ usable p)
 Measures p k a other = ⊥

@@ -1,5 +1,5 @@
 -- What a class region keeps between two calls.
-use Rattle.std.specs.Prelude.{◌≡◌, ℕ, ◌<◌, ◌≤◌, Bool, true, IsTrue, List, length, reverse, Option, Some, is_some}
+use Rattle.std.specs.Prelude.{◌≡◌, ℕ, ◌<◌, ◌≤◌, Bool, true, IsTrue, List, length, Option, Some, is_some}
 use Rattle.std.specs.Option.{option_map_or}
 use Rattle.hm_choice.specs.Stream.{Words}
 use Rattle.hm_outside.specs.PageRuns.{PageRuns}
@@ -12,11 +12,12 @@ use Rattle.hm_sizes.specs.declared.config.Config.{Config}
 use Rattle.hm_sizes.specs.declared.shape.Shape.{Shape}
 use Rattle.hm_sizes.specs.Shapes.{IsShape, place}
 use Rattle.hm_class_rules.specs.Draws.{drawn_shape}
+use Rattle.hm_class_rules.specs.Kinds.{Neither}
 use Rattle.hm_class_rules.specs.State.{State, Slab, is_open, is_live}
 use Rattle.hm_class_rules.specs.Stepped.{Cells, cells, IsStepped}
 use Rattle.hm_class_rules.specs.Rules.{Terms, IsLegal, state}
-use Rattle.hm_class.specs.declared.slabs.Slabs.{Slabs}
-use Rattle.hm_class.specs.Uses.{Uses, SlabUse, lives, is_condemned, is_held, was_given, slab_in, open_at, passes_at, canary_at, live_count}
+use Rattle.hm_class.specs.Slabs.{Slabs}
+use Rattle.hm_class.specs.Uses.{Uses, SlabUse, lives, is_condemned, is_held, was_given, slab_in, open_at, kind_at, passes_at, canary_at, live_count, numbers_of}
 use Rattle.hm_class.specs.Region.{HoldsSlabs}
 
 -- the slots say what the state says
@@ -33,20 +34,29 @@ pub record Shows (p : Shape) (uses : Uses) (s : State) : Type 0 where
   pub shut : (n : ℕ) → among n s.shut ≡ true → is_some (slab_in uses n) ≡ true
   pub next : s.next ≡ length uses
 
--- the slots and the count of those that are live
+-- slabs of the full list are open, and neither partial nor empty
+abbrev pub IsFull : Uses → ℕ → Type 0
+IsFull uses n = (open_at uses n ≡ true) × (kind_at uses n ≡ Neither)
+
+abbrev pub AreFull : Uses → List ℕ → Type 0
+AreFull uses full = (n : ℕ) → among n full ≡ true → IsFull uses n
+
+-- the slots, the count of those that are live, and the lists that no cell has
 pub record Follows (p : Shape) (s : State) (k : Slabs) : Type 0 where
-  pub shows : Shows p k.slabs.items s
-  pub shut : k.shut.items ≡ s.shut
-  pub counted : k.live ≡ live_count k.slabs.items
+  pub shows : Shows p k.slabs s
+  pub shut : k.lists.retired ≡ s.shut
+  pub full : AreFull k.slabs k.lists.full
+  pub numbers : k.numbers ≡ numbers_of p
+  pub counted : k.live ≡ live_count k.slabs
   pub live_all : length s.live ≤ k.live
 
--- what is kept, as cells. Each list has its front last
+-- what is kept, as cells
 abbrev pub cells_of : State → Slabs → Words → Kept → List (Option ℕ) → Cells
 cells_of s k stream quarantine parking = record {
   state = s;
   stream = stream;
-  partial = reverse k.partial.items;
-  empty = reverse k.empty.items;
+  partial = k.lists.partial;
+  empty = k.lists.empty;
   quarantine = quarantine;
   parking = parking;
 }
@@ -61,7 +71,8 @@ pub record IsServed (c : Config) (number arena : ℕ) (p : Shape) : Type 0 where
   pub is : p ≡ drawn_shape number c arena p.class
   pub shape : IsShape p
 
-pub record IsKept (told : Bool) (runs : PageRuns) (faults : ℕ) (c : Config) (number arena : ℕ) (p : Shape) (es : List Entry) (k : Slabs) (stream : Words) (quarantine : Kept) (parking : List (Option ℕ)) : Type 0 where
+pub record IsKept (told : Bool) (runs : PageRuns) (faults : ℕ) (c : Config) (number arena : ℕ) (p : Shape)
+    (es : List Entry) (k : Slabs) (stream : Words) (quarantine : Kept) (parking : List (Option ℕ)) : Type 0 where
   pub served : IsServed c number arena p
   pub legal : IsLegal (terms_of told c p) es
   pub stepped : IsStepped number arena (terms_of told c p) es

@@ -1,6 +1,6 @@
 pub mod Uses
 pub mod Sources
-pub mod Rooms
+pub mod Slabs
 pub mod Region
 pub mod Calls
 pub mod Kept

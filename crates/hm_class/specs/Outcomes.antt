@@ -62,4 +62,5 @@ freed_draws (Some array) (Retired word unparked) = record { used = 2; w0 = array
 freed_draws (Some array) Purged = one_word array
 
 abbrev pub freed : Option ℕ → Option ℕ → ℕ → Emptied → Event
-freed array released n emptied = record { outcome = outcome.Freed; choices = freed_choices released n emptied; draws = freed_draws array emptied }
+freed array released n emptied =
+    record { outcome = outcome.Freed; choices = freed_choices released n emptied; draws = freed_draws array emptied }

@@ -1,11 +1,10 @@
 -- Where a block comes from, and what is said of one that is given back.
-use Rattle.std.specs.Prelude.{◌≡◌, ℕ, true, false, Option, Some, None, length, reverse, option_map}
+use Rattle.std.specs.Prelude.{◌≡◌, ℕ, nat_lt, if◌then◌else◌, true, false, List, [], ◌∷◌, Option, Some, None, length, option_map, IfSome, ◌<◌}
 use Rattle.hm_sizes.specs.declared.shape.Shape.{Shape}
 use Rattle.hm_sizes.specs.Shapes.{IsPlaceOf}
-use Rattle.hm_class_rules.specs.State.{unopened}
 use Rattle.hm_class_rules.specs.Stepped.{front}
-use Rattle.hm_class.specs.declared.slab.SlotUse.TheVariants.{Live}
-use Rattle.hm_class.specs.declared.slabs.Slabs.{Slabs}
+use Rattle.hm_slab_meta.specs.Uses.{Live}
+use Rattle.hm_class.specs.Slabs.{Slabs}
 use Rattle.hm_class.specs.declared.slabs.Slot.{Slot}
 use Rattle.hm_class.specs.declared.slabs.Source.{Source}
 use Rattle.hm_class.specs.declared.slabs.Source.TheVariants.{Open, New, Exhausted}
@@ -14,30 +13,43 @@ use Rattle.hm_class.specs.declared.slabs.Verdict.TheVariants as verdict
 use Rattle.hm_class.specs.declared.slabs.Verdict.TheVariants.{Refused}
 use Rattle.hm_class.specs.declared.slabs.Refusal.{Refusal}
 use Rattle.hm_class.specs.declared.slabs.Refusal.TheVariants as refusal
-use Rattle.hm_class.specs.Uses.{Uses, occupied, lives, was_given, use_at, passes_at}
+use Rattle.hm_class.specs.Uses.{Uses, SlabUse, slab_in, occupied, lives, was_given, use_at, passes_at}
 
 -- an available slot
 abbrev pub IsAvailable : Uses → Slot → Type 0
 IsAvailable uses s = option_map occupied (use_at uses s.slab s.index) ≡ Some false
 
+-- each slab has all its slots
+abbrev pub AreWhole : Shape → Uses → Type 0
+AreWhole p uses = (n : ℕ) (b : SlabUse) → slab_in uses n ≡ Some b → length b.slots ≡ p.slots
+
+-- slab n, where it was ever opened, has a slot i
+abbrev pub IsWithin : Uses → ℕ → ℕ → Type 0
+IsWithin uses n i = IfSome (slab_in uses n) (λ (b : SlabUse). i < length b.slots)
+
 -- the open slab from which the next slot is picked
 abbrev pub front_of : Slabs → Option ℕ
-front_of k = front (reverse k.partial.items) (reverse k.empty.items)
+front_of k = front k.lists.partial k.lists.empty
 
--- the slab that is opened where there is none
-abbrev pub new_of : Shape → Slabs → Option ℕ
-new_of p k = unopened p k.shut.items (length k.slabs.items)
+-- the slab that is opened where there is none: the first that is shut, or a fresh one
+abbrev pub unopened_below : ℕ → List ℕ → ℕ → Option ℕ
+unopened_below limit [] next = if nat_lt next limit then Some next else None
+unopened_below limit (m ∷ ms) next = Some m
 
-abbrev pub Sources : Shape → Slabs → Source → Type 0
-Sources p k (Open n) = front_of k ≡ Some n
-Sources p k (New n) = (front_of k ≡ None) × (new_of p k ≡ Some n)
-Sources p k Exhausted = (front_of k ≡ None) × (new_of p k ≡ None)
+abbrev pub new_of : Slabs → Option ℕ
+new_of k = unopened_below k.numbers.limit k.lists.retired (length k.slabs)
+
+abbrev pub Sources : Slabs → Source → Type 0
+Sources k (Open n) = front_of k ≡ Some n
+Sources k (New n) = (front_of k ≡ None) × (new_of k ≡ Some n)
+Sources k Exhausted = (front_of k ≡ None) × (new_of k ≡ None)
 
 -- why the address starts no live block
 abbrev pub Refuses : Shape → Uses → ℕ → Refusal → Type 0
 Refuses p uses a refusal.NoSlot = (n i : ℕ) → IsPlaceOf p a n i → ⊥
 Refuses p uses a refusal.Unused = (n : ℕ) × (i : ℕ) × IsPlaceOf p a n i × (passes_at was_given uses n i ≡ false)
-Refuses p uses a refusal.DoubleFree = (n : ℕ) × (i : ℕ) × IsPlaceOf p a n i × (passes_at was_given uses n i ≡ true) × (passes_at lives uses n i ≡ false)
+Refuses p uses a refusal.DoubleFree = (n : ℕ) × (i : ℕ) × IsPlaceOf p a n i × (passes_at was_given uses n i ≡ true)
+    × (passes_at lives uses n i ≡ false)
 
 abbrev pub Judges : Shape → Uses → ℕ → Verdict → Type 0
 Judges p uses a (Refused r) = Refuses p uses a r

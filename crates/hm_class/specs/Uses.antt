@@ -3,12 +3,10 @@ use Rattle.std.specs.Prelude.{ℕ, ◌+◌, take, drop, replicate, Bool, true, f
 use Rattle.std.specs.List.{list_any, position}
 use Rattle.std.specs.Option.{option_and_then, option_map_or}
 use Rattle.hm_sizes.specs.declared.shape.Shape.{Shape}
-use Rattle.hm_sizes.specs.Shapes.{is_guard}
-use Rattle.hm_class.specs.declared.slab.SlotUse.{SlotUse}
-use Rattle.hm_class.specs.declared.slab.SlotUse.TheVariants.{Never, Free, Live, Held, Condemned}
-use Rattle.hm_class.specs.declared.slab.SlabKind.{SlabKind}
-use Rattle.hm_class.specs.declared.slab.SlabKind.TheVariants as named
 use Rattle.hm_class_rules.specs.Kinds.{Kind, Partial, Empty, Neither}
+use Rattle.hm_slab_lists.specs.Numbers.{is_guard}
+use Rattle.hm_slab_meta.specs.Uses as meta
+use Rattle.hm_slab_meta.specs.Uses.{SlotUse, Never, Free, Live, Held, Condemned}
 
 -- ---- one slot
 abbrev pub lives : SlotUse → Bool
@@ -19,11 +17,7 @@ lives Held = false
 lives (Condemned given) = false
 
 abbrev pub was_given : SlotUse → Bool
-was_given Never = false
-was_given Free = true
-was_given Live = true
-was_given Held = true
-was_given (Condemned given) = given
+was_given u = meta.was_given u
 
 abbrev pub is_condemned : SlotUse → Bool
 is_condemned Never = false
@@ -82,18 +76,12 @@ abbrev pub is_unused : SlabUse → Bool
 is_unused b = not (has_occupied b.slots) && has_available b.slots
 
 -- what a slab is
-abbrev pub kind_named : SlabKind → Kind
-kind_named named.Partial = Partial
-kind_named named.Empty = Empty
-kind_named named.Neither = Neither
-
 abbrev pub kind_of : SlabUse → Kind
 kind_of b = if not b.opened then Neither else if is_partly b then Partial else if is_unused b then Empty else Neither
 
 -- the first available slot from slot i on, and else from the first on
 abbrev pub or_else : ℕ → Option ℕ → Option ℕ → Option ℕ
-or_else i (Some j) other = Some (i + j)
-or_else i None other = other
+or_else i found other = meta.or_else i found other
 
 abbrev pub first_from : ℕ → List SlotUse → Option ℕ
 first_from i slots = or_else i (position is_available (drop i slots)) (position is_available (take i slots))
@@ -149,26 +137,44 @@ with_slot i u b = record { slots = slice_set b.slots i u; canary = b.canary; ope
 abbrev pub with_use : Uses → ℕ → ℕ → SlotUse → Uses
 with_use uses n i u = changed uses n (with_slot i u)
 
+-- it is never given again
+abbrev pub with_condemned : Uses → ℕ → ℕ → Uses
+with_condemned uses n i = with_use uses n i (Condemned (passes_at was_given uses n i))
+
 -- slab n is opened, or shut
 abbrev pub with_open : Uses → ℕ → ℕ → Uses
 with_open uses n canary = changed uses n (opened_slab canary)
 
+-- its canary is set
+abbrev pub with_canary : ℕ → SlabUse → SlabUse
+with_canary canary b = record { slots = b.slots; canary = canary; opened = b.opened }
+
+abbrev pub with_canary_at : Uses → ℕ → ℕ → Uses
+with_canary_at uses n canary = changed uses n (with_canary canary)
+
 abbrev pub with_shut : Uses → ℕ → Uses
 with_shut uses n = changed uses n shut_slab
 
+-- ---- the numbers of slabs
+-- slabs have numbers below the limit; so many slabs stand between two guards; so many slots are in a slab
+pub record Numbers : Type 0 where
+  pub limit : ℕ
+  pub guard_interval : ℕ
+  pub slots : ℕ
+
+abbrev pub numbers_of : Shape → Numbers
+numbers_of p = record { limit = p.limit; guard_interval = p.guard_interval; slots = p.slots }
+
 -- a slab is put at the next number; what follows it is made a guard where it is one
-abbrev pub with_slab : Shape → Uses → SlabUse → Uses
-with_slab p uses slab = (uses ++ Some slab ∷ []) ++ (if is_guard p (length uses + 1) then None ∷ [] else [])
+abbrev pub with_slab : ℕ → Uses → SlabUse → Uses
+with_slab interval uses slab =
+    (uses ++ Some slab ∷ []) ++ (if is_guard interval (length uses + 1) then None ∷ [] else [])
 
 -- what is opened comes from those that are shut: the first of them; where there is none, a fresh slab is put at the next number
-abbrev pub ready_slab : List ℕ → ℕ → Option SlabUse
-ready_slab [] slots = Some (fresh_slab slots)
-ready_slab (m ∷ ms) slots = None
+abbrev pub taken_uses : Numbers → List ℕ → Uses → Uses
+taken_uses q [] uses = with_slab q.guard_interval uses (fresh_slab q.slots)
+taken_uses q (m ∷ ms) uses = uses
 
 abbrev pub still_shut : List ℕ → List ℕ
 still_shut [] = []
 still_shut (m ∷ ms) = ms
-
-abbrev pub taken_uses : Shape → List ℕ → Uses → Uses
-taken_uses p [] uses = with_slab p uses (fresh_slab p.slots)
-taken_uses p (m ∷ ms) uses = uses

@@ -38,18 +38,16 @@ fn slab_end(shape: &Shape, addr: u64) -> u64
 // Whether an address lies in an open slab, and slabs have bytes.
 fn is_accessible(slabs: &Slabs, shape: &Shape, addr: u64) -> bool
     requires { IsShape shape.now }
-    ensures { result ≡ is_accessible shape.now slabs.now.slabs.items addr }
+    ensures { result ≡ is_accessible shape.now slabs.now.slabs addr }
 {
-    shape.has_bytes()
-        && addr >= shape.first
-        && slabs.is_open(((addr - shape.first) / shape.slab) as usize)
+    shape.has_bytes() && addr >= shape.first && slabs.is_open((addr - shape.first) / shape.slab)
 }
 
 /// The first address of a range that is not accessible.
 fn first_trap(slabs: &Slabs, shape: &Shape, addr: u64, len: u64) -> Option<u64>
     requires shape { IsShape shape.now }
     requires range { addr + len < 2 ^ 48 }
-    ensures { result ≡ trap_in shape.now slabs.now.slabs.items addr len }
+    ensures { result ≡ trap_in shape.now slabs.now.slabs addr len }
 {
     let end = addr + len;
     let mut at = addr;
@@ -74,7 +72,8 @@ fn read<P: Pages>(
     requires from { shape.now.first ≤ addr }
     requires range { addr + len < 2 ^ 48 }
     ensures length { IfOk result (λ r. IfSome r (λ bytes. length bytes.items ≡ len)) }
-    ensures bytes { IsTrue (P.told pages.now) → (s : State) → HoldsSlabs shape.now s.opens (P.runs pages.now) → first_trap shape.now s addr len ≡ None
+    ensures bytes { IsTrue (P.told pages.now) → (s : State) → HoldsSlabs shape.now s.opens (P.runs pages.now)
+        → first_trap shape.now s addr len ≡ None
         → IfOk result (λ r. MatchOption r ⊥ (λ bytes. bytes.items ≡ bytes_read shape.now s addr len)) }
 {
     let end = addr + len;
@@ -103,9 +102,9 @@ pub fn fetch<P: Pages>(
     requires shape { IsShape shape.now }
     requires some { 1 ≤ len }
     requires range { addr + len < 2 ^ 48 }
-    ensures fetched { IfOk result (Fetches (P.told pages.now) (P.runs pages.now) shape.now slabs.now.slabs.items addr len) }
+    ensures fetched { IfOk result (Fetches (P.told pages.now) (P.runs pages.now) shape.now slabs.now.slabs addr len) }
     ensures within { IfOk result (IsFetched addr len) }
-    ensures trap { IfOk result (FetchTraps (trap_in shape.now slabs.now.slabs.items addr len) addr) }
+    ensures trap { IfOk result (FetchTraps (trap_in shape.now slabs.now.slabs addr len) addr) }
 {
     if let Some(trap) = first_trap(slabs, shape, addr, len) {
         return Ok(Fetched::Trap(trap));
@@ -121,7 +120,8 @@ fn lends<P: Pages>(pages: &P, shape: &Shape, addr: u64, len: u64) -> bool
     requires shape { IsShape shape.now }
     requires from { shape.now.first ≤ addr }
     requires range { addr + len < 2 ^ 48 }
-    ensures { IsTrue (P.told pages.now) → (s : State) → HoldsSlabs shape.now s.opens (P.runs pages.now) → first_trap shape.now s addr len ≡ None → IsTrue result }
+    ensures { IsTrue (P.told pages.now) → (s : State) → HoldsSlabs shape.now s.opens (P.runs pages.now)
+        → first_trap shape.now s addr len ≡ None → IsTrue result }
 {
     let end = addr + len;
     let mut at = addr;
@@ -142,7 +142,8 @@ fn write<P: Pages>(pages: &mut P, shape: &Shape, addr: u64, bytes: &[u8])
     requires range { addr + length bytes.now < 2 ^ 48 }
     ensures told { P.told pages.new ≡ P.told pages.old }
     ensures count { P.faults pages.new ≡ P.faults pages.old }
-    ensures written { IsTrue (P.told pages.old) → (s : State) → HoldsSlabs shape.now s.opens (P.runs pages.old) → first_trap shape.now s addr (length bytes.now) ≡ None
+    ensures written { IsTrue (P.told pages.old) → (s : State) → HoldsSlabs shape.now s.opens (P.runs pages.old)
+        → first_trap shape.now s addr (length bytes.now) ≡ None
         → HoldsSlabs shape.now (write shape.now addr bytes.now s).opens (P.runs pages.new) }
 {
     let end = addr + bytes.len() as u64;
@@ -171,8 +172,8 @@ pub fn fill<P: Pages>(
     requires range { addr + length bytes.now < 2 ^ 48 }
     ensures told { P.told pages.new ≡ P.told pages.old }
     ensures count { P.faults pages.new ≡ P.faults pages.old }
-    ensures filled { Fills (P.told pages.old) (P.runs pages.old) (P.runs pages.new) shape.now slabs.now.slabs.items addr bytes.now result }
-    ensures trap { FillTraps (trap_in shape.now slabs.now.slabs.items addr (length bytes.now)) addr result }
+    ensures filled { Fills (P.told pages.old) (P.runs pages.old) (P.runs pages.new) shape.now slabs.now.slabs addr bytes.now result }
+    ensures trap { FillTraps (trap_in shape.now slabs.now.slabs addr (length bytes.now)) addr result }
     ensures within { IsFillReply addr (length bytes.now) (reply_of result) }
 {
     let len = bytes.len() as u64;

@@ -7,13 +7,12 @@ ghost use Rattle.hm_sizes.specs.Shapes.{IsShape, usable};
 ghost use Rattle.hm_class.specs.Finds.{CanPick, CanServe, Serve, Serves, HasFirst, slot_in};
 ghost use Rattle.hm_class.specs.Gives.{Gives, Stains, Seals};
 ghost use Rattle.hm_class.specs.Outcomes.{reply_of};
-ghost use Rattle.hm_class.specs.Rooms.{HasRoom, SameLists};
+ghost use Rattle.hm_class.specs.Slabs.{SameLists};
 ghost use Rattle.hm_class.specs.Sources.{IsAvailable};
-ghost use Rattle.hm_class.specs.Uses.{live_count, first_at, kind_named};
+ghost use Rattle.hm_class.specs.Uses.{live_count, first_at};
 
 use crate::next_slab::NextSlab;
 use crate::outcome::{Event, Outcome, opened_choices, start_draws};
-use crate::slab::{SlabKind, SlotUse};
 use crate::slabs::{Slabs, Slot, address_of};
 use crate::slot_bytes::{first_nonzero, set_canary};
 use hm_choice::Stream;
@@ -51,26 +50,25 @@ pub fn give<P: Pages>(slabs: &mut Slabs, pages: &mut P, shape: &Shape, slot: Slo
     requires shape { IsShape shape.now }
     requires slab { slot.slab < shape.now.limit }
     requires index { slot.index < shape.now.slots }
-    requires available { IsAvailable slabs.old.slabs.items slot }
-    requires counted { slabs.old.live ≡ live_count slabs.old.slabs.items }
+    requires available { IsAvailable slabs.old.slabs slot }
+    requires counted { slabs.old.live ≡ live_count slabs.old.slabs }
     requires few { slabs.old.live < 2 ^ 63 }
     ensures told { P.told pages.new ≡ P.told pages.old }
     ensures count { P.faults pages.new ≡ P.faults pages.old }
     ensures lists { SameLists slabs.old slabs.new }
-    ensures counted { slabs.new.live ≡ live_count slabs.new.slabs.items }
+    ensures counted { slabs.new.live ≡ live_count slabs.new.slabs }
     ensures replies { IsSlotReply (usable shape.now) (reply_of result) }
     ensures given { Gives P.Pages shape.now slabs.old slabs.new pages.old pages.new slot result }
 {
     let addr = address_of(shape, slot);
     match stain(pages, shape, addr) {
         Some((at, found)) => {
-            let given = slabs.was_given(slot);
-            slabs.set(slot, SlotUse::Condemned { given });
+            slabs.condemn(slot);
             Outcome::Overwritten { addr, at, found }
         }
         None => {
             seal(pages, shape, addr, slabs.canary_of(slot.slab));
-            slabs.set(slot, SlotUse::Live);
+            slabs.give(slot);
             Outcome::Given {
                 addr,
                 usable: shape.usable(),
@@ -79,38 +77,31 @@ pub fn give<P: Pages>(slabs: &mut Slabs, pages: &mut P, shape: &Shape, slot: Slo
     }
 }
 
-// Picks a slot of an open slab by the next word, and gives it. The slab was of this kind.
+// Picks a slot of an open slab by the next word, and gives it.
 fn serve_from<P: Pages>(
     slabs: &mut Slabs,
     pages: &mut P,
     stream: &mut Stream,
     shape: &Shape,
     slab: u64,
-    before: SlabKind,
 ) -> (Outcome, u32)
     requires shape { IsShape shape.now }
     requires ready { CanPick shape.now slabs.old slab }
-    requires room { HasRoom slabs.old 1 }
-    requires counted { slabs.old.live ≡ live_count slabs.old.slabs.items }
+    requires counted { slabs.old.live ≡ live_count slabs.old.slabs }
     requires few { slabs.old.live < 2 ^ 63 }
     ensures told { P.told pages.new ≡ P.told pages.old }
     ensures count { P.faults pages.new ≡ P.faults pages.old }
-    ensures counted { slabs.new.live ≡ live_count slabs.new.slabs.items }
+    ensures counted { slabs.new.live ≡ live_count slabs.new.slabs }
     ensures replies { IsSlotReply (usable shape.now) (reply_of result.0) }
     ensures word { result.1 ≡ next_word stream.old }
-    ensures served { Serve P.Pages shape.now slab (kind_named before) slabs.old slabs.new pages.old pages.new stream.old stream.new result.0 }
+    ensures served { Serve P.Pages shape.now slab slabs.old slabs.new pages.old pages.new stream.old stream.new result.0 }
 {
     let (word, start) = stream.draw(shape.slots);
-    let Some(index) = slabs.first_from(slab as usize, start as usize) else {
+    let Some(index) = slabs.first_from(slab, start) else {
         unreachable!()
     };
-    let slot = Slot {
-        slab: slab as usize,
-        index,
-    };
-    let outcome = give(slabs, pages, shape, slot);
-    let after = slabs.kind(slot.slab);
-    slabs.relist(slab, before, after);
+    let outcome = give(slabs, pages, shape, Slot { slab, index });
+    slabs.after_take(slab);
     (outcome, word)
 }
 
@@ -124,12 +115,11 @@ pub fn serve<P: Pages>(
 ) -> Event
     requires shape { IsShape shape.now }
     requires ready { CanServe shape.now slabs.old next }
-    requires room { HasRoom slabs.old 1 }
-    requires counted { slabs.old.live ≡ live_count slabs.old.slabs.items }
+    requires counted { slabs.old.live ≡ live_count slabs.old.slabs }
     requires few { slabs.old.live < 2 ^ 63 }
     ensures told { P.told pages.new ≡ P.told pages.old }
     ensures count { P.faults pages.new ≡ P.faults pages.old }
-    ensures counted { slabs.new.live ≡ live_count slabs.new.slabs.items }
+    ensures counted { slabs.new.live ≡ live_count slabs.new.slabs }
     ensures replies { IsSlotReply (usable shape.now) (reply_of result.outcome) }
     ensures served { Serves P.Pages shape.now slabs.old slabs.new pages.old pages.new stream.old stream.new next result }
 {
@@ -137,8 +127,7 @@ pub fn serve<P: Pages>(
         NextSlab::Exhausted => Event::plain(Outcome::Exhausted),
         NextSlab::PagesFailed => Event::plain(Outcome::PagesFailed),
         NextSlab::Open(slab) => {
-            let before = slabs.kind(slab as usize);
-            let (outcome, word) = serve_from(slabs, pages, stream, shape, slab, before);
+            let (outcome, word) = serve_from(slabs, pages, stream, shape, slab);
             Event {
                 outcome,
                 choices: Choices::none(),
@@ -146,8 +135,7 @@ pub fn serve<P: Pages>(
             }
         }
         NextSlab::New { slab, canary } => {
-            let before = SlabKind::Neither;
-            let (outcome, word) = serve_from(slabs, pages, stream, shape, slab, before);
+            let (outcome, word) = serve_from(slabs, pages, stream, shape, slab);
             Event {
                 outcome,
                 choices: opened_choices(slab, canary),

@@ -39,8 +39,6 @@ pub struct ClassHeap<P: Pages> {
     slabs: Slabs,
     stream: Stream,
     quarantine: Quarantine,
-    /// The slabs that were retired lately, each in its parking place.
-    parking: Vec<Option<u64>>,
     entries: Vec<Entry>,
     pages: P,
 }
@@ -50,7 +48,6 @@ impl<P: Pages> Model for ClassHeap<P> {
     ghost use Rattle.hm_model.specs.Runs.{expand};
     ghost use Rattle.hm_class.specs.Region.{Region};
     ghost use Rattle.hm_class.specs.Kept.{IsKept};
-    ghost use Rattle.hm_class.specs.Rooms.{HasRoom};
 
     ghost Value = { Region P };
 
@@ -64,8 +61,8 @@ impl<P: Pages> Model for ClassHeap<P> {
       pages = h.pages;
     } };
 
-    ghost invariant = { λ h. IsKept (P.told h.pages) (P.runs h.pages) (P.faults h.pages) h.config h.number h.arena h.shape h.entries.items h.slabs h.stream h.quarantine h.parking.items
-        × (h.slabs.live ≤ h.entries.cap - h.entries.len) × HasRoom h.slabs h.slabs.live };
+    ghost invariant = { λ h. IsKept (P.told h.pages) (P.runs h.pages) (P.faults h.pages) h.config h.number h.arena h.shape h.entries.items h.slabs h.stream h.quarantine h.slabs.parking
+        × (h.slabs.live ≤ h.entries.cap - h.entries.len) };
 }
 
 impl<P: Pages> Counted for ClassHeap<P> {
@@ -131,17 +128,16 @@ impl<P: Pages> ClassHeap<P> {
     {
         let (stream, shape) = begin(config, seed, arena, class);
         let quarantine = Quarantine::build(alloc, shape.array, shape.ring)?;
-        let parking = vec![in alloc; None; config.park_length as usize]?;
+        let slabs = Slabs::build(alloc, &shape, config.park_length)?;
         Ok(ClassHeap {
             alloc,
             config: *config,
             number: seed,
             arena,
             shape,
-            slabs: Slabs::none(alloc),
+            slabs,
             stream,
             quarantine,
-            parking,
             entries: Vec::new(alloc),
             pages,
         })
@@ -212,7 +208,6 @@ impl<P: Pages> ClassHeap<P> {
             slabs: _,
             stream: _,
             quarantine: _,
-            parking: _,
             entries,
             pages,
         } = self;
@@ -228,14 +223,12 @@ impl<P: Pages> ClassHeap<P> {
         ensures origin { origin P.told self.new ≡ origin P.told self.old }
         ensures region { IsRegion P.Pages self.new }
     {
-        self.entries.reserve(self.slabs.live + 2)?;
-        self.slabs.reserve()?;
+        self.entries.reserve(self.slabs.live() + 2)?;
         let before = self.pages.faults();
         let next = find_slab(
             &mut self.slabs,
             &mut self.pages,
             &mut self.stream,
-            self.alloc,
             &self.shape,
         )?;
         let event = serve(
@@ -265,7 +258,7 @@ impl<P: Pages> ClassHeap<P> {
         let before = self.pages.faults();
         match judge(&self.slabs, &self.pages, &self.shape, addr, stated) {
             Judgement::Refused(outcome) => {
-                self.entries.reserve(self.slabs.live + 1)?;
+                self.entries.reserve(self.slabs.live() + 1)?;
                 let call = Call::GiveBack { addr, stated };
                 let reply = outcome.reply();
                 self.entries
@@ -285,9 +278,9 @@ impl<P: Pages> ClassHeap<P> {
                 let emptied = settle(
                     &mut self.slabs,
                     &mut self.stream,
-                    &mut self.parking,
                     &mut self.pages,
                     &self.shape,
+                    self.config.park_length,
                     released,
                 );
                 let slab = slab_of(&self.shape, released);
@@ -309,7 +302,7 @@ impl<P: Pages> ClassHeap<P> {
         ensures origin { origin P.told self.new ≡ origin P.told self.old }
         ensures region { IsRegion P.Pages self.new }
     {
-        self.entries.reserve(self.slabs.live + 1)?;
+        self.entries.reserve(self.slabs.live() + 1)?;
         let faults = self.pages.faults();
         let outcome = measure(&self.slabs, &self.shape, addr);
         let call = Call::Measure { addr };
@@ -331,7 +324,7 @@ impl<P: Pages> ClassHeap<P> {
         ensures origin { origin P.told self.new ≡ origin P.told self.old }
         ensures region { IsRegion P.Pages self.new }
     {
-        self.entries.reserve(self.slabs.live + 1)?;
+        self.entries.reserve(self.slabs.live() + 1)?;
         let faults = self.pages.faults();
         let fetched = fetch(&self.slabs, &self.pages, self.alloc, &self.shape, addr, len)?;
         let (reply, answer) = replies(self.alloc, fetched)?;
@@ -354,7 +347,7 @@ impl<P: Pages> ClassHeap<P> {
         ensures origin { origin P.told self.new ≡ origin P.told self.old }
         ensures region { IsRegion P.Pages self.new }
     {
-        self.entries.reserve(self.slabs.live + 1)?;
+        self.entries.reserve(self.slabs.live() + 1)?;
         let runs = runs.copy()?;
         let bytes = runs.to_vec(self.alloc)?;
         let faults = self.pages.faults();

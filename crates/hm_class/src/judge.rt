@@ -5,6 +5,7 @@ ghost use Rattle.hm_sizes.specs.Shapes.{IsShape, usable};
 ghost use Rattle.hm_class_rules.specs.Rules.{wrong_size};
 ghost use Rattle.hm_class.specs.Judgements.{refused_outcome, Judgements, RefusesWith, Measures};
 ghost use Rattle.hm_class.specs.Outcomes.{reply_of};
+ghost use Rattle.hm_class.specs.Sources.{AreWhole};
 
 use crate::outcome::Outcome;
 use crate::slabs::{Refusal, Slabs, Slot, Verdict};
@@ -52,7 +53,8 @@ pub fn judge<P: Pages>(
     addr: u64,
     stated: Option<u64>,
 ) -> Judgement
-    requires { IsShape shape.now }
+    requires shape { IsShape shape.now }
+    requires whole { AreWhole shape.now slabs.now.slabs }
     ensures judged { Judgements P.Pages shape.now slabs.now pages.now addr stated result }
     ensures replies { RefusesWith result }
 {
@@ -74,7 +76,8 @@ pub fn judge<P: Pages>(
 
 /// The size of the block at an address.
 pub fn measure(slabs: &Slabs, shape: &Shape, addr: u64) -> Outcome
-    requires { IsShape shape.now }
+    requires shape { IsShape shape.now }
+    requires whole { AreWhole shape.now slabs.now.slabs }
     ensures measured { Measures shape.now slabs.now addr result }
     ensures replies { IsMeasureReply (usable shape.now) (reply_of result) }
 {

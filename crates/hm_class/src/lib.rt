@@ -9,7 +9,6 @@ mod next_slab;
 mod outcome;
 #[cfg(test)]
 mod region_tests;
-mod slab;
 mod slabs;
 mod slot_bytes;
 mod take_back;

@@ -13,7 +13,6 @@ use crate::slabs::{Slabs, Source};
 use hm_choice::Stream;
 use hm_outside::{NoMemory, PageRefusal, Pages};
 use hm_sizes::Shape;
-use std::alloc::Global;
 
 /// A slab for the next block.
 #[derive(Clone, Copy, Drop)]
@@ -49,7 +48,8 @@ fn make_slab<P: Pages>(pages: &mut P, shape: &Shape, slab: u64) -> Result<(), Pa
     requires slab { slab < shape.now.limit }
     requires apart { IsTrue (P.told pages.old) → MeetsNone (P.runs pages.old) (slab_at shape.now slab) shape.now.slab }
     ensures told { P.told pages.new ≡ P.told pages.old }
-    ensures made { OnOk result (IsTrue (P.told pages.old) → P.runs pages.new ≡ made_runs shape.now slab (P.runs pages.old)) }
+    ensures made { OnOk result (IsTrue (P.told pages.old)
+        → P.runs pages.new ≡ made_runs shape.now slab (P.runs pages.old)) }
     ensures unchanged { OnErr result (IsTrue (P.told pages.old) → P.runs pages.new ≡ P.runs pages.old) }
     ensures own { OnErr result (has_bytes shape.now ≡ true) }
     ensures cause { HasRefusalCause (P.faults pages.old) (P.faults pages.new) result }
@@ -87,28 +87,26 @@ pub fn find_slab<P: Pages>(
     slabs: &mut Slabs,
     pages: &mut P,
     stream: &mut Stream,
-    alloc: Global,
     shape: &Shape,
 ) -> Result<NextSlab, NoMemory>
     requires shape { IsShape shape.now }
-    requires opens { (n : ℕ) → new_of shape.now slabs.old ≡ Some n → CanOpen shape.now slabs.old n }
-    requires apart { IsTrue (P.told pages.old) → (n : ℕ) → new_of shape.now slabs.old ≡ Some n
+    requires opens { (n : ℕ) → new_of slabs.old ≡ Some n → CanOpen shape.now slabs.old n }
+    requires apart { IsTrue (P.told pages.old) → (n : ℕ) → new_of slabs.old ≡ Some n
         → MeetsNone (P.runs pages.old) (slab_at shape.now n) shape.now.slab }
     ensures told { P.told pages.new ≡ P.told pages.old }
     ensures found { IfOk result (λ next. Finds P.Pages shape.now slabs.old slabs.new pages.old pages.new stream.old stream.new next) }
     ensures memory { OnErr result (Stays P.Pages slabs.old slabs.new pages.old pages.new stream.old stream.new) }
 {
-    let slab = match slabs.source(shape) {
+    let slab = match slabs.source() {
         Source::Exhausted => return Ok(NextSlab::Exhausted),
         Source::Open(slab) => return Ok(NextSlab::Open(slab)),
         Source::New(slab) => slab,
     };
-    let fresh = slabs.ready(alloc, shape.slots)?;
+    slabs.reserve()?;
     match make_slab(pages, shape, slab) {
         Ok(()) => {
             let canary = draw_canary(stream, shape);
-            slabs.take_new(shape, fresh);
-            slabs.open(slab as usize, value_of(canary));
+            slabs.open(slab, value_of(canary));
             Ok(NextSlab::New { slab, canary })
         }
         Err(PageRefusal::Failed) => Ok(NextSlab::PagesFailed),

@@ -1,21 +1,26 @@
-//! The slabs of a region by number, the lists of those that serve next, and what stands at an address.
-ghost use Rattle.std.specs.Prelude.{◌≡◌, ◌+◌, ◌<◌, ◌≤◌, ◌^◌, ℕ, Some, None, true, length, reverse, is_some, IsTrue, OnOk, IfOk, IfSome, vec_len, vec_capacity};
+//! The slabs of a region by number, the lists in which they stand, and how many of their slots are live; and
+//! what stands at an address.
+ghost use Rattle.std.specs.Prelude.{◌≡◌, ◌+◌, ◌<◌, ◌≤◌, ◌^◌, Some, None, true, is_some, length, slice_index_or, IsTrue, IfOk, OnOk};
 ghost use Rattle.hm_sizes.specs.Shapes.{IsShape, place, slab_of, slot_of};
-ghost use Rattle.hm_class_rules.specs.Kinds.{Kind};
-ghost use Rattle.hm_class_rules.specs.Stepped.{listed};
-ghost use Rattle.hm_class.specs.Rooms.{IsNone, HasRoom, SameLists, SameSlabs, Relists};
-ghost use Rattle.hm_class.specs.Sources.{front_of, new_of, Sources, Judges};
-ghost use Rattle.hm_class.specs.Uses.{slab_in, open_at, kind_at, kind_named, use_at, passes_at, lives, was_given, canary_at, first_at, with_use, with_open, with_shut, ready_slab, taken_uses, still_shut, live_count};
+ghost use Rattle.hm_class_rules.specs.Kinds.{Empty, same_kind};
+ghost use Rattle.hm_slab_lists.specs.Lists.{placed};
+ghost use Rattle.hm_slab_meta.specs.Uses.{Live, Held, Free};
+ghost use Rattle.hm_class.specs.Slabs.{no_slabs, with_spare, taken_of, list_of, opened_lists, SameLists, SameSlots, Parks};
+ghost use Rattle.hm_class.specs.Sources.{IsAvailable, IsWithin, AreWhole, Sources, Judges};
+ghost use Rattle.hm_class.specs.Uses.{numbers_of, slab_in, open_at, kind_at, use_at, passes_at, lives, was_given, canary_at, first_at, with_use, with_condemned, with_open, with_canary_at, live_count};
 
-use crate::slab::{Slab, SlabKind, SlotUse};
+use hm_outside::NoMemory;
 use hm_sizes::{Shape, place_of};
-use std::alloc::{AllocError, Global};
+use hm_slab_lists::{Place, SlabLists};
+use hm_slab_meta::SlotState;
+use std::alloc::Global;
+use std::marker::Model;
 
 /// A slot of a slab.
 #[derive(Clone, Copy, Drop)]
 pub struct Slot {
-    pub slab: usize,
-    pub index: usize,
+    pub slab: u64,
+    pub index: u32,
 }
 
 /// Where a block comes from.
@@ -46,15 +51,19 @@ pub enum Verdict {
 /// The slabs of a region.
 #[derive(Drop)]
 pub struct Slabs {
-    /// Slab n stands at n; a guard is None.
-    pub slabs: Vec<Option<Slab>>,
+    lists: SlabLists,
     /// How many slots are live.
-    pub live: usize,
-    /// The partial slabs and the empty ones. The last serves first.
-    pub partial: Vec<u64>,
-    pub empty: Vec<u64>,
-    /// The slabs that were retired and stand in no parking place. The first is opened first.
-    pub shut: Vec<u64>,
+    live: usize,
+}
+
+impl Model for Slabs {
+    ghost use Rattle.hm_class.specs.Slabs.{Slabs, slabs_of, IsFiled};
+
+    ghost Value = { Slabs };
+
+    ghost view = { λ s. slabs_of s.lists s.live };
+
+    ghost invariant = { λ s. IsFiled s.lists };
 }
 
 /// The address of a slot.
@@ -64,7 +73,7 @@ pub fn address_of(shape: &Shape, slot: Slot) -> u64
     requires index { slot.index < shape.now.slots }
     ensures { result ≡ place shape.now slot.slab slot.index }
 {
-    shape.first + slot.slab as u64 * shape.slab + slot.index as u64 * shape.slot
+    shape.first + slot.slab * shape.slab + u64::from(slot.index) * shape.slot
 }
 
 /// The slot at an address.
@@ -76,119 +85,126 @@ pub fn slot_at(shape: &Shape, addr: u64) -> Slot
 {
     let offset = addr - shape.first;
     Slot {
-        slab: (offset / shape.slab) as usize,
-        index: (offset % shape.slab / shape.slot) as usize,
-    }
-}
-
-// One list of the slabs of a kind, once slab n was `before` and is `after`.
-fn relist(list: &mut Vec<u64>, wanted: SlabKind, slab: u64, before: SlabKind, after: SlabKind)
-    requires room { vec_len list.old < vec_capacity list.old }
-    ensures items { reverse list.new.items ≡ listed (kind_named wanted) slab (kind_named before) (kind_named after) (reverse list.old.items) }
-    ensures capacity { vec_capacity list.new ≡ vec_capacity list.old }
-    ensures len { vec_len list.new ≤ vec_len list.old + 1 }
-{
-    if after.is(before) {
-        return;
-    }
-    if after.is(wanted) {
-        list.push_reserved(slab);
-    } else if before.is(wanted) {
-        list.retain(|other| *other != slab);
+        slab: offset / shape.slab,
+        index: (offset % shape.slab / shape.slot) as u32,
     }
 }
 
 impl Slabs {
-    /// No slab.
-    pub fn none(alloc: Global) -> Slabs
-        ensures { IsNone result }
+    /// No slab, and an empty parking array.
+    pub fn build(alloc: Global, shape: &Shape, park_length: u32) -> Result<Slabs, NoMemory>
+        requires shape { IsShape shape.now }
+        requires park_some { 1 ≤ park_length }
+        requires park_most { park_length ≤ 32 }
+        ensures { IfOk result (λ k. k ≡ no_slabs (numbers_of shape.now) park_length) }
     {
-        Slabs {
-            slabs: Vec::new(alloc),
-            live: 0,
-            partial: Vec::new(alloc),
-            empty: Vec::new(alloc),
-            shut: Vec::new(alloc),
-        }
+        let lists = SlabLists::build(
+            alloc,
+            shape.limit,
+            shape.guard_interval,
+            park_length,
+            shape.slots,
+        )?;
+        Ok(Slabs { lists, live: 0 })
+    }
+
+    /// How many slots are live.
+    pub fn live(&self) -> usize
+        ensures { result ≡ self.now.live }
+    {
+        self.live
     }
 
     /// Where the next block comes from.
-    pub fn source(&self, shape: &Shape) -> Source
-        ensures { Sources shape.now self.now result }
+    pub fn source(&self) -> Source
+        ensures { Sources self.now result }
     {
-        if let Some(slab) = self.front() {
-            return Source::Open(slab);
-        }
-        match self.unopened(shape) {
-            Some(slab) => Source::New(slab),
-            None => Source::Exhausted,
-        }
-    }
-
-    // The last partial slab; where there is none, the last empty one.
-    fn front(&self) -> Option<u64>
-        ensures { result ≡ front_of self.now }
-    {
-        match self.partial.last() {
-            Some(slab) => Some(*slab),
-            None => self.empty.last().copied(),
+        match self.lists.next_source() {
+            Place::Partial(slab) => Source::Open(slab),
+            Place::Empty(slab) => Source::Open(slab),
+            Place::Retired(slab) => Source::New(slab),
+            Place::Fresh(slab) => Source::New(slab),
+            Place::Exhausted => Source::Exhausted,
         }
     }
 
-    // The slab that is opened next.
-    fn unopened(&self, shape: &Shape) -> Option<u64>
-        ensures { result ≡ new_of shape.now self.now }
+    /// Whether a slab is open.
+    pub fn is_open(&self, slab: u64) -> bool
+        ensures { result ≡ open_at self.now.slabs slab }
     {
-        if let Some(slab) = self.shut.first() {
-            return Some(*slab);
-        }
-        let next = self.slabs.len() as u64;
-        if next < shape.limit { Some(next) } else { None }
+        self.lists.is_open(slab)
     }
 
-    /// What a slab is.
-    pub fn kind(&self, slab: usize) -> SlabKind
-        ensures { kind_named result ≡ kind_at self.now.slabs.items slab }
+    /// Whether a slab is open with all its slots available.
+    pub fn is_empty(&self, slab: u64) -> bool
+        ensures { result ≡ same_kind (kind_at self.now.slabs slab) Empty }
     {
-        match self.slabs.get(slab) {
-            Some(Some(slab)) => slab.kind(),
-            Some(None) | None => SlabKind::Neither,
+        match self.lists.meta(slab) {
+            Some(meta) => self.lists.is_open(slab) && meta.is_all_free(),
+            None => false,
+        }
+    }
+
+    /// How many slabs are in the empty list.
+    pub fn empty_count(&self) -> u64
+        ensures { result ≡ length self.now.lists.empty }
+    {
+        self.lists.empty_count()
+    }
+
+    /// The canary of a slab: 0 where it is not open.
+    pub fn canary_of(&self, slab: u64) -> u64
+        ensures { result ≡ canary_at self.now.slabs slab }
+    {
+        match self.lists.meta(slab) {
+            Some(meta) => meta.canary(),
+            None => 0,
         }
     }
 
     /// The first available slot of a slab from one on, and else from the first on.
-    pub fn first_from(&self, slab: usize, start: usize) -> Option<usize>
-        requires { IfSome (slab_in self.now.slabs.items slab) (λ b. start ≤ length b.slots) }
-        ensures { result ≡ first_at self.now.slabs.items slab start }
+    pub fn first_from(&self, slab: u64, start: u32) -> Option<u32>
+        requires { IsWithin self.now.slabs slab start }
+        ensures { result ≡ first_at self.now.slabs slab start }
     {
-        match self.slabs.get(slab) {
-            Some(Some(slab)) => slab.first_from(start),
-            Some(None) | None => None,
+        match self.lists.meta(slab) {
+            Some(meta) => meta.first_free_from(start),
+            None => None,
         }
     }
 
-    /// How a slot is used: None where its slab was never opened, or has no such slot.
-    fn use_of(&self, slot: Slot) -> Option<SlotUse>
-        ensures { result ≡ use_at self.now.slabs.items slot.slab slot.index }
+    // Whether a slot is live.
+    fn is_live(&self, slot: Slot) -> bool
+        requires { IsWithin self.now.slabs slot.slab slot.index }
+        ensures { result ≡ passes_at lives self.now.slabs slot.slab slot.index }
     {
-        match self.slabs.get(slot.slab) {
-            Some(Some(slab)) => slab.use_of(slot.index),
-            Some(None) | None => None,
+        match self.lists.meta(slot.slab) {
+            Some(meta) => matches!(meta.state(slot.index), SlotState::Live),
+            None => false,
+        }
+    }
+
+    /// Whether a slot was ever given.
+    pub fn was_given(&self, slot: Slot) -> bool
+        requires { IsWithin self.now.slabs slot.slab slot.index }
+        ensures { result ≡ passes_at was_given self.now.slabs slot.slab slot.index }
+    {
+        match self.lists.meta(slot.slab) {
+            Some(meta) => meta.was_given(slot.index),
+            None => false,
         }
     }
 
     /// What is said of a block that is given back.
     pub fn judge(&self, shape: &Shape, addr: u64) -> Verdict
-        requires { IsShape shape.now }
-        ensures { Judges shape.now self.now.slabs.items addr result }
+        requires shape { IsShape shape.now }
+        requires whole { AreWhole shape.now self.now.slabs }
+        ensures { Judges shape.now self.now.slabs addr result }
     {
         let Some((slab, index)) = place_of(shape, addr) else {
             return Verdict::Refused(Refusal::NoSlot);
         };
-        let slot = Slot {
-            slab: slab as usize,
-            index: index as usize,
-        };
+        let slot = Slot { slab, index };
         if self.is_live(slot) {
             Verdict::Live(slot)
         } else if self.was_given(slot) {
@@ -198,168 +214,141 @@ impl Slabs {
         }
     }
 
-    /// Whether a slab is open.
-    pub fn is_open(&self, slab: usize) -> bool
-        ensures { result ≡ open_at self.now.slabs.items slab }
+    /// Makes room for one more slab.
+    pub fn reserve(&mut self) -> Result<(), NoMemory>
+        ensures rest { self.new ≡ with_spare self.new.spare self.old }
+        ensures room { OnOk result (1 ≤ self.new.spare) }
     {
-        match self.slabs.get(slab) {
-            Some(Some(slab)) => slab.is_open(),
-            Some(None) | None => false,
+        self.lists.reserve_one()
+    }
+
+    // Sets the canary of a slab that was opened once.
+    fn set_canary(&mut self, slab: u64, canary: u64)
+        ensures slabs { self.new.slabs ≡ with_canary_at self.old.slabs slab canary }
+        ensures live { self.new.live ≡ self.old.live }
+        ensures lists { SameLists self.old self.new }
+    {
+        if let Some(meta) = self.lists.meta_mut(slab) {
+            meta.set_canary(canary);
         }
     }
 
-    /// The canary of a slab: 0 where it is not open.
-    pub fn canary_of(&self, slab: usize) -> u64
-        ensures { result ≡ canary_at self.now.slabs.items slab }
+    // Opens the first of the slabs that are shut, or a fresh one. It takes no memory.
+    fn take_new(&mut self, slab: u64)
+        requires source { Sources self.old (Source.New slab) }
+        requires there { is_some (slab_in (taken_of self.old) slab) ≡ true }
+        requires room { 1 ≤ self.old.spare }
+        ensures slabs { self.new.slabs ≡ with_open (taken_of self.old) slab (canary_at self.old.slabs slab) }
+        ensures live { self.new.live ≡ self.old.live }
+        ensures lists { self.new.lists ≡ opened_lists slab self.old.lists }
+        ensures parking { self.new.parking ≡ self.old.parking }
+        ensures numbers { self.new.numbers ≡ self.old.numbers }
     {
-        match self.slabs.get(slab) {
-            Some(Some(slab)) => slab.canary(),
-            Some(None) | None => 0,
+        match self.lists.next_source() {
+            Place::Retired(_) => self.lists.open_retired(slab),
+            Place::Fresh(_) => self.lists.open_fresh(slab),
+            Place::Partial(_) => unreachable!(),
+            Place::Empty(_) => unreachable!(),
+            Place::Exhausted => unreachable!(),
         }
     }
 
-    // Whether a slot is live.
-    fn is_live(&self, slot: Slot) -> bool
-        ensures { result ≡ passes_at lives self.now.slabs.items slot.slab slot.index }
+    /// Opens the slab that comes next, with a canary. It takes no memory.
+    pub fn open(&mut self, slab: u64, canary: u64)
+        requires source { Sources self.old (Source.New slab) }
+        requires there { is_some (slab_in (taken_of self.old) slab) ≡ true }
+        requires room { 1 ≤ self.old.spare }
+        ensures slabs { self.new.slabs ≡ with_open (taken_of self.old) slab canary }
+        ensures live { self.new.live ≡ self.old.live }
+        ensures lists { self.new.lists ≡ opened_lists slab self.old.lists }
+        ensures parking { self.new.parking ≡ self.old.parking }
+        ensures numbers { self.new.numbers ≡ self.old.numbers }
     {
-        match self.use_of(slot) {
-            Some(found) => found.is_live(),
-            None => false,
-        }
+        self.take_new(slab);
+        self.set_canary(slab, canary);
     }
 
-    /// Whether a slot was ever given.
-    pub fn was_given(&self, slot: Slot) -> bool
-        ensures { result ≡ passes_at was_given self.now.slabs.items slot.slab slot.index }
-    {
-        match self.use_of(slot) {
-            Some(found) => found.was_given(),
-            None => false,
-        }
-    }
-
-    /// Makes room in each list for the slabs that change with each live block and the next.
-    pub fn reserve(&mut self) -> Result<(), AllocError>
+    /// An available slot becomes live.
+    pub fn give(&mut self, slot: Slot)
+        requires available { IsAvailable self.old.slabs slot }
+        requires counted { self.old.live ≡ live_count self.old.slabs }
         requires few { self.old.live < 2 ^ 63 }
-        ensures same { SameSlabs self.old self.new }
-        ensures table { self.new.slabs ≡ self.old.slabs }
-        ensures room { OnOk result (HasRoom self.new (self.old.live + 2)) }
-        ensures kept { (n : ℕ) → HasRoom self.old n → HasRoom self.new n }
-    {
-        let more = self.live + 2;
-        self.partial.reserve(more)?;
-        self.empty.reserve(more)?;
-        self.shut.reserve(more)
-    }
-
-    /// Room for one more slab; and a fresh one, unless one that is shut comes first.
-    pub fn ready(&mut self, alloc: Global, slots: u32) -> Result<Option<Slab>, AllocError>
-        ensures same { self.new.slabs.items ≡ self.old.slabs.items }
-        ensures live { self.new.live ≡ self.old.live }
+        ensures slabs { self.new.slabs ≡ with_use self.old.slabs slot.slab slot.index Live }
         ensures lists { SameLists self.old self.new }
-        ensures slab { IfOk result (λ slab. slab ≡ ready_slab self.old.shut.items slots) }
-        ensures room { OnOk result (vec_len self.new.slabs + 2 ≤ vec_capacity self.new.slabs) }
+        ensures counted { self.new.live ≡ live_count self.new.slabs }
     {
-        self.slabs.reserve(2)?;
-        if self.shut.is_empty() {
-            Ok(Some(Slab::fresh(alloc, slots)?))
-        } else {
-            Ok(None)
+        self.live += 1;
+        if let Some(meta) = self.lists.meta_mut(slot.slab) {
+            meta.give(slot.index);
         }
     }
 
-    /// Takes the first slab of those that are shut, or puts the fresh one at the next number. It takes no
-    /// memory.
-    pub fn take_new(&mut self, shape: &Shape, slab: Option<Slab>)
-        requires guards_most { shape.now.guard_interval ≤ 8 }
-        requires room { vec_len self.old.slabs + 2 ≤ vec_capacity self.old.slabs }
-        requires ready { slab ≡ ready_slab self.old.shut.items shape.now.slots }
-        ensures slabs { self.new.slabs.items ≡ taken_uses shape.now self.old.shut.items self.old.slabs.items }
-        ensures live { self.new.live ≡ self.old.live }
-        ensures partial { self.new.partial ≡ self.old.partial }
-        ensures empty { self.new.empty ≡ self.old.empty }
-        ensures shut { self.new.shut.items ≡ still_shut self.old.shut.items }
-        ensures shut_room { (vec_capacity self.new.shut ≡ vec_capacity self.old.shut) × (vec_len self.new.shut ≤ vec_len self.old.shut) }
+    /// An available slot is never given again.
+    pub fn condemn(&mut self, slot: Slot)
+        requires available { IsAvailable self.old.slabs slot }
+        requires counted { self.old.live ≡ live_count self.old.slabs }
+        ensures slabs { self.new.slabs ≡ with_condemned self.old.slabs slot.slab slot.index }
+        ensures lists { SameLists self.old self.new }
+        ensures counted { self.new.live ≡ live_count self.new.slabs }
     {
-        let Some(slab) = slab else {
-            let _taken = self.shut.remove(0);
-            return;
-        };
-        self.slabs.push_reserved(Some(slab));
-        if shape.is_guard(self.slabs.len() as u64) {
-            self.slabs.push_reserved(None);
+        if let Some(meta) = self.lists.meta_mut(slot.slab) {
+            meta.condemn(slot.index);
         }
     }
 
-    /// Opens a slab.
-    pub fn open(&mut self, slab: usize, canary: u64)
-        requires there { is_some (slab_in self.old.slabs.items slab) ≡ true }
-        ensures slabs { self.new.slabs.items ≡ with_open self.old.slabs.items slab canary }
-        ensures live { self.new.live ≡ self.old.live }
+    /// A live slot goes into quarantine.
+    pub fn hold(&mut self, slot: Slot)
+        requires live { use_at self.old.slabs slot.slab slot.index ≡ Some Live }
+        requires counted { self.old.live ≡ live_count self.old.slabs }
+        ensures slabs { self.new.slabs ≡ with_use self.old.slabs slot.slab slot.index Held }
         ensures lists { SameLists self.old self.new }
+        ensures counted { self.new.live ≡ live_count self.new.slabs }
     {
-        match &mut self.slabs[slab] {
-            Some(slab) => slab.open(canary),
-            None => unreachable!(),
+        self.live -= 1;
+        if let Some(meta) = self.lists.meta_mut(slot.slab) {
+            meta.hold(slot.index);
         }
     }
 
-    /// Shuts a slab.
-    pub fn close(&mut self, slab: usize)
-        requires there { is_some (slab_in self.old.slabs.items slab) ≡ true }
-        ensures slabs { self.new.slabs.items ≡ with_shut self.old.slabs.items slab }
-        ensures live { self.new.live ≡ self.old.live }
+    /// A slot in quarantine is available again.
+    pub fn release(&mut self, slot: Slot)
+        requires held { use_at self.old.slabs slot.slab slot.index ≡ Some Held }
+        requires counted { self.old.live ≡ live_count self.old.slabs }
+        ensures slabs { self.new.slabs ≡ with_use self.old.slabs slot.slab slot.index Free }
         ensures lists { SameLists self.old self.new }
+        ensures counted { self.new.live ≡ live_count self.new.slabs }
     {
-        match &mut self.slabs[slab] {
-            Some(slab) => slab.shut(),
-            None => unreachable!(),
+        if let Some(meta) = self.lists.meta_mut(slot.slab) {
+            meta.release(slot.index);
         }
     }
 
-    /// A slab was `before` and is `after`: it joins or leaves the lists. That takes no memory.
-    pub fn relist(&mut self, slab: u64, before: SlabKind, after: SlabKind)
-        requires partial { vec_len self.old.partial < vec_capacity self.old.partial }
-        requires empty { vec_len self.old.empty < vec_capacity self.old.empty }
-        ensures { Relists slab (kind_named before) (kind_named after) self.old self.new }
+    /// Puts an open slab of which a slot was given or condemned into the list of its kind.
+    pub fn after_take(&mut self, slab: u64)
+        requires { open_at self.old.slabs slab ≡ true }
+        ensures same { SameSlots self.old self.new }
+        ensures lists { self.new.lists ≡ placed (list_of (kind_at self.old.slabs slab)) slab self.old.lists }
     {
-        relist(&mut self.partial, SlabKind::Partial, slab, before, after);
-        relist(&mut self.empty, SlabKind::Empty, slab, before, after);
+        self.lists.after_take(slab);
     }
 
-    /// A slot is used otherwise.
-    pub fn set(&mut self, slot: Slot, new: SlotUse)
-        requires there { is_some (use_at self.old.slabs.items slot.slab slot.index) ≡ true }
-        requires counted { self.old.live ≡ live_count self.old.slabs.items }
-        requires few { self.old.live < 2 ^ 63 }
-        ensures slabs { self.new.slabs.items ≡ with_use self.old.slabs.items slot.slab slot.index new }
-        ensures lists { SameLists self.old self.new }
-        ensures counted { self.new.live ≡ live_count self.new.slabs.items }
+    /// Puts an open slab of which a slot was released into the list of its kind.
+    pub fn after_release(&mut self, slab: u64)
+        requires { open_at self.old.slabs slab ≡ true }
+        ensures same { SameSlots self.old self.new }
+        ensures lists { self.new.lists ≡ placed (list_of (kind_at self.old.slabs slab)) slab self.old.lists }
     {
-        let live = self.live_after(slot, new);
-        self.put(slot, new);
-        self.live = live;
+        self.lists.after_release(slab);
     }
 
-    // How many slots are live once a slot is used otherwise.
-    fn live_after(&self, slot: Slot, new: SlotUse) -> usize
-        requires there { is_some (use_at self.now.slabs.items slot.slab slot.index) ≡ true }
-        requires counted { self.now.live ≡ live_count self.now.slabs.items }
-        requires few { self.now.live < 2 ^ 63 }
-        ensures { result ≡ live_count (with_use self.now.slabs.items slot.slab slot.index new) }
+    /// Retires an open slab to a parking place, and answers the slab that stood there.
+    pub fn retire(&mut self, slab: u64, park: u32) -> Option<u64>
+        requires open { open_at self.old.slabs slab ≡ true }
+        requires park { park < length self.old.parking }
+        ensures unparked { result ≡ slice_index_or self.old.parking park None }
+        ensures retired { Parks slab park self.old self.new }
     {
-        self.live - usize::from(self.is_live(slot)) + usize::from(new.is_live())
-    }
-
-    // Changes the use of a slot, and counts nothing.
-    fn put(&mut self, slot: Slot, new: SlotUse)
-        requires { is_some (use_at self.old.slabs.items slot.slab slot.index) ≡ true }
-        ensures slabs { self.new.slabs.items ≡ with_use self.old.slabs.items slot.slab slot.index new }
-        ensures lists { SameLists self.old self.new }
-    {
-        match &mut self.slabs[slot.slab] {
-            Some(slab) => slab.set(slot.index, new),
-            None => unreachable!(),
-        }
+        self.set_canary(slab, 0);
+        self.lists.retire(slab, park)
     }
 }

@@ -6,5 +6,5 @@ pub loop-at-preserved : goal.loop-at-preserved
 loop-at-preserved c = record {
   later = omega (arith, c.loop-at.invariant.later, c.slab_end-at.ensures.later);
   same = c.loop-at.invariant.same
-      ∙ trap_on c.args.shape.now c.args.slabs.now.slabs.items c.loop-at.at (c.args.addr + c.args.len) c.slab_end-at.result c.requires.shape (sym c.is_accessible.ensures ∙ c.if-not-is_accessible.false) c.slab_end-at.ensures.value;
+      ∙ trap_on c.args.shape.now c.args.slabs.now.slabs c.loop-at.at (c.args.addr + c.args.len) c.slab_end-at.result c.requires.shape (sym c.is_accessible.ensures ∙ c.if-not-is_accessible.false) c.slab_end-at.ensures.value;
 }

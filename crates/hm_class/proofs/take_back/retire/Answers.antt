@@ -1,10 +1,9 @@
-use Rattle.hm_class.proofs.Serving.{shut_counted}
+use Rattle.std.proofs.Common.{◌∙◌, sym, ap}
+use Rattle.hm_class.specs.Uses.{live_count}
+use Rattle.hm_class.proofs.Serving.{shut_live}
 use Rattle.hm_class.proofs.take_back.retire.Goals as goal
 
-pub returns-in-Some-clause-counted : goal.returns-in-Some-clause-counted
-returns-in-Some-clause-counted g c =
-    shut_counted c.args.slabs.now c.close.new.self c.relist-2.new.self c.args.slab c.requires.there c.close.ensures.slabs c.close.ensures.live c.relist-2.ensures.slabs c.relist-2.ensures.live c.requires.counted
-
-pub returns-in_default-clause-counted : goal.returns-in_default-clause-counted
-returns-in_default-clause-counted g c =
-    shut_counted c.args.slabs.now c.close.new.self c.relist-2.new.self c.args.slab c.requires.there c.close.ensures.slabs c.close.ensures.live c.relist-2.ensures.slabs c.relist-2.ensures.live c.requires.counted
+pub returns-clause-counted : goal.returns-clause-counted
+returns-clause-counted g c =
+    let parks = c.retire-unparked.ensures.retired in
+    parks.live ∙ c.requires.counted ∙ sym (ap live_count parks.slabs ∙ shut_live c.args.slabs.now.slabs c.args.slab c.requires.«open»)

@@ -1,4 +1,4 @@
-use Rattle.std.proofs.Common.{◌≡◌, ◌∙◌, ℕ, ◌+◌, ◌≤◌, Bool, List, [], ◌∷◌, ◌++◌, ap, refl, subst, sym, arith}
+use Rattle.std.proofs.Common.{◌≡◌, ◌∙◌, ℕ, ◌+◌, ◌≤◌, Bool, Option, List, [], ◌∷◌, ◌++◌, ap, refl, subst, sym, arith}
 use Rattle.hm_model.specs.declared.entry.Call.TheVariants as call
 use Rattle.hm_model.specs.declared.entry.Entry.{Entry}
 use Rattle.hm_model.specs.declared.entry.Reply.{Reply}
@@ -9,40 +9,35 @@ use Rattle.hm_class.specs.Region.{Region}
 use Rattle.hm_sizes.specs.Classes.{class_size}
 use Rattle.hm_sizes.specs.Shapes.{class_size_of}
 use Rattle.hm_sizes.specs.Sizes.{raised}
-use Rattle.hm_class.specs.Rooms.{HasRoom}
 use Rattle.hm_choice.specs.Stream.{Words}
 use Rattle.hm_class.proofs.Allots.{kept_allotted, found_counted, same_slabs}
 use Rattle.hm_class.proofs.Entries.{kept_moved, asks_of, added_of, appended, region_of, reply_of_region}
-use Rattle.hm_class.proofs.Roomy.{room_less, found_room, found_live, served_room, served_live}
+use Rattle.hm_class.proofs.LiveCounts.{found_live, served_live, found_parking, served_parking}
 use Rattle.hm_class.proofs.Served.{can_open, new_apart, can_serve}
 use Rattle.hm_class.proofs.heap.ClassHeap.allot.Goals as goal
 
 pub find_slab-requires-clause-opens : goal.find_slab-requires-clause-opens
 find_slab-requires-clause-opens g c κs within =
     let h = c.self.inside in
-    let k₀ = c.reserve-2.new.self in
-    let kept₀ = kept_moved (g.P.Pages.told h.pages) (g.P.Pages.runs h.pages) (g.P.Pages.faults h.pages) h.config h.number h.arena h.shape h.entries.items h.slabs h.stream h.quarantine h.parking.items c.self.invariant.0 (g.P.Pages.told h.pages) (g.P.Pages.runs h.pages) (g.P.Pages.faults h.pages) k₀ refl (λ y. refl) refl c.reserve-2.ensures.same in
-    can_open (g.P.Pages.told h.pages) (g.P.Pages.runs h.pages) (g.P.Pages.faults h.pages) h.config h.number h.arena h.shape h.entries.items k₀ h.stream h.quarantine h.parking.items kept₀
+    let kept₀ = c.self.invariant.0 in
+    can_open (g.P.Pages.told h.pages) (g.P.Pages.runs h.pages) (g.P.Pages.faults h.pages) h.config h.number h.arena h.shape h.entries.items h.slabs h.stream h.quarantine h.slabs.parking kept₀
 
 pub find_slab-requires-clause-apart : goal.find_slab-requires-clause-apart
 find_slab-requires-clause-apart g c κs within =
     let h = c.self.inside in
-    let k₀ = c.reserve-2.new.self in
-    let kept₀ = kept_moved (g.P.Pages.told h.pages) (g.P.Pages.runs h.pages) (g.P.Pages.faults h.pages) h.config h.number h.arena h.shape h.entries.items h.slabs h.stream h.quarantine h.parking.items c.self.invariant.0 (g.P.Pages.told h.pages) (g.P.Pages.runs h.pages) (g.P.Pages.faults h.pages) k₀ refl (λ y. refl) refl c.reserve-2.ensures.same in
-    new_apart (g.P.Pages.told h.pages) (g.P.Pages.runs h.pages) (g.P.Pages.faults h.pages) h.config h.number h.arena h.shape h.entries.items k₀ h.stream h.quarantine h.parking.items kept₀
+    let kept₀ = c.self.invariant.0 in
+    new_apart (g.P.Pages.told h.pages) (g.P.Pages.runs h.pages) (g.P.Pages.faults h.pages) h.config h.number h.arena h.shape h.entries.items h.slabs h.stream h.quarantine h.slabs.parking kept₀
 
 pub serve-event-requires-clause-ready : goal.serve-event-requires-clause-ready
 serve-event-requires-clause-ready g c κs within =
     let h = c.self.inside in
-    let k₀ = c.reserve-2.new.self in
-    let kept₀ = kept_moved (g.P.Pages.told h.pages) (g.P.Pages.runs h.pages) (g.P.Pages.faults h.pages) h.config h.number h.arena h.shape h.entries.items h.slabs h.stream h.quarantine h.parking.items c.self.invariant.0 (g.P.Pages.told h.pages) (g.P.Pages.runs h.pages) (g.P.Pages.faults h.pages) k₀ refl (λ y. refl) refl c.reserve-2.ensures.same in
-    can_serve (g.P.Pages.told h.pages) (g.P.Pages.runs h.pages) (g.P.Pages.faults h.pages) h.config h.number h.arena h.shape h.entries.items k₀ h.stream h.quarantine h.parking.items kept₀ g.P.Pages h.pages c.find_slab.new.pages c.find_slab.new.slabs c.find_slab.new.stream c.in_ok-next.next c.in_ok-next.ensures.found
+    let kept₀ = c.self.invariant.0 in
+    can_serve (g.P.Pages.told h.pages) (g.P.Pages.runs h.pages) (g.P.Pages.faults h.pages) h.config h.number h.arena h.shape h.entries.items h.slabs h.stream h.quarantine h.slabs.parking kept₀ g.P.Pages h.pages c.find_slab.new.pages c.find_slab.new.slabs c.find_slab.new.stream c.in_ok-next.next c.in_ok-next.ensures.found
 
 pub invariant_of-self-2 : goal.invariant_of-self-2
 invariant_of-self-2 g c =
     let h = c.self.inside in
-    let k₀ = c.reserve-2.new.self in
-    let kept₀ = kept_moved (g.P.Pages.told h.pages) (g.P.Pages.runs h.pages) (g.P.Pages.faults h.pages) h.config h.number h.arena h.shape h.entries.items h.slabs h.stream h.quarantine h.parking.items c.self.invariant.0 (g.P.Pages.told h.pages) (g.P.Pages.runs h.pages) (g.P.Pages.faults h.pages) k₀ refl (λ y. refl) refl c.reserve-2.ensures.same in
+    let kept₀ = c.self.invariant.0 in
     let told = g.P.Pages.told in
     let runs = g.P.Pages.runs in
     let faults = g.P.Pages.faults in
@@ -62,18 +57,19 @@ invariant_of-self-2 g c =
     ∙ ap (λ (m : ℕ). entry_of c.args.who (call.Allot c.args.asked 1) (reply_of event.outcome) event.choices event.draws m c.faults-now.result) c.faults-before.ensures
     ∙ ap (λ (m : ℕ). entry_of c.args.who (call.Allot c.args.asked 1) (reply_of event.outcome) event.choices event.draws (faults h.pages) m) c.faults-now.ensures) in
     let asks : raised c.args.asked ≤ class_size_of h.shape = asks_of h.config h.number h.arena h.shape (raised c.args.asked) c.self.invariant.0.served (subst (λ (r : Region _). raised c.args.asked ≤ class_size r.class.0) (sym c.self.view_is) c.requires) in
-    let can = can_serve (g.P.Pages.told h.pages) (g.P.Pages.runs h.pages) (g.P.Pages.faults h.pages) h.config h.number h.arena h.shape h.entries.items k₀ h.stream h.quarantine h.parking.items kept₀ g.P.Pages h.pages mid k₁ stream₁ n found in
-    let live₁ = found_live g.P.Pages h.shape k₀ k₁ k' h.pages mid now h.stream stream₁ stream' n found in
-    let more = served_live g.P.Pages h.shape k₀ k₁ k' h.pages mid now h.stream stream₁ stream' n event kept₀.served.shape can c.serve-event.ensures.served (found_counted g.P.Pages h.shape k₀ c.find_slab.new.slabs h.pages c.find_slab.new.pages h.stream c.find_slab.new.stream (can_open (g.P.Pages.told h.pages) (g.P.Pages.runs h.pages) (g.P.Pages.faults h.pages) h.config h.number h.arena h.shape h.entries.items k₀ h.stream h.quarantine h.parking.items kept₀) kept₀.follows.counted c.in_ok-next.next c.in_ok-next.ensures.found) c.serve-event.ensures.counted in
-    let room₁ = found_room g.P.Pages h.shape k₀ k₁ k' h.pages mid now h.stream stream₁ stream' n (h.slabs.live + 2) found c.in_ok-reserve-2.ensures.room in
-    let room' = served_room g.P.Pages h.shape k₀ k₁ k' h.pages mid now h.stream stream₁ stream' n event (h.slabs.live + 1) c.serve-event.ensures.served (room_less k₁ (h.slabs.live + 2) ((h.slabs.live + 1) + 1) (omega arith) room₁) in
-    let at_most : k'.live ≤ h.slabs.live + 1 = omega (arith, more, live₁, c.reserve-2.ensures.same.live) in (
-      subst (λ (b : Bool). IsKept b (runs now) (faults now) h.config h.number h.arena h.shape c.push_reserved.new.self.items k' stream' h.quarantine h.parking.items) (sym (c.serve-event.ensures.told ∙ c.find_slab.ensures.told))
-          (subst (λ (l : List Entry). IsKept (told h.pages) (runs now) (faults now) h.config h.number h.arena h.shape l k' stream' h.quarantine h.parking.items) (sym all)
-          (kept_allotted (g.P.Pages.told h.pages) (g.P.Pages.runs h.pages) (g.P.Pages.faults h.pages) h.config h.number h.arena h.shape h.entries.items k₀ h.stream h.quarantine h.parking.items kept₀ g.P.Pages h.pages mid now k₁ k' stream₁ stream' c.args.who c.args.asked refl c.find_slab.ensures.told refl refl c.serve-event.ensures.count asks c.serve-event.ensures.counted
-          n event found c.serve-event.ensures.served)),
+    let can = can_serve (g.P.Pages.told h.pages) (g.P.Pages.runs h.pages) (g.P.Pages.faults h.pages) h.config h.number h.arena h.shape h.entries.items h.slabs h.stream h.quarantine h.slabs.parking kept₀ g.P.Pages h.pages mid k₁ stream₁ n found in
+    let live₁ = found_live g.P.Pages h.shape h.slabs k₁ k' h.pages mid now h.stream stream₁ stream' n found in
+    let more = served_live g.P.Pages h.shape h.slabs k₁ k' h.pages mid now h.stream stream₁ stream' n event kept₀.served.shape can c.serve-event.ensures.served (found_counted g.P.Pages h.shape h.slabs c.find_slab.new.slabs h.pages c.find_slab.new.pages h.stream c.find_slab.new.stream (can_open (g.P.Pages.told h.pages) (g.P.Pages.runs h.pages) (g.P.Pages.faults h.pages) h.config h.number h.arena h.shape h.entries.items h.slabs h.stream h.quarantine h.slabs.parking kept₀) kept₀.follows.counted c.in_ok-next.next c.in_ok-next.ensures.found) c.serve-event.ensures.counted in
+    let at_most : k'.live ≤ h.slabs.live + 1 = omega (arith, more, live₁) in
+    let places : k'.parking ≡ h.slabs.parking =
+    served_parking g.P.Pages h.shape h.slabs k₁ k' h.pages mid now h.stream stream₁ stream' n event c.serve-event.ensures.served
+    ∙ found_parking g.P.Pages h.shape h.slabs k₁ k' h.pages mid now h.stream stream₁ stream' n found in (
+      subst (λ (l : List (Option ℕ)). IsKept (told now) (runs now) (faults now) h.config h.number h.arena h.shape c.push_reserved.new.self.items k' stream' h.quarantine l) (sym places)
+          (subst (λ (b : Bool). IsKept b (runs now) (faults now) h.config h.number h.arena h.shape c.push_reserved.new.self.items k' stream' h.quarantine h.slabs.parking) (sym (c.serve-event.ensures.told ∙ c.find_slab.ensures.told))
+          (subst (λ (l : List Entry). IsKept (told h.pages) (runs now) (faults now) h.config h.number h.arena h.shape l k' stream' h.quarantine h.slabs.parking) (sym all)
+          (kept_allotted (g.P.Pages.told h.pages) (g.P.Pages.runs h.pages) (g.P.Pages.faults h.pages) h.config h.number h.arena h.shape h.entries.items h.slabs h.stream h.quarantine h.slabs.parking kept₀ g.P.Pages h.pages mid now k₁ k' stream₁ stream' c.args.who c.args.asked refl c.find_slab.ensures.told refl refl c.serve-event.ensures.count asks c.serve-event.ensures.counted
+          n event found c.serve-event.ensures.served))),
       omega (arith, at_most, c.in_ok-reserve.ensures.ok, c.reserve.ensures.len, c.push_reserved.ensures.len, c.push_reserved.ensures.capacity),
-      room_less k' (h.slabs.live + 1) k'.live at_most room',
     )
 
 pub returns-clause-added : goal.returns-clause-added
@@ -93,53 +89,30 @@ returns-clause-region g c =
 
 pub returns-in_err-reserve-clause-region : goal.returns-in_err-reserve-clause-region
 returns-in_err-reserve-clause-region g c = region_of g.P.Pages _ c.self.inside.shape _ _ _ _ refl
-    (let h = c.self.inside in subst (λ (l : List Entry). IsKept (g.P.Pages.told h.pages) (g.P.Pages.runs h.pages) (g.P.Pages.faults h.pages) h.config h.number h.arena h.shape l h.slabs h.stream h.quarantine h.parking.items) (sym c.reserve.ensures.items) c.self.invariant.0)
+    (let h = c.self.inside in subst (λ (l : List Entry). IsKept (g.P.Pages.told h.pages) (g.P.Pages.runs h.pages) (g.P.Pages.faults h.pages) h.config h.number h.arena h.shape l h.slabs h.stream h.quarantine h.slabs.parking) (sym c.reserve.ensures.items) c.self.invariant.0)
     (omega (arith, c.self.invariant.1, c.reserve.ensures.len, c.reserve.ensures.capacity))
-
-pub serve-event-requires-clause-room : goal.serve-event-requires-clause-room
-serve-event-requires-clause-room g c κs within =
-    let h = c.self.inside in
-    let k₁ = c.find_slab.new.slabs in
-    room_less k₁ (h.slabs.live + 2) 1 (omega arith) (found_room g.P.Pages h.shape c.reserve-2.new.self k₁ k₁ h.pages c.find_slab.new.pages c.find_slab.new.pages h.stream c.find_slab.new.stream c.find_slab.new.stream c.in_ok-next.next (h.slabs.live + 2) c.in_ok-next.ensures.found c.in_ok-reserve-2.ensures.room)
 
 pub serve-event-requires-clause-counted : goal.serve-event-requires-clause-counted
 serve-event-requires-clause-counted g c κs within =
     let h = c.self.inside in
-    let k₀ = c.reserve-2.new.self in
-    let kept₀ = kept_moved (g.P.Pages.told h.pages) (g.P.Pages.runs h.pages) (g.P.Pages.faults h.pages) h.config h.number h.arena h.shape h.entries.items h.slabs h.stream h.quarantine h.parking.items c.self.invariant.0 (g.P.Pages.told h.pages) (g.P.Pages.runs h.pages) (g.P.Pages.faults h.pages) k₀ refl (λ y. refl) refl c.reserve-2.ensures.same in
-    found_counted g.P.Pages h.shape k₀ c.find_slab.new.slabs h.pages c.find_slab.new.pages h.stream c.find_slab.new.stream (can_open (g.P.Pages.told h.pages) (g.P.Pages.runs h.pages) (g.P.Pages.faults h.pages) h.config h.number h.arena h.shape h.entries.items k₀ h.stream h.quarantine h.parking.items kept₀) kept₀.follows.counted c.in_ok-next.next c.in_ok-next.ensures.found
-
-pub invariant_of-self-in_err-reserve-2 : goal.invariant_of-self-in_err-reserve-2
-invariant_of-self-in_err-reserve-2 g c =
-    let h = c.self.inside in
-    let k₀ = c.reserve-2.new.self in
-    let kept₀ = kept_moved (g.P.Pages.told h.pages) (g.P.Pages.runs h.pages) (g.P.Pages.faults h.pages) h.config h.number h.arena h.shape h.entries.items h.slabs h.stream h.quarantine h.parking.items c.self.invariant.0 (g.P.Pages.told h.pages) (g.P.Pages.runs h.pages) (g.P.Pages.faults h.pages) k₀ refl (λ y. refl) refl c.reserve-2.ensures.same in (
-      subst (λ (l : List Entry). IsKept (g.P.Pages.told h.pages) (g.P.Pages.runs h.pages) (g.P.Pages.faults h.pages) h.config h.number h.arena h.shape l k₀ h.stream h.quarantine h.parking.items) (sym c.reserve.ensures.items) kept₀,
-      omega (arith, c.self.invariant.1, c.reserve.ensures.len, c.reserve.ensures.capacity, c.reserve-2.ensures.same.live),
-      c.reserve-2.ensures.kept k₀.live (subst (λ (n : ℕ). HasRoom h.slabs n) (sym c.reserve-2.ensures.same.live) c.self.invariant.2),
-    )
-
-pub returns-in_err-reserve-2-clause-region : goal.returns-in_err-reserve-2-clause-region
-returns-in_err-reserve-2-clause-region g c =
-    let kept = invariant_of-self-in_err-reserve-2 g c in
-    region_of g.P.Pages _ c.self.inside.shape _ _ _ _ refl kept.0 kept.1
+    let kept₀ = c.self.invariant.0 in
+    found_counted g.P.Pages h.shape h.slabs c.find_slab.new.slabs h.pages c.find_slab.new.pages h.stream c.find_slab.new.stream (can_open (g.P.Pages.told h.pages) (g.P.Pages.runs h.pages) (g.P.Pages.faults h.pages) h.config h.number h.arena h.shape h.entries.items h.slabs h.stream h.quarantine h.slabs.parking kept₀) kept₀.follows.counted c.in_ok-next.next c.in_ok-next.ensures.found
 
 pub returns-in_err-next-clause-region : goal.returns-in_err-next-clause-region
 returns-in_err-next-clause-region g c =
     let h = c.self.inside in
-    let k₀ = c.reserve-2.new.self in
-    let kept₀ = kept_moved (g.P.Pages.told h.pages) (g.P.Pages.runs h.pages) (g.P.Pages.faults h.pages) h.config h.number h.arena h.shape h.entries.items h.slabs h.stream h.quarantine h.parking.items c.self.invariant.0 (g.P.Pages.told h.pages) (g.P.Pages.runs h.pages) (g.P.Pages.faults h.pages) k₀ refl (λ y. refl) refl c.reserve-2.ensures.same in
+    let kept₀ = c.self.invariant.0 in
     let q = c.in_err-next.ensures.memory in
     let k₁ = c.find_slab.new.slabs in
     let mid = c.find_slab.new.pages in
-    let kept₁ = kept_moved (g.P.Pages.told h.pages) (g.P.Pages.runs h.pages) (g.P.Pages.faults h.pages) h.config h.number h.arena h.shape h.entries.items k₀ h.stream h.quarantine h.parking.items kept₀ (g.P.Pages.told mid) (g.P.Pages.runs mid) (g.P.Pages.faults mid) k₁ c.find_slab.ensures.told (λ y. q.0.runs_same y) q.1
-    (same_slabs g.P.Pages k₀ k₁ h.pages mid h.stream c.find_slab.new.stream q.0) in
-    region_of g.P.Pages _ h.shape k₁ c.find_slab.new.stream h.quarantine h.parking.items refl
-    (subst (λ (l : List Entry). IsKept (g.P.Pages.told mid) (g.P.Pages.runs mid) (g.P.Pages.faults mid) h.config h.number h.arena h.shape l k₁ c.find_slab.new.stream h.quarantine h.parking.items) (sym c.reserve.ensures.items)
-    (subst (λ (x : Words). IsKept (g.P.Pages.told mid) (g.P.Pages.runs mid) (g.P.Pages.faults mid) h.config h.number h.arena h.shape h.entries.items k₁ x h.quarantine h.parking.items) (sym q.0.stream_same) kept₁))
-    (omega (arith, c.self.invariant.1, c.reserve.ensures.len, c.reserve.ensures.capacity, c.reserve-2.ensures.same.live, q.0.live))
+    let kept₁ = kept_moved (g.P.Pages.told h.pages) (g.P.Pages.runs h.pages) (g.P.Pages.faults h.pages) h.config h.number h.arena h.shape h.entries.items h.slabs h.stream h.quarantine h.slabs.parking kept₀ (g.P.Pages.told mid) (g.P.Pages.runs mid) (g.P.Pages.faults mid) k₁ c.find_slab.ensures.told (λ y. q.0.runs_same y) q.1
+    (same_slabs g.P.Pages h.slabs k₁ h.pages mid h.stream c.find_slab.new.stream q.0) in
+    region_of g.P.Pages _ h.shape k₁ c.find_slab.new.stream h.quarantine h.slabs.parking refl
+    (subst (λ (l : List Entry). IsKept (g.P.Pages.told mid) (g.P.Pages.runs mid) (g.P.Pages.faults mid) h.config h.number h.arena h.shape l k₁ c.find_slab.new.stream h.quarantine h.slabs.parking) (sym c.reserve.ensures.items)
+    (subst (λ (x : Words). IsKept (g.P.Pages.told mid) (g.P.Pages.runs mid) (g.P.Pages.faults mid) h.config h.number h.arena h.shape h.entries.items k₁ x h.quarantine h.slabs.parking) (sym q.0.stream_same) kept₁))
+    (omega (arith, c.self.invariant.1, c.reserve.ensures.len, c.reserve.ensures.capacity, q.0.live))
 
 pub returns-clause-replies : goal.returns-clause-replies
 returns-clause-replies g c =
     let h = c.self.inside in
-    reply_of_region g.P.Pages _ c.args.self.now h.shape h.slabs h.stream h.quarantine h.parking.items (call.Allot c.args.asked 1) (reply_of c.serve-event.result.outcome) c.reply.result c.self.view_is refl c.self.invariant.0 c.reply.ensures c.serve-event.ensures.replies
+    reply_of_region g.P.Pages _ c.args.self.now h.shape h.slabs h.stream h.quarantine h.slabs.parking (call.Allot c.args.asked 1) (reply_of c.serve-event.result.outcome) c.reply.result c.self.view_is refl c.self.invariant.0 c.reply.ensures c.serve-event.ensures.replies

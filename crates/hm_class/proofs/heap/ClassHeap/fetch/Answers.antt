@@ -16,11 +16,10 @@ invariant_of-self-2 g c =
     let f = c.faults-faults.result in
     let e = entry_of c.args.who (call.Fetch c.args.addr c.args.len) c.in_ok-reply.reply no_choices no_words f f in
     let all : c.push_reserved.new.self.items ≡ h.entries.items ++ e ∷ [] = appended _ _ _ _ _ c.push_reserved.ensures.items c.reserve.ensures.items c.plain.ensures in (
-      subst (λ (l : List Entry). IsKept (g.P.Pages.told h.pages) (g.P.Pages.runs h.pages) (g.P.Pages.faults h.pages) h.config h.number h.arena h.shape l h.slabs h.stream h.quarantine h.parking.items) (sym all)
-          (kept_fetched (g.P.Pages.told h.pages) (g.P.Pages.runs h.pages) (g.P.Pages.faults h.pages) h.config h.number h.arena h.shape h.entries.items h.slabs h.stream h.quarantine h.parking.items c.self.invariant.0
+      subst (λ (l : List Entry). IsKept (g.P.Pages.told h.pages) (g.P.Pages.runs h.pages) (g.P.Pages.faults h.pages) h.config h.number h.arena h.shape l h.slabs h.stream h.quarantine h.slabs.parking) (sym all)
+          (kept_fetched (g.P.Pages.told h.pages) (g.P.Pages.runs h.pages) (g.P.Pages.faults h.pages) h.config h.number h.arena h.shape h.entries.items h.slabs h.stream h.quarantine h.slabs.parking c.self.invariant.0
           c.args.who c.args.addr f c.faults-faults.ensures c.requires.below c.args.len c.in_ok-fetched.fetched c.in_ok-reply.reply c.requires.some c.requires.most c.in_ok-fetched.ensures.fetched c.in_ok-reply.ensures.1),
-      omega (arith, c.self.invariant.1, c.in_ok-reserve.ensures.ok, c.reserve.ensures.len, c.push_reserved.ensures.len, c.push_reserved.ensures.capacity),
-      c.self.invariant.2,
+      omega (arith, c.self.invariant.1, c.live.ensures, c.in_ok-reserve.ensures.ok, c.reserve.ensures.len, c.push_reserved.ensures.len, c.push_reserved.ensures.capacity),
     )
 
 pub returns-clause-added : goal.returns-clause-added
@@ -39,17 +38,17 @@ returns-clause-region g c =
 
 pub returns-in_err-reserve-clause-region : goal.returns-in_err-reserve-clause-region
 returns-in_err-reserve-clause-region g c = region_of g.P.Pages _ c.self.inside.shape _ _ _ _ refl
-    (let h = c.self.inside in subst (λ (l : List Entry). IsKept (g.P.Pages.told h.pages) (g.P.Pages.runs h.pages) (g.P.Pages.faults h.pages) h.config h.number h.arena h.shape l h.slabs h.stream h.quarantine h.parking.items) (sym c.reserve.ensures.items) c.self.invariant.0)
+    (let h = c.self.inside in subst (λ (l : List Entry). IsKept (g.P.Pages.told h.pages) (g.P.Pages.runs h.pages) (g.P.Pages.faults h.pages) h.config h.number h.arena h.shape l h.slabs h.stream h.quarantine h.slabs.parking) (sym c.reserve.ensures.items) c.self.invariant.0)
     (omega (arith, c.self.invariant.1, c.reserve.ensures.len, c.reserve.ensures.capacity))
 
 pub returns-in_err-fetched-clause-region : goal.returns-in_err-fetched-clause-region
 returns-in_err-fetched-clause-region g c = region_of g.P.Pages _ c.self.inside.shape _ _ _ _ refl
-    (let h = c.self.inside in subst (λ (l : List Entry). IsKept (g.P.Pages.told h.pages) (g.P.Pages.runs h.pages) (g.P.Pages.faults h.pages) h.config h.number h.arena h.shape l h.slabs h.stream h.quarantine h.parking.items) (sym c.reserve.ensures.items) c.self.invariant.0)
+    (let h = c.self.inside in subst (λ (l : List Entry). IsKept (g.P.Pages.told h.pages) (g.P.Pages.runs h.pages) (g.P.Pages.faults h.pages) h.config h.number h.arena h.shape l h.slabs h.stream h.quarantine h.slabs.parking) (sym c.reserve.ensures.items) c.self.invariant.0)
     (omega (arith, c.self.invariant.1, c.reserve.ensures.len, c.reserve.ensures.capacity))
 
 pub returns-in_err-reply-clause-region : goal.returns-in_err-reply-clause-region
 returns-in_err-reply-clause-region g c = region_of g.P.Pages _ c.self.inside.shape _ _ _ _ refl
-    (let h = c.self.inside in subst (λ (l : List Entry). IsKept (g.P.Pages.told h.pages) (g.P.Pages.runs h.pages) (g.P.Pages.faults h.pages) h.config h.number h.arena h.shape l h.slabs h.stream h.quarantine h.parking.items) (sym c.reserve.ensures.items) c.self.invariant.0)
+    (let h = c.self.inside in subst (λ (l : List Entry). IsKept (g.P.Pages.told h.pages) (g.P.Pages.runs h.pages) (g.P.Pages.faults h.pages) h.config h.number h.arena h.shape l h.slabs h.stream h.quarantine h.slabs.parking) (sym c.reserve.ensures.items) c.self.invariant.0)
     (omega (arith, c.self.invariant.1, c.reserve.ensures.len, c.reserve.ensures.capacity))
 
 pub returns-clause-replies : goal.returns-clause-replies
@@ -62,5 +61,5 @@ returns-clause-trap g c =
     let h = c.self.inside in
     subst (λ (r : Reply). TrapsIn g.P.Pages.told c.args.self.now c.args.addr c.args.len r) c.in_ok-reply.ensures.0
     (subst (λ (o : Option ℕ). ReplyTraps o c.args.addr c.in_ok-reply.reply)
-    (trap_of_region g.P.Pages _ c.args.self.now h.shape h.slabs h.stream h.quarantine h.parking.items c.args.addr c.args.len c.self.view_is refl c.self.invariant.0)
-    (fetch_traps (trap_in h.shape h.slabs.slabs.items c.args.addr c.args.len) c.args.addr c.in_ok-fetched.fetched c.in_ok-reply.reply c.in_ok-fetched.ensures.trap c.in_ok-reply.ensures.1))
+    (trap_of_region g.P.Pages _ c.args.self.now h.shape h.slabs h.stream h.quarantine h.slabs.parking c.args.addr c.args.len c.self.view_is refl c.self.invariant.0)
+    (fetch_traps (trap_in h.shape h.slabs.slabs c.args.addr c.args.len) c.args.addr c.in_ok-fetched.fetched c.in_ok-reply.reply c.in_ok-fetched.ensures.trap c.in_ok-reply.ensures.1))

@@ -24,13 +24,12 @@ invariant_of-self-2 g c =
     (c.plain.ensures ∙ ap (λ (y : Reply). entry_of c.args.who (call.Fill c.args.addr c.in_ok-runs.runs) y no_choices no_words f f) c.reply-reply.ensures
     ∙ ap (λ (x : List (ℕ × ℕ)). entry_of c.args.who (call.Fill c.args.addr x) (reply_of o) no_choices no_words f f) c.in_ok-runs.ensures) in
     let bytes : c.deref.result.now ≡ expand rs = c.deref.ensures.value ∙ c.in_ok-bytes.ensures ∙ ap (λ (x : List (ℕ × ℕ)). expand x) c.in_ok-runs.ensures in (
-      subst (λ (b : Bool). IsKept b (g.P.Pages.runs pages) (g.P.Pages.faults pages) h.config h.number h.arena h.shape c.push_reserved.new.self.items h.slabs h.stream h.quarantine h.parking.items) (sym c.fill-outcome.ensures.told)
-          (subst (λ (l : List Entry). IsKept (g.P.Pages.told h.pages) (g.P.Pages.runs pages) (g.P.Pages.faults pages) h.config h.number h.arena h.shape l h.slabs h.stream h.quarantine h.parking.items) (sym all)
-          (subst (λ (n : ℕ). IsKept (g.P.Pages.told h.pages) (g.P.Pages.runs pages) n h.config h.number h.arena h.shape (h.entries.items ++ e ∷ []) h.slabs h.stream h.quarantine h.parking.items) (sym c.fill-outcome.ensures.count)
-          (kept_filled (g.P.Pages.told h.pages) (g.P.Pages.runs h.pages) (g.P.Pages.faults h.pages) h.config h.number h.arena h.shape h.entries.items h.slabs h.stream h.quarantine h.parking.items c.self.invariant.0
+      subst (λ (b : Bool). IsKept b (g.P.Pages.runs pages) (g.P.Pages.faults pages) h.config h.number h.arena h.shape c.push_reserved.new.self.items h.slabs h.stream h.quarantine h.slabs.parking) (sym c.fill-outcome.ensures.told)
+          (subst (λ (l : List Entry). IsKept (g.P.Pages.told h.pages) (g.P.Pages.runs pages) (g.P.Pages.faults pages) h.config h.number h.arena h.shape l h.slabs h.stream h.quarantine h.slabs.parking) (sym all)
+          (subst (λ (n : ℕ). IsKept (g.P.Pages.told h.pages) (g.P.Pages.runs pages) n h.config h.number h.arena h.shape (h.entries.items ++ e ∷ []) h.slabs h.stream h.quarantine h.slabs.parking) (sym c.fill-outcome.ensures.count)
+          (kept_filled (g.P.Pages.told h.pages) (g.P.Pages.runs h.pages) (g.P.Pages.faults h.pages) h.config h.number h.arena h.shape h.entries.items h.slabs h.stream h.quarantine h.slabs.parking c.self.invariant.0
           c.args.who c.args.addr f c.faults-faults.ensures c.requires.below (g.P.Pages.runs pages) rs c.deref.result.now o bytes c.requires.some c.requires.most c.fill-outcome.ensures.filled))),
-      omega (arith, c.self.invariant.1, c.in_ok-reserve.ensures.ok, c.reserve.ensures.len, c.push_reserved.ensures.len, c.push_reserved.ensures.capacity),
-      c.self.invariant.2,
+      omega (arith, c.self.invariant.1, c.live.ensures, c.in_ok-reserve.ensures.ok, c.reserve.ensures.len, c.push_reserved.ensures.len, c.push_reserved.ensures.capacity),
     )
 
 pub returns-clause-added : goal.returns-clause-added
@@ -52,17 +51,17 @@ returns-clause-region g c =
 
 pub returns-in_err-reserve-clause-region : goal.returns-in_err-reserve-clause-region
 returns-in_err-reserve-clause-region g c = region_of g.P.Pages _ c.self.inside.shape _ _ _ _ refl
-    (let h = c.self.inside in subst (λ (l : List Entry). IsKept (g.P.Pages.told h.pages) (g.P.Pages.runs h.pages) (g.P.Pages.faults h.pages) h.config h.number h.arena h.shape l h.slabs h.stream h.quarantine h.parking.items) (sym c.reserve.ensures.items) c.self.invariant.0)
+    (let h = c.self.inside in subst (λ (l : List Entry). IsKept (g.P.Pages.told h.pages) (g.P.Pages.runs h.pages) (g.P.Pages.faults h.pages) h.config h.number h.arena h.shape l h.slabs h.stream h.quarantine h.slabs.parking) (sym c.reserve.ensures.items) c.self.invariant.0)
     (omega (arith, c.self.invariant.1, c.reserve.ensures.len, c.reserve.ensures.capacity))
 
 pub returns-in_err-runs-clause-region : goal.returns-in_err-runs-clause-region
 returns-in_err-runs-clause-region g c = region_of g.P.Pages _ c.self.inside.shape _ _ _ _ refl
-    (let h = c.self.inside in subst (λ (l : List Entry). IsKept (g.P.Pages.told h.pages) (g.P.Pages.runs h.pages) (g.P.Pages.faults h.pages) h.config h.number h.arena h.shape l h.slabs h.stream h.quarantine h.parking.items) (sym c.reserve.ensures.items) c.self.invariant.0)
+    (let h = c.self.inside in subst (λ (l : List Entry). IsKept (g.P.Pages.told h.pages) (g.P.Pages.runs h.pages) (g.P.Pages.faults h.pages) h.config h.number h.arena h.shape l h.slabs h.stream h.quarantine h.slabs.parking) (sym c.reserve.ensures.items) c.self.invariant.0)
     (omega (arith, c.self.invariant.1, c.reserve.ensures.len, c.reserve.ensures.capacity))
 
 pub returns-in_err-bytes-clause-region : goal.returns-in_err-bytes-clause-region
 returns-in_err-bytes-clause-region g c = region_of g.P.Pages _ c.self.inside.shape _ _ _ _ refl
-    (let h = c.self.inside in subst (λ (l : List Entry). IsKept (g.P.Pages.told h.pages) (g.P.Pages.runs h.pages) (g.P.Pages.faults h.pages) h.config h.number h.arena h.shape l h.slabs h.stream h.quarantine h.parking.items) (sym c.reserve.ensures.items) c.self.invariant.0)
+    (let h = c.self.inside in subst (λ (l : List Entry). IsKept (g.P.Pages.told h.pages) (g.P.Pages.runs h.pages) (g.P.Pages.faults h.pages) h.config h.number h.arena h.shape l h.slabs h.stream h.quarantine h.slabs.parking) (sym c.reserve.ensures.items) c.self.invariant.0)
     (omega (arith, c.self.invariant.1, c.reserve.ensures.len, c.reserve.ensures.capacity))
 
 pub returns-clause-trap : goal.returns-clause-trap
@@ -72,6 +71,6 @@ returns-clause-trap g c =
     let bytes : c.deref.result.now ≡ expand rs = c.deref.ensures.value ∙ c.in_ok-bytes.ensures ∙ ap (λ (x : List (ℕ × ℕ)). expand x) c.in_ok-runs.ensures in
     subst (λ (r : Reply). TrapsIn g.P.Pages.told c.args.self.now c.args.addr (length (expand rs)) r) (sym c.reply.ensures)
     (subst (λ (o : Option ℕ). ReplyTraps o c.args.addr (reply_of c.fill-outcome.result))
-    (ap (λ (l : List ℕ). trap_in h.shape h.slabs.slabs.items c.args.addr (length l)) bytes
-    ∙ trap_of_region g.P.Pages _ c.args.self.now h.shape h.slabs h.stream h.quarantine h.parking.items c.args.addr (length (expand rs)) c.self.view_is refl c.self.invariant.0)
-    (fill_traps (trap_in h.shape h.slabs.slabs.items c.args.addr (length c.deref.result.now)) c.args.addr c.fill-outcome.result c.fill-outcome.ensures.trap))
+    (ap (λ (l : List ℕ). trap_in h.shape h.slabs.slabs c.args.addr (length l)) bytes
+    ∙ trap_of_region g.P.Pages _ c.args.self.now h.shape h.slabs h.stream h.quarantine h.slabs.parking c.args.addr (length (expand rs)) c.self.view_is refl c.self.invariant.0)
+    (fill_traps (trap_in h.shape h.slabs.slabs c.args.addr (length c.deref.result.now)) c.args.addr c.fill-outcome.result c.fill-outcome.ensures.trap))

@@ -1,4 +1,4 @@
-use Rattle.std.proofs.Common.{◌≡◌, ◌∙◌, ℕ, ◌+◌, ◌≤◌, Bool, Option, List, [], ◌∷◌, ◌++◌, ap, refl, subst, sym, arith}
+use Rattle.std.proofs.Common.{◌≡◌, ◌∙◌, ℕ, ◌+◌, ◌≤◌, Bool, Option, List, [], ◌∷◌, ◌++◌, length, ap, refl, subst, sym, arith}
 use Rattle.hm_model.specs.declared.entry.Call.TheVariants as call
 use Rattle.hm_model.specs.declared.entry.Entry.{Entry}
 use Rattle.hm_model.specs.declared.entry.Reply.{Reply}
@@ -13,9 +13,7 @@ use Rattle.hm_quarantine.specs.Quarantine.{Kept}
 use Rattle.hm_class.specs.declared.outcome.Event.{Event}
 use Rattle.hm_class.specs.Frees.{Settles, array_stream, released_slab}
 use Rattle.hm_class.specs.Outcomes.{freed_choices, freed_draws}
-use Rattle.hm_class.specs.Rooms.{HasRoom}
-use Rattle.hm_class.proofs.Serving.{room_same}
-use Rattle.hm_class.proofs.Roomy.{room_less, one_less}
+use Rattle.hm_class.proofs.LiveCounts.{one_less}
 use Rattle.hm_class.proofs.Settled.{kept_ended, live_ended, settled_later, entry_freed}
 use Rattle.hm_class.proofs.Entries.{kept_now, kept_refused, never_refused, added_of, appended, region_of}
 use Rattle.hm_class.proofs.heap.ClassHeap.give_back.Goals as goal
@@ -24,7 +22,7 @@ pub returns-in_err-reserve-in-Refused-clause-accepted :
     goal.returns-in_err-reserve-in-Refused-clause-accepted
 returns-in_err-reserve-in-Refused-clause-accepted g c = λ taken.
     (let h = c.self.inside in
-    absurd (never_refused g.P.Pages _ h.shape h.slabs h.stream h.quarantine h.parking.items c.args.addr c.args.stated c.in-Refused.outcome refl c.self.invariant.0 c.in-Refused.ensures.judged
+    absurd (never_refused g.P.Pages _ h.shape h.slabs h.stream h.quarantine h.slabs.parking c.args.addr c.args.stated c.in-Refused.outcome refl c.self.invariant.0 c.in-Refused.ensures.judged
     (subst (λ (r : Region _). IsTakenBack g.P.Pages.told r c.args.addr c.args.stated) (sym c.self.view_is) taken)))
 
 pub invariant_of-self-in-Refused : goal.invariant_of-self-in-Refused
@@ -36,52 +34,39 @@ invariant_of-self-in-Refused g c =
     let all : c.push_reserved.new.self.items ≡ h.entries.items ++ e ∷ [] =
     appended _ _ _ _ _ c.push_reserved.ensures.items c.reserve.ensures.items
     (c.plain.ensures ∙ ap (λ (y : Reply). entry_of c.args.who (call.GiveBack c.args.addr c.args.stated) y no_choices no_words f f) c.reply-reply.ensures) in (
-      subst (λ (l : List Entry). IsKept (g.P.Pages.told h.pages) (g.P.Pages.runs h.pages) (g.P.Pages.faults h.pages) h.config h.number h.arena h.shape l h.slabs h.stream h.quarantine h.parking.items) (sym all)
-          (kept_refused (g.P.Pages.told h.pages) (g.P.Pages.runs h.pages) (g.P.Pages.faults h.pages) h.config h.number h.arena h.shape h.entries.items h.slabs h.stream h.quarantine h.parking.items c.self.invariant.0
+      subst (λ (l : List Entry). IsKept (g.P.Pages.told h.pages) (g.P.Pages.runs h.pages) (g.P.Pages.faults h.pages) h.config h.number h.arena h.shape l h.slabs h.stream h.quarantine h.slabs.parking) (sym all)
+          (kept_refused (g.P.Pages.told h.pages) (g.P.Pages.runs h.pages) (g.P.Pages.faults h.pages) h.config h.number h.arena h.shape h.entries.items h.slabs h.stream h.quarantine h.slabs.parking c.self.invariant.0
           g.P.Pages h.pages refl refl c.args.who c.args.addr f c.faults-before.ensures c.args.stated o c.in-Refused.ensures.judged),
-      omega (arith, c.self.invariant.1, c.in_ok-reserve-in-Refused.ensures.ok, c.reserve.ensures.len, c.push_reserved.ensures.len, c.push_reserved.ensures.capacity),
-      c.self.invariant.2,
+      omega (arith, c.self.invariant.1, c.live.ensures, c.in_ok-reserve-in-Refused.ensures.ok, c.reserve.ensures.len, c.push_reserved.ensures.len, c.push_reserved.ensures.capacity),
     )
 
 pub hold-released-requires-clause-array : goal.hold-released-requires-clause-array
-hold-released-requires-clause-array g c κs within = let h = c.self.inside in (kept_now (g.P.Pages.told h.pages) (g.P.Pages.runs h.pages) (g.P.Pages.faults h.pages) h.config h.number h.arena h.shape h.entries.items h.slabs h.stream h.quarantine h.parking.items c.self.invariant.0).array_length
+hold-released-requires-clause-array g c κs within = let h = c.self.inside in (kept_now (g.P.Pages.told h.pages) (g.P.Pages.runs h.pages) (g.P.Pages.faults h.pages) h.config h.number h.arena h.shape h.entries.items h.slabs h.stream h.quarantine h.slabs.parking c.self.invariant.0).array_length
 
 pub settle-emptied-requires-clause-can : goal.settle-emptied-requires-clause-can
 settle-emptied-requires-clause-can g c κs within =
     let h = c.self.inside in
     let r = c.in-Accepted.ensures.judged in
-    release_ready (g.P.Pages.told h.pages) (g.P.Pages.runs h.pages) (g.P.Pages.faults h.pages) h.config h.number h.arena h.shape h.entries.items h.slabs h.stream h.quarantine h.parking.items c.self.invariant.0 g.P.Pages h.pages c.hold-released.new.pages c.hold-released.new.slabs c.args.addr c.in-Accepted.slot.slab c.in-Accepted.slot.index refl refl r.judged.0.is r.judged.0.slot r.judged.1 c.hold-released.ensures.slabs c.hold-released.ensures.cleared c.hold-released.result.0 c.hold-released.ensures.released c.hold-released.ensures.told
-
-pub settle-emptied-requires-clause-few : goal.settle-emptied-requires-clause-few
-settle-emptied-requires-clause-few g c κs within =
-    let h = c.self.inside in
-    omega (arith, c.self.invariant.1, c.self.invariant.0.follows.counted, c.hold-released.ensures.counted, one_less h.slabs.slabs.items c.hold-released.new.slabs.slabs.items c.in-Accepted.slot.slab c.in-Accepted.slot.index c.in-Accepted.ensures.judged.judged.1 c.hold-released.ensures.slabs)
-
-pub settle-emptied-requires-clause-room : goal.settle-emptied-requires-clause-room
-settle-emptied-requires-clause-room g c κs within =
-    let h = c.self.inside in
-    room_same h.slabs c.hold-released.new.slabs 1 c.hold-released.ensures.lists (room_less h.slabs h.slabs.live 1 (omega (arith, c.self.invariant.0.follows.counted, one_less h.slabs.slabs.items c.hold-released.new.slabs.slabs.items c.in-Accepted.slot.slab c.in-Accepted.slot.index c.in-Accepted.ensures.judged.judged.1 c.hold-released.ensures.slabs)) c.self.invariant.2)
+    release_ready (g.P.Pages.told h.pages) (g.P.Pages.runs h.pages) (g.P.Pages.faults h.pages) h.config h.number h.arena h.shape h.entries.items h.slabs h.stream h.quarantine h.slabs.parking c.self.invariant.0 g.P.Pages h.pages c.hold-released.new.pages c.hold-released.new.slabs c.args.addr c.in-Accepted.slot.slab c.in-Accepted.slot.index refl refl r.judged.0.is r.judged.0.slot r.judged.1 c.hold-released.ensures.slabs c.hold-released.ensures.cleared c.hold-released.result.0 c.hold-released.ensures.released c.hold-released.ensures.told
 
 pub settle-emptied-requires-clause-parking_some : goal.settle-emptied-requires-clause-parking_some
-settle-emptied-requires-clause-parking_some g c κs within =
-    let h = c.self.inside in
-    omega (arith, (kept_now (g.P.Pages.told h.pages) (g.P.Pages.runs h.pages) (g.P.Pages.faults h.pages) h.config h.number h.arena h.shape h.entries.items h.slabs h.stream h.quarantine h.parking.items c.self.invariant.0).parking_length, c.self.invariant.0.served.valid.park_some, h.parking.ok.0)
+settle-emptied-requires-clause-parking_some g c κs within = omega (arith, c.self.invariant.0.served.valid.park_some)
 
-pub settle-emptied-requires-clause-parking_most : goal.settle-emptied-requires-clause-parking_most
-settle-emptied-requires-clause-parking_most g c κs within =
+pub settle-emptied-requires-clause-parking : goal.settle-emptied-requires-clause-parking
+settle-emptied-requires-clause-parking g c κs within =
     let h = c.self.inside in
-    omega (arith, (kept_now (g.P.Pages.told h.pages) (g.P.Pages.runs h.pages) (g.P.Pages.faults h.pages) h.config h.number h.arena h.shape h.entries.items h.slabs h.stream h.quarantine h.parking.items c.self.invariant.0).parking_length, c.self.invariant.0.served.valid.park_most, h.parking.ok.0)
+    ap (λ (l : List (Option ℕ)). length l) c.hold-released.ensures.lists.parking ∙ (kept_now (g.P.Pages.told h.pages) (g.P.Pages.runs h.pages) (g.P.Pages.faults h.pages) h.config h.number h.arena h.shape h.entries.items h.slabs h.stream h.quarantine h.slabs.parking c.self.invariant.0).parking_length
 
 pub slab_of-slab-requires-clause-from : goal.slab_of-slab-requires-clause-from
 slab_of-slab-requires-clause-from g c =
     let h = c.self.inside in
     let r = c.in-Accepted.ensures.judged in
-    released_from (g.P.Pages.told h.pages) (g.P.Pages.runs h.pages) (g.P.Pages.faults h.pages) h.config h.number h.arena h.shape h.entries.items h.slabs h.stream h.quarantine h.parking.items c.self.invariant.0 g.P.Pages h.pages c.hold-released.new.pages c.hold-released.new.slabs c.args.addr c.in-Accepted.slot.slab c.in-Accepted.slot.index refl refl r.judged.0.is r.judged.0.slot r.judged.1 c.hold-released.ensures.slabs c.hold-released.ensures.cleared c.hold-released.result.0 c.hold-released.ensures.released
+    released_from (g.P.Pages.told h.pages) (g.P.Pages.runs h.pages) (g.P.Pages.faults h.pages) h.config h.number h.arena h.shape h.entries.items h.slabs h.stream h.quarantine h.slabs.parking c.self.invariant.0 g.P.Pages h.pages c.hold-released.new.pages c.hold-released.new.slabs c.args.addr c.in-Accepted.slot.slab c.in-Accepted.slot.index refl refl r.judged.0.is r.judged.0.slot r.judged.1 c.hold-released.ensures.slabs c.hold-released.ensures.cleared c.hold-released.result.0 c.hold-released.ensures.released
 
 pub push_reserved-requires-in-Accepted : goal.push_reserved-requires-in-Accepted
 push_reserved-requires-in-Accepted g c =
     let h = c.self.inside in
-    omega (arith, c.self.invariant.1, c.self.invariant.0.follows.counted, one_less h.slabs.slabs.items c.hold-released.new.slabs.slabs.items c.in-Accepted.slot.slab c.in-Accepted.slot.index c.in-Accepted.ensures.judged.judged.1 c.hold-released.ensures.slabs)
+    omega (arith, c.self.invariant.1, c.self.invariant.0.follows.counted, one_less h.slabs.slabs c.hold-released.new.slabs.slabs c.in-Accepted.slot.slab c.in-Accepted.slot.index c.in-Accepted.ensures.judged.judged.1 c.hold-released.ensures.slabs)
 
 pub returns-in_ok-reserve-in-Refused-clause-region : goal.returns-in_ok-reserve-in-Refused-clause-region
 returns-in_ok-reserve-in-Refused-clause-region g c =
@@ -106,29 +91,26 @@ invariant_of-self-in-Accepted g c =
     let now = c.settle-emptied.new.pages in
     let k' = c.settle-emptied.new.slabs in
     let stream' = c.settle-emptied.new.stream in
-    let parking' = c.settle-emptied.new.parking.items in
     let f = c.faults-before.result in
     let f' = c.faults-now.result in
-    let settled : Settles g.P.Pages h.shape c.hold-released.new.slabs k' c.hold-released.new.pages now (array_stream h.shape h.stream) stream' h.parking.items parking' released emptied =
-    subst (λ (x : Words). Settles g.P.Pages h.shape c.hold-released.new.slabs k' c.hold-released.new.pages now x stream' h.parking.items parking' released emptied) c.hold-released.ensures.taken c.settle-emptied.ensures.settled in
+    let settled : Settles g.P.Pages h.shape c.hold-released.new.slabs k' c.hold-released.new.pages now (array_stream h.shape h.stream) stream' released emptied =
+    subst (λ (x : Words). Settles g.P.Pages h.shape c.hold-released.new.slabs k' c.hold-released.new.pages now x stream' released emptied) c.hold-released.ensures.taken c.settle-emptied.ensures.settled in
     let half_is : f ≡ g.P.Pages.faults c.hold-released.new.pages = c.faults-before.ensures ∙ sym c.hold-released.ensures.count in
-    let later : f ≤ f' = omega (arith, half_is, c.faults-now.ensures, settled_later g.P.Pages h.shape c.hold-released.new.slabs k' c.hold-released.new.pages now (array_stream h.shape h.stream) stream' h.parking.items parking' released emptied settled) in
+    let later : f ≤ f' = omega (arith, half_is, c.faults-now.ensures, settled_later g.P.Pages h.shape c.hold-released.new.slabs k' c.hold-released.new.pages now (array_stream h.shape h.stream) stream' released emptied settled) in
     let x = entry_freed h.shape h.stream c.args.who c.args.addr c.args.stated released (released_slab h.shape released) emptied f f' in
     let all : c.push_reserved-in-Accepted.new.self.items ≡ h.entries.items ++ x ∷ [] =
     appended _ _ _ _ _ c.push_reserved-in-Accepted.ensures.items refl
     (c.entry.ensures ∙ ap (λ (ev : Event). entry_of c.args.who (call.GiveBack c.args.addr c.args.stated) reply.Freed ev.choices ev.draws f f') c.freed-event.ensures
     ∙ ap (λ (n : ℕ). entry_of c.args.who (call.GiveBack c.args.addr c.args.stated) reply.Freed (freed_choices released n emptied) (freed_draws c.hold-released.result.1 emptied) f f') c.slab_of-slab.ensures
     ∙ ap (λ (w : Option ℕ). entry_of c.args.who (call.GiveBack c.args.addr c.args.stated) reply.Freed (freed_choices released (released_slab h.shape released) emptied) (freed_draws w emptied) f f') c.hold-released.ensures.word) in
-    let less = live_ended (g.P.Pages.told h.pages) (g.P.Pages.runs h.pages) (g.P.Pages.faults h.pages) h.config h.number h.arena h.shape h.entries.items h.slabs h.stream h.quarantine h.parking.items c.self.invariant.0 g.P.Pages h.pages c.hold-released.new.pages c.settle-emptied.new.pages c.hold-released.new.slabs c.settle-emptied.new.slabs c.settle-emptied.new.stream c.settle-emptied.new.parking.items c.args.addr c.in-Accepted.slot c.args.stated c.args.who c.faults-before.result c.faults-now.result refl refl c.in-Accepted.ensures.judged c.hold-released.ensures.slabs c.hold-released.ensures.cleared c.hold-released.ensures.lists c.hold-released.ensures.counted c.settle-emptied.ensures.counted c.faults-before.ensures later released emptied c.hold-released.ensures.released settled in
-    let fewer : k'.live + 1 ≡ h.slabs.live = omega (arith, less, c.settle-emptied.ensures.counted, c.self.invariant.0.follows.counted) in
-    let room : HasRoom k' k'.live = c.settle-emptied.ensures.room k'.live (room_same h.slabs c.hold-released.new.slabs (k'.live + 1) c.hold-released.ensures.lists (subst (λ (n : ℕ). HasRoom h.slabs n) (sym fewer) c.self.invariant.2)) in (
-      subst (λ (b : Bool). IsKept b (g.P.Pages.runs now) (g.P.Pages.faults now) h.config h.number h.arena h.shape c.push_reserved-in-Accepted.new.self.items k' stream' c.hold-released.new.quarantine parking') (sym (c.settle-emptied.ensures.told ∙ c.hold-released.ensures.told))
-          (subst (λ (l : List Entry). IsKept (g.P.Pages.told h.pages) (g.P.Pages.runs now) (g.P.Pages.faults now) h.config h.number h.arena h.shape l k' stream' c.hold-released.new.quarantine parking') (sym all)
-          (subst (λ (n : ℕ). IsKept (g.P.Pages.told h.pages) (g.P.Pages.runs now) n h.config h.number h.arena h.shape (h.entries.items ++ x ∷ []) k' stream' c.hold-released.new.quarantine parking') c.faults-now.ensures
-          (subst (λ (q : Kept). IsKept (g.P.Pages.told h.pages) (g.P.Pages.runs now) f' h.config h.number h.arena h.shape (h.entries.items ++ x ∷ []) k' stream' q parking') (sym c.hold-released.ensures.kept)
-          (kept_ended (g.P.Pages.told h.pages) (g.P.Pages.runs h.pages) (g.P.Pages.faults h.pages) h.config h.number h.arena h.shape h.entries.items h.slabs h.stream h.quarantine h.parking.items c.self.invariant.0 g.P.Pages h.pages c.hold-released.new.pages c.settle-emptied.new.pages c.hold-released.new.slabs c.settle-emptied.new.slabs c.settle-emptied.new.stream c.settle-emptied.new.parking.items c.args.addr c.in-Accepted.slot c.args.stated c.args.who c.faults-before.result c.faults-now.result refl refl c.in-Accepted.ensures.judged c.hold-released.ensures.slabs c.hold-released.ensures.cleared c.hold-released.ensures.lists c.hold-released.ensures.counted c.settle-emptied.ensures.counted c.faults-before.ensures later released emptied c.hold-released.ensures.released settled c.hold-released.ensures.told half_is c.faults-now.ensures)))),
+    let less = live_ended (g.P.Pages.told h.pages) (g.P.Pages.runs h.pages) (g.P.Pages.faults h.pages) h.config h.number h.arena h.shape h.entries.items h.slabs h.stream h.quarantine c.self.invariant.0 g.P.Pages h.pages c.hold-released.new.pages c.settle-emptied.new.pages c.hold-released.new.slabs c.settle-emptied.new.slabs c.settle-emptied.new.stream c.args.addr c.in-Accepted.slot c.args.stated c.args.who c.faults-before.result c.faults-now.result refl refl c.in-Accepted.ensures.judged c.hold-released.ensures.slabs c.hold-released.ensures.cleared c.hold-released.ensures.lists c.hold-released.ensures.counted c.settle-emptied.ensures.counted c.faults-before.ensures later released emptied c.hold-released.ensures.released settled in
+    let fewer : k'.live + 1 ≡ h.slabs.live = omega (arith, less, c.settle-emptied.ensures.counted, c.self.invariant.0.follows.counted) in (
+      subst (λ (b : Bool). IsKept b (g.P.Pages.runs now) (g.P.Pages.faults now) h.config h.number h.arena h.shape c.push_reserved-in-Accepted.new.self.items k' stream' c.hold-released.new.quarantine k'.parking) (sym (c.settle-emptied.ensures.told ∙ c.hold-released.ensures.told))
+          (subst (λ (l : List Entry). IsKept (g.P.Pages.told h.pages) (g.P.Pages.runs now) (g.P.Pages.faults now) h.config h.number h.arena h.shape l k' stream' c.hold-released.new.quarantine k'.parking) (sym all)
+          (subst (λ (n : ℕ). IsKept (g.P.Pages.told h.pages) (g.P.Pages.runs now) n h.config h.number h.arena h.shape (h.entries.items ++ x ∷ []) k' stream' c.hold-released.new.quarantine k'.parking) c.faults-now.ensures
+          (subst (λ (q : Kept). IsKept (g.P.Pages.told h.pages) (g.P.Pages.runs now) f' h.config h.number h.arena h.shape (h.entries.items ++ x ∷ []) k' stream' q k'.parking) (sym c.hold-released.ensures.kept)
+          (kept_ended (g.P.Pages.told h.pages) (g.P.Pages.runs h.pages) (g.P.Pages.faults h.pages) h.config h.number h.arena h.shape h.entries.items h.slabs h.stream h.quarantine c.self.invariant.0 g.P.Pages h.pages c.hold-released.new.pages c.settle-emptied.new.pages c.hold-released.new.slabs c.settle-emptied.new.slabs c.settle-emptied.new.stream c.args.addr c.in-Accepted.slot c.args.stated c.args.who c.faults-before.result c.faults-now.result refl refl c.in-Accepted.ensures.judged c.hold-released.ensures.slabs c.hold-released.ensures.cleared c.hold-released.ensures.lists c.hold-released.ensures.counted c.settle-emptied.ensures.counted c.faults-before.ensures later released emptied c.hold-released.ensures.released settled c.hold-released.ensures.told half_is c.faults-now.ensures)))),
       omega (arith, c.self.invariant.1, fewer, c.push_reserved-in-Accepted.ensures.len, c.push_reserved-in-Accepted.ensures.capacity),
-      room,
     )
 
 pub returns-in-Accepted-clause-region : goal.returns-in-Accepted-clause-region
@@ -147,5 +129,5 @@ returns-in-Accepted-clause-added g c =
 pub returns-in_err-reserve-in-Refused-clause-region : goal.returns-in_err-reserve-in-Refused-clause-region
 returns-in_err-reserve-in-Refused-clause-region g c =
     region_of g.P.Pages _ c.self.inside.shape _ _ _ _ refl
-    (let h = c.self.inside in subst (λ (l : List Entry). IsKept (g.P.Pages.told h.pages) (g.P.Pages.runs h.pages) (g.P.Pages.faults h.pages) h.config h.number h.arena h.shape l h.slabs h.stream h.quarantine h.parking.items) (sym c.reserve.ensures.items) c.self.invariant.0)
+    (let h = c.self.inside in subst (λ (l : List Entry). IsKept (g.P.Pages.told h.pages) (g.P.Pages.runs h.pages) (g.P.Pages.faults h.pages) h.config h.number h.arena h.shape l h.slabs h.stream h.quarantine h.slabs.parking) (sym c.reserve.ensures.items) c.self.invariant.0)
     (omega (arith, c.self.invariant.1, c.reserve.ensures.len, c.reserve.ensures.capacity))
