@@ -1,5 +1,6 @@
 -- The names of a stress trace are names, and those of two threads differ.
-use Rattle.std.proofs.Common.{◌≡◌, ◌≢◌, ⊎_elim, ℕ, ◌^◌, ◌<◌, ◌≤◌, Bool, true, false, List, [], ◌∷◌, ◌++◌, length, refl, sym, ◌∙◌, ap, arith, append_assoc, length-append}
+use Rattle.std.proofs.Common.{◌≡◌, ◌≢◌, ⊎_elim, ℕ, ◌^◌, ◌<◌, ◌≤◌, Bool, true, false, List, [], ◌∷◌, ◌++◌, length, get_or, slice_get, EachIndex, Some, refl, sym, ◌∙◌, ap, arith, append_assoc, length-append}
+use Rattle.std.specs.Option.{option_map}
 use Rattle.std.specs.Str.{all_ascii_digits}
 use Rattle.std.specs.List.{list_all}
 use Rattle.std.specs.Fmt.{decimal}
@@ -7,8 +8,11 @@ use Rattle.std.proofs.lemmas.Bool.{le-leb}
 use Rattle.std.proofs.lemmas.Bool.Decides.{nat_tests}
 use Rattle.std.proofs.lemmas.Fmt.{decimal_injective, digits_decimal, length-decimal-le}
 use Rattle.std.proofs.lemmas.List.Folds.{list_all-append}
+use Rattle.std.proofs.lemmas.Option.{slice_get_read}
+use Rattle.hm_trace.specs.declared.names.Name.{Name}
 use Rattle.hm_trace.specs.Names.{is_name, is_name_byte, is_word}
 use Rattle.hm_trace.specs.Stress.{name_at}
+use Rattle.hm_trace.specs.Views.{name_view}
 use Rattle.hm_trace.proofs.Choices.{joined, told, word_is}
 use Rattle.hm_trace.proofs.Decimals.{own}
 use Rattle.hm_trace.proofs.Numerals.{digits_parts}
@@ -66,3 +70,10 @@ same_thread t u i k few small h =
 pub names_differ : (t u i k : ℕ) → t < 2 ^ 32 → u < 2 ^ 32 → t ≢ u → is_word (name_at t i) (name_at u k) ≡ false
 names_differ t u i k few small other =
     ⊎_elim (λ h. absurd (other (same_thread t u i k few small (word_is (name_at t i) (name_at u k) h)))) (λ h. h) (told (is_word (name_at t i) (name_at u k)))
+
+-- what is read of a list of a thread's names
+pub read_name : (names : List Name) (t i : ℕ) (name : Name) → length names ≡ 50 → EachIndex names (λ k. option_map name_view (slice_get names k) ≡ Some (name_at t k)) → i < 50 → name ≡ get_or names i name → name_view name ≡ name_at t i
+read_name names t i name count each early is =
+    let here = slice_get_read names 50 i name (sym count) early is in
+    let there = rw here at (each i (omega arith)) in
+    cc

@@ -1,6 +1,7 @@
 //! The stress trace of a number: one round in which each thread makes groups of five steps, whose sizes follow
 //! from the number.
-ghost use Rattle.std.specs.Prelude.{◌≡◌, ◌+◌, ◌≤◌, ◌<◌, ◌^◌, ◌++◌, IfOk, OnOk};
+ghost use Rattle.std.specs.Prelude.{◌≡◌, ◌+◌, ◌≤◌, ◌<◌, ◌^◌, ◌++◌, length, slice_get, EachIndex, IfOk, OnOk, Some};
+ghost use Rattle.std.specs.Option.{option_map};
 ghost use Rattle.hm_trace.specs.Stress.{first, next, size_for, name_at, group, groups, script, scripts, stress};
 ghost use Rattle.hm_trace.specs.Views.{name_view, steps_view};
 
@@ -16,6 +17,9 @@ const GROUPS: u64 = 2500;
 
 /// How many names each thread sets in turn.
 const NAMES: u64 = 50;
+
+/// How many steps each thread makes: five in each of its groups.
+const STEPS: usize = 5 * GROUPS as usize;
 
 /// The stress trace of a number.
 pub fn stress_trace(alloc: Global, number: u64) -> Result<Trace, NoMemory>
@@ -44,13 +48,27 @@ fn scripts_of(alloc: Global, number: u64) -> Result<Vec<Script>, AllocError>
 fn steps_of(alloc: Global, number: u64, thread: u32) -> Result<Vec<Step>, AllocError>
     ensures { IfOk result (λ list. steps_view list.items ≡ groups number thread 2500) }
 {
-    let mut steps = Vec::new(alloc);
+    let names = names_of(alloc, thread)?;
+    let mut steps = Vec::with_capacity(alloc, STEPS)?;
     let mut x = first(number, thread);
     for j in 0..GROUPS {
         x = next(x);
-        push_group(alloc, &mut steps, thread, j, x >> 33)?;
+        push_group(&mut steps, &names, thread, j, x >> 33)?;
     }
     Ok(steps)
+}
+
+/// The names that a thread sets in turn.
+fn names_of(alloc: Global, thread: u32) -> Result<Vec<Name>, AllocError>
+    ensures count { IfOk result (λ list. length list.items ≡ 50) }
+    ensures each { IfOk result (λ list.
+        EachIndex list.items (λ i. option_map name_view (slice_get list.items i) ≡ Some (name_at thread i))) }
+{
+    let mut names = Vec::with_capacity(alloc, NAMES as usize)?;
+    for i in 0..NAMES {
+        names.push(name_of(alloc, thread, i)?)?;
+    }
+    Ok(names)
 }
 
 /// What a thread's numbers begin with.
@@ -71,17 +89,20 @@ fn next(x: u64) -> u64
 /// Adds the steps of a thread's group `j`, whose size follows from `v`. The block that it frees is that of 25
 /// groups before.
 fn push_group(
-    alloc: Global,
     steps: &mut Vec<Step>,
+    names: &[Name],
     thread: u32,
     j: u64,
     v: u64,
 ) -> Result<(), AllocError>
-    requires { j < 2500 }
+    requires within { j < 2500 }
+    requires count { length names.now ≡ 50 }
+    requires each { EachIndex names.now
+        (λ i. option_map name_view (slice_get names.now i) ≡ Some (name_at thread i)) }
     ensures { OnOk result (steps_view steps.new.items ≡ steps_view steps.old.items ++ group thread j v) }
 {
-    let name = name_of(alloc, thread, j % NAMES)?;
-    let other = name_of(alloc, thread, (j + NAMES / 2) % NAMES)?;
+    let name = names[(j % NAMES) as usize];
+    let other = names[((j + NAMES / 2) % NAMES) as usize];
     let (size, len, byte) = (size_for(v), 1, 0x41);
     let place = Place::Named { name, offset: 0 };
     push_step(steps, Step::Malloc { name, size })?;
