@@ -1,3 +1,4 @@
 pub mod Text
 pub mod Findings
 pub mod Summary
+pub mod Counts

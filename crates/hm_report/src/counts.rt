@@ -1,6 +1,8 @@
 //! The summary of a run: how many of its results are of each kind.
-ghost use Rattle.std.specs.Prelude.{◌≡◌, ◌++◌, length, IfOk, OnOk, string_bytes};
-ghost use Rattle.hm_report.specs.Summary.{reply_kind, kind_of, is_of, count_in, count, step_count, steps_text, count_text, end_text, summary_text};
+ghost use Rattle.std.specs.Prelude.{◌≡◌, ◌+◌, ◌^◌, ◌<◌, ◌≤◌, ◌++◌, length, count_by, IfOk, OnOk, string_bytes};
+ghost use Rattle.hm_report.specs.declared.counts.Kind.{Kind};
+ghost use Rattle.hm_report.specs.Summary.{reply_kind, kind_of, is_of, step_count, end_text, summary_text};
+ghost use Rattle.hm_report.specs.Counts.{count_of, one_if, with_one_more, sum_of, counts_of, number_text, counts_line};
 
 use crate::{Results, StepResult};
 use hm_model::{Answer, Reply};
@@ -20,43 +22,82 @@ enum Kind {
     Other,
 }
 
+/// How many results there are of each kind.
+#[derive(Default, Drop)]
+struct Counts<N> {
+    given: N,
+    written: N,
+    size: N,
+    bytes: N,
+    freed: N,
+    skipped: N,
+    other: N,
+}
+
+impl Counts<usize> {
+    /// Counts one more of this kind. It adds to each count, by 1 or 0, so that there is no branch on a
+    /// kind that nothing foretells.
+    fn add(&mut self, kind: Kind)
+        requires { (k : Kind) → count_of self.old k + 1 < 2 ^ 64 }
+        ensures { self.new ≡ with_one_more self.old kind }
+    {
+        self.given += one_if(kind, Kind::Given);
+        self.written += one_if(kind, Kind::Written);
+        self.size += one_if(kind, Kind::Size);
+        self.bytes += one_if(kind, Kind::Bytes);
+        self.freed += one_if(kind, Kind::Freed);
+        self.skipped += one_if(kind, Kind::Skipped);
+        self.other += one_if(kind, Kind::Other);
+    }
+}
+
+impl Counts<u128> {
+    /// Adds the counts of a script.
+    fn add_script(&mut self, script: &Counts<usize>)
+        requires { (k : Kind) → count_of self.old k + count_of script.now k < 2 ^ 128 }
+        ensures { self.new ≡ sum_of self.old script.now }
+    {
+        self.given += script.given as u128;
+        self.written += script.written as u128;
+        self.size += script.size as u128;
+        self.bytes += script.bytes as u128;
+        self.freed += script.freed as u128;
+        self.skipped += script.skipped as u128;
+        self.other += script.other as u128;
+    }
+}
+
 /// The summary of a run of the stress trace of this number: one line.
 pub fn summary(alloc: Global, number: u64, results: &[Results]) -> Result<Vec<u8>, NoMemory>
     ensures { IfOk result (λ text. text.items ≡ summary_text number results.now) }
 {
     let mut out = String::new(alloc);
-    push_summary(&mut out, number, results)?;
+    push_line(&mut out, number, step_count(results), &tally(results))?;
     Ok(out.into_bytes())
 }
 
-fn push_summary(out: &mut String, number: u64, results: &[Results]) -> Result<(), AllocError>
-    ensures { OnOk result (string_bytes out.new ≡ string_bytes out.old ++ summary_text number results.now) }
-{
-    push_steps(out, number, results)?;
-    push_count(out, "given", Kind::Given, results)?;
-    push_count(out, "written", Kind::Written, results)?;
-    push_count(out, "size", Kind::Size, results)?;
-    push_count(out, "bytes", Kind::Bytes, results)?;
-    push_count(out, "freed", Kind::Freed, results)?;
-    push_count(out, "skipped", Kind::Skipped, results)?;
-    push_end(out, count(results, Kind::Other))
-}
-
-fn push_steps(out: &mut String, number: u64, results: &[Results]) -> Result<(), AllocError>
-    ensures { OnOk result (string_bytes out.new ≡ string_bytes out.old ++ steps_text number results.now) }
-{
-    write!(out, "stress {number}: steps {}", step_count(results))
-}
-
-fn push_count(
+fn push_line(
     out: &mut String,
-    word: &str,
-    kind: Kind,
-    results: &[Results],
+    number: u64,
+    steps: u128,
+    counts: &Counts<u128>,
 ) -> Result<(), AllocError>
-    ensures { OnOk result (string_bytes out.new ≡ string_bytes out.old ++ count_text word.now kind results.now) }
+    ensures { OnOk result (string_bytes out.new ≡ string_bytes out.old ++ counts_line number steps counts.now) }
 {
-    write!(out, " {word} {}", count(results, kind))
+    write!(out, "stress {number}: steps {steps}")?;
+    push_count(out, "given", counts.given)?;
+    push_count(out, "written", counts.written)?;
+    push_count(out, "size", counts.size)?;
+    push_count(out, "bytes", counts.bytes)?;
+    push_count(out, "freed", counts.freed)?;
+    push_count(out, "skipped", counts.skipped)?;
+    push_end(out, counts.other)
+}
+
+fn push_count(out: &mut String, word: &str, count: u128) -> Result<(), AllocError>
+    ensures { OnOk result (string_bytes out.new ≡ string_bytes out.old ++ number_text word.now count) }
+{
+    write!(out, " {word} {count}")
 }
 
 /// Adds the end of the line.
@@ -82,31 +123,34 @@ fn steps_in(script: &Results) -> usize
     script.items.items().len()
 }
 
-/// How many results are of this kind.
-fn count(results: &[Results], kind: Kind) -> u128
-    ensures { result ≡ count kind results.now }
+/// How many results there are of each kind, in one pass over them. The counts of many scripts may sum
+/// to more than 64 bits hold.
+fn tally(results: &[Results]) -> Counts<u128>
+    ensures { result ≡ counts_of results.now }
 {
-    results
-        .iter()
-        .map(|script| count_in(script, kind) as u128)
-        .sum()
+    let mut counts = Counts::default();
+    for script in results {
+        counts.add_script(&counts_in(script.items.items()));
+    }
+    counts
 }
 
-fn count_in(script: &Results, kind: Kind) -> usize
-    ensures { result ≡ count_in kind script.now }
+fn counts_in(steps: &[StepResult]) -> Counts<usize>
+    ensures of_each { (kind : Kind) → count_of result kind ≡ count_by (λ step. is_of kind step) steps.now }
+    ensures few { (kind : Kind) → count_of result kind < 2 ^ 64 }
 {
-    script
-        .items
-        .items()
-        .iter()
-        .filter(|step| is_of(step, kind))
-        .count()
+    let mut counts = Counts::default();
+    for step in steps {
+        counts.add(kind_of(step));
+    }
+    counts
 }
 
-fn is_of(step: &StepResult, kind: Kind) -> bool
-    ensures { result ≡ is_of kind step.now }
+fn one_if(kind: Kind, wanted: Kind) -> usize
+    ensures value { result ≡ one_if kind wanted }
+    ensures at_most_one { result ≤ 1 }
 {
-    kind_of(step) == kind
+    usize::from(kind == wanted)
 }
 
 fn kind_of(step: &StepResult) -> Kind
