@@ -1,63 +1,95 @@
--- One more step's name is merged.
-use Rattle.std.proofs.Common.{◌≡◌, ℕ, ◌+◌, ◌<◌, ◌||◌, Bool, true, false, cond, List, [], ◌∷◌, ◌++◌, length, take, get_or, Option, Some, None, refl, sym, ◌∙◌, ap, arith}
-use Rattle.std.specs.List.{list_any}
-use Rattle.std.specs.Cmp.Lexicographic.{same_text}
-use Rattle.std.proofs.lemmas.List.{take_more, map-append}
-use Rattle.std.proofs.lemmas.List.Folds.{list_any-append}
-use Rattle.hm_trace.specs.declared.step.Step.{Step}
+-- The names that steps set are gathered, and one more is merged.
+use Rattle.std.proofs.Common.{◌≡◌, ℕ, ◌||◌, Bool, true, false, cond, List, [], ◌∷◌, ◌++◌, Option, Some, None, Result, Ok, Err, IfOk, IfSome, refl, sym, ◌∙◌, ap, subst}
+use Rattle.std.specs.BTreeSet.{BTreeSet, insert_key}
+use Rattle.std.specs.Result.{result_ok}
+use Rattle.hm_outside.specs.declared.memory.NoMemory.{NoMemory}
+use Rattle.std.specs.Cmp.Lexicographic.{same_text, slice_cmp, texts_ties}
+use Rattle.std.specs.Option.{option_map_or}
+use Rattle.std.specs.Ordering.{is_eq, match_ordering, nat_cmp}
+use Rattle.std.specs.declared.cmp.Ordering.{Ordering}
+use Rattle.std.specs.declared.cmp.Ordering.TheVariants.{Less, Equal, Greater}
+use Rattle.hm_trace.specs.declared.names.Name.{Name}
 use Rattle.hm_trace.specs.Names.{is_word}
 use Rattle.hm_trace.specs.Traces.{name_set, sets_name}
-use Rattle.hm_trace.specs.Views.{StepView, step_view, steps_view}
-use Rattle.hm_replay.specs.Names.{Names, held, settled, with_name}
+use Rattle.hm_trace.specs.Views.{StepView, name_view}
+use Rattle.hm_replay.specs.Names.{Names, held, is_one_of, merged, settled, with_name, AreSetBy}
 use Rattle.hm_replay.specs.declared.round.Worker.{Worker}
-use Rattle.hm_replay.specs.Workers.{all_settled}
+use Rattle.hm_replay.specs.Workers.{all_settled, SetsNames}
 
--- the name that a step sets among others
-abbrev pub put : Names → Option (List ℕ) → Names → Names
-put names None last = names
-put names (Some name) last = with_name names name (last name)
+-- ---- one more name is gathered
+-- the order of names, which is that of their bytes
+abbrev pub by_bytes : Name → Name → Ordering
+by_bytes n m = slice_cmp nat_cmp (name_view n) (name_view m)
 
--- whether the name set is this one
-abbrev sets : List ℕ → Option (List ℕ) → Bool
-sets q None = false
-sets q (Some name) = is_word name q
+or_swap : (a b c : Bool) → (a || (b || c)) ≡ (b || (a || c))
+or_swap true true c = refl
+or_swap true false c = refl
+or_swap false true c = refl
+or_swap false false c = refl
 
-chosen : (names last : Names) (done : Bool) (name q : List ℕ) (b : Bool) → is_word name q ≡ b → cond (done || b) (last q) (names q) ≡ cond b (last name) (cond done (last q) (names q))
-chosen names last done name q true is = or_true done ∙ ap last (sym (same_text name q (sym is)))
-  where
-    or_true : (done : Bool) → cond (done || true) (last q) (names q) ≡ last q
-    or_true true = refl
-    or_true false = refl
-chosen names last true name q false is = refl
-chosen names last false name q false is = refl
+or_again : (b c : Bool) → (b || c) ≡ (b || (b || c))
+or_again true c = refl
+or_again false c = refl
 
-placed : (names last : Names) (steps : List StepView) (s : StepView) (q : List ℕ) (o : Option (List ℕ)) → name_set s ≡ o → settled names (steps ++ s ∷ []) last q ≡ put (settled names steps last) o last q
-placed names last steps s q None is = ap (λ (b : Bool). cond b (last q) (names q)) (list_any-append (sets_name q) steps (s ∷ []) ∙ ap (λ (b : Bool). list_any (sets_name q) steps || b) none ∙ or_false (list_any (sets_name q) steps))
-  where
-    none : list_any (sets_name q) (s ∷ []) ≡ false
-    none = grind (arith, is)
+or_turned : (b c : Bool) → (b || c) ≡ (c || b)
+or_turned true true = refl
+or_turned true false = refl
+or_turned false true = refl
+or_turned false false = refl
 
-    or_false : (b : Bool) → (b || false) ≡ b
-    or_false true = refl
-    or_false false = refl
-placed names last steps s q (Some name) is =
-    ap (λ (b : Bool). cond b (last q) (names q)) (list_any-append (sets_name q) steps (s ∷ []) ∙ ap (λ (b : Bool). list_any (sets_name q) steps || b) some)
-    ∙ chosen names last (list_any (sets_name q) steps) name q (is_word name q) refl
-  where
-    some : list_any (sets_name q) (s ∷ []) ≡ is_word name q
-    some = grind (arith, is)
+joined : (k n : Name) (ns : List Name) (q : List ℕ) (o : Ordering) → by_bytes k n ≡ o → is_one_of q (insert_key by_bytes ns k) ≡ (is_word (name_view k) q || is_one_of q ns)
+    → is_one_of q (match_ordering o (k ∷ n ∷ ns) (n ∷ ns) (n ∷ insert_key by_bytes ns k)) ≡ (is_word (name_view k) q || is_one_of q (n ∷ ns))
+joined k n ns q Less is later = refl
+joined k n ns q Equal is later =
+    let same : name_view k ≡ name_view n = same_text (name_view k) (name_view n) (sym (texts_ties (name_view k) (name_view n) ∙ ap is_eq is)) in
+    or_again (is_word (name_view n) q) (is_one_of q ns) ∙ ap (λ (w : List ℕ). is_word w q || is_one_of q (n ∷ ns)) (sym same)
+joined k n ns q Greater is later = ap (λ (b : Bool). is_word (name_view n) q || b) later ∙ or_swap (is_word (name_view n) q) (is_word (name_view k) q) (is_one_of q ns)
 
--- the settings of one step
-pub one_settled : (names last : Names) (s : StepView) (o : Option (List ℕ)) → name_set s ≡ o → settled names (s ∷ []) last ≡ put names o last
-one_settled names last s o is = λ i q. placed names last [] s q o is i
+inserted : (k : Name) (ns : List Name) (q : List ℕ) → is_one_of q (insert_key by_bytes ns k) ≡ (is_word (name_view k) q || is_one_of q ns)
+inserted k [] q = refl
+inserted k (n ∷ ns) q = joined k n ns q (by_bytes k n) refl (inserted k ns q)
 
-pub settled_more : (names last : Names) (steps : List StepView) (s : StepView) → settled names (steps ++ s ∷ []) last ≡ settled (settled names steps last) (s ∷ []) last
-settled_more names last steps s = (λ i q. placed names last steps s q (name_set s) refl i) ∙ sym (one_settled (settled names steps last) last s (name_set s) refl)
+taken_by : (ns : List Name) (s : StepView) (q : List ℕ) (o : Option (List ℕ)) → o ≡ name_set s → (is_one_of q ns || option_map_or (λ (n : List ℕ). is_word n q) o false) ≡ (is_one_of q ns || sets_name q s)
+taken_by ns s q o is = ap (λ (o : Option (List ℕ)). is_one_of q ns || option_map_or (λ (n : List ℕ). is_word n q) o false) is
 
-pub taken_view : (steps : List Step) (i : ℕ) (s : Step) → i < length steps → s ≡ get_or steps i s → steps_view (take (i + 1) steps) ≡ steps_view (take i steps) ++ step_view s ∷ []
-taken_view steps i s lt is = ap steps_view (take_more steps i s lt ∙ ap (λ (u : Step). take i steps ++ u ∷ []) (sym is)) ∙ map-append step_view (take i steps) (s ∷ [])
+-- a step that sets none
+pub none_taken : (ns : List Name) (s : StepView) (q : List ℕ) → None ≡ name_set s → is_one_of q ns ≡ (is_one_of q ns || sets_name q s)
+none_taken ns s q is = sym (or_turned (is_one_of q ns) false) ∙ taken_by ns s q None is
+
+-- a step that sets this name
+pub one_taken : (ns ms : List Name) (k : Name) (s : StepView) (q : List ℕ) → Some (name_view k) ≡ name_set s → ms ≡ insert_key by_bytes ns k → is_one_of q ms ≡ (is_one_of q ns || sets_name q s)
+one_taken ns ms k s q is keys =
+    ap (λ (l : List Name). is_one_of q l) keys ∙ (inserted k ns q ∙ (or_turned (is_word (name_view k) q) (is_one_of q ns) ∙ taken_by ns s q (Some (name_view k)) is))
+
+-- ---- one more name is merged
+chosen : (names last : Names) (name q : List ℕ) (b rest : Bool) → is_word name q ≡ b → cond rest (last q) (cond b (last name) (names q)) ≡ cond (b || rest) (last q) (names q)
+chosen names last name q true true is = refl
+chosen names last name q true false is = ap last (same_text name q (sym is))
+chosen names last name q false true is = refl
+chosen names last name q false false is = refl
+
+pub merged_one : (names last : Names) (k : Name) (ns : List Name) → merged (with_name names (name_view k) (last (name_view k))) ns last ≡ merged names (k ∷ ns) last
+merged_one names last k ns = λ i q. chosen names last (name_view k) q (is_word (name_view k) q) (is_one_of q ns) refl i
 
 -- ---- one more worker
+-- the names that the steps set, merged, are settled
+pub merged_settled : (names last : Names) (steps : List StepView) (ns : List Name) → AreSetBy steps ns → merged names ns last ≡ settled names steps last
+merged_settled names last steps ns all = λ i q. ap (λ (b : Bool). cond b (last q) (names q)) (all.each q) i
+
+-- what is known of the workers is known of this one
+pub set_there : (w v : Worker) (names : BTreeSet Name) → SetsNames v → w ≡ v → w.names ≡ Some names → AreSetBy w.script.now.steps names.keys
+set_there w v names sets same is =
+    subst (λ (o : Option (BTreeSet Name)). IfSome o (λ names. AreSetBy w.script.now.steps names.keys)) is (subst SetsNames (sym same) sets)
+
+-- the names that were found, as a worker keeps them
+pub set_of : (r : Result (BTreeSet Name) NoMemory) (o : Option (BTreeSet Name)) (these steps : List StepView) → o ≡ result_ok r → IfOk r (λ names. AreSetBy these names.keys) → these ≡ steps → IfSome o (λ names. AreSetBy steps names.keys)
+set_of r o these steps is set same = subst (λ (v : List StepView). IfSome o (λ names. AreSetBy v names.keys)) same
+    (subst (λ (x : Option (BTreeSet Name)). IfSome x (λ names. AreSetBy these names.keys)) (sym is) (by r set))
+  where
+    by : (r : Result (BTreeSet Name) NoMemory) → IfOk r (λ names. AreSetBy these names.keys) → IfSome (result_ok r) (λ names. AreSetBy these names.keys)
+    by (Err none) set = tt
+    by (Ok names) set = set
+
 pub all_settled_more : (names : Names) (ws : List Worker) (w : Worker) → all_settled names (ws ++ w ∷ []) ≡ settled (all_settled names ws) w.script.now.steps (held w.env)
 all_settled_more names [] w = refl
 all_settled_more names (v ∷ ws) w = all_settled_more (settled names v.script.now.steps (held v.env)) ws w

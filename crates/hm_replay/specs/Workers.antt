@@ -9,7 +9,7 @@ use Rattle.hm_turn.specs.Known.{Lock, Known}
 use Rattle.hm_heap.specs.Passes.{PassView, AreOf, AllKnow, all_met}
 use Rattle.hm_replay.specs.declared.round.Worker.{Worker}
 use Rattle.hm_replay.specs.Gains.{mine_of, AllGrew}
-use Rattle.hm_replay.specs.Names.{Names, held, settled}
+use Rattle.hm_replay.specs.Names.{Names, held, settled, AreSetBy}
 use Rattle.hm_replay.specs.Scripts.{IsRun}
 
 -- ---- one worker
@@ -100,6 +100,10 @@ pub record FinishingFrom {X : Type 0} (result_of : Worker → X) (locks : List L
   pub count : length results + length rest ≡ length workers
 
 -- ---- names are merged
+-- where memory was found, the worker knows which names its script sets
+abbrev pub SetsNames : Worker → Type 0
+SetsNames w = IfSome w.names (λ names. AreSetBy w.script.now.steps names.keys)
+
 -- the names that each worker's script sets, among others
 abbrev pub all_settled : Names → List Worker → Names
 all_settled names [] = names

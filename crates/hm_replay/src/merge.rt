@@ -1,13 +1,15 @@
 //! The names that a script sets are merged with those of the round.
-ghost use Rattle.std.specs.Prelude.{◌≡◌, ◌∷◌, [], OnOk};
+ghost use Rattle.std.specs.Prelude.{◌≡◌, ◌||◌, ℕ, List, OnOk, IfOk};
 ghost use Rattle.std.specs.Option.{option_map};
-ghost use Rattle.hm_trace.specs.Traces.{name_set};
+ghost use Rattle.hm_trace.specs.Traces.{name_set, sets_name};
 ghost use Rattle.hm_trace.specs.Views.{name_view, step_view, steps_view};
-ghost use Rattle.hm_replay.specs.Names.{held, settled};
+ghost use Rattle.hm_replay.specs.Names.{held, is_one_of, merged, AreSetBy};
 
 use crate::env::Env;
 use hm_outside::NoMemory;
 use hm_trace::{Name, Step};
+use std::alloc::Global;
+use std::collections::BTreeSet;
 
 // The name that a step sets.
 fn name_set(step: &Step) -> Option<Name>
@@ -22,22 +24,35 @@ fn name_set(step: &Step) -> Option<Name>
     }
 }
 
-// The name that a step sets holds what it holds among theirs.
-fn merge_step(env: &mut Env, theirs: &Env, step: &Step) -> Result<(), NoMemory>
-    ensures { OnOk result (held env.new ≡ settled (held env.old) (step_view step.now ∷ []) (held theirs.now)) }
+// The name that a step sets joins the others.
+fn take_name(names: &mut BTreeSet<Name>, step: &Step) -> Result<(), NoMemory>
+    ensures { OnOk result ((q : List ℕ) → is_one_of q names.new.keys
+        ≡ (is_one_of q names.old.keys || sets_name q (step_view step.now))) }
 {
-    match name_set(step) {
-        Some(name) => env.set(name, theirs.get(&name)),
-        None => Ok(()),
-    }
+    let Some(name) = name_set(step) else {
+        return Ok(());
+    };
+    let _ = names.insert(name)?;
+    Ok(())
 }
 
-/// Each name that one of the steps sets holds what it holds among theirs.
-pub(crate) fn merge(env: &mut Env, theirs: &Env, steps: &[Step]) -> Result<(), NoMemory>
-    ensures { OnOk result (held env.new ≡ settled (held env.old) (steps_view steps.now) (held theirs.now)) }
+/// The names that the steps set, each once.
+pub(crate) fn names_set(alloc: Global, steps: &[Step]) -> Result<BTreeSet<Name>, NoMemory>
+    ensures { IfOk result (λ names. AreSetBy (steps_view steps.now) names.keys) }
 {
+    let mut names = BTreeSet::new(alloc);
     for step in steps {
-        merge_step(env, theirs, step)?;
+        take_name(&mut names, step)?;
+    }
+    Ok(names)
+}
+
+/// Each of these names holds what it holds among theirs.
+pub(crate) fn merge(env: &mut Env, theirs: &Env, names: &BTreeSet<Name>) -> Result<(), NoMemory>
+    ensures { OnOk result (held env.new ≡ merged (held env.old) names.now.keys (held theirs.now)) }
+{
+    for name in names {
+        env.set(*name, theirs.get(name))?;
     }
     Ok(())
 }

@@ -4,26 +4,28 @@ ghost use Rattle.hm_heap.specs.Passes.{AreOf};
 ghost use Rattle.hm_replay.specs.Names.{held};
 ghost use Rattle.hm_replay.specs.RoundOf.{LeavesRoot, ended_in};
 ghost use Rattle.hm_replay.specs.Rounds.{RunsRound};
-ghost use Rattle.hm_replay.specs.Workers.{IsReady, HasRun, KeepsMade, HasParted, IsBegun, FinishedTo, all_settled};
+ghost use Rattle.hm_replay.specs.Workers.{IsReady, HasRun, KeepsMade, SetsNames, HasParted, IsBegun, FinishedTo, all_settled};
 
 use crate::env::Env;
-use crate::merge::merge;
+use crate::merge::{merge, names_set};
 use crate::script::run_script;
 use hm_heap::{Heap, Pass};
 use hm_outside::{Gate, NoMemory, Pages};
 use hm_report::Results;
-use hm_trace::{Round, Script};
+use hm_trace::{Name, Round, Script};
 use std::alloc::Global;
+use std::collections::BTreeSet;
 use std::sync::Wait;
 use std::thread::{Threads, for_each_mut};
 
-/// A script with its pass, its names and its results.
+/// A script with its pass, its names, its results and which names it sets.
 #[derive(Drop)]
 struct Worker<'s> {
     script: &'s Script,
     pass: Pass,
     env: Env,
     results: Option<Results>,
+    names: Option<BTreeSet<Name>>,
 }
 
 impl<'s> Worker<'s> {
@@ -32,9 +34,11 @@ impl<'s> Worker<'s> {
         ensures script { self.new.script ≡ self.old.script }
         ensures run { HasRun heap.now.locks self.old.pass self.new.pass }
         ensures made { KeepsMade heap.now.config self.old self.new }
+        ensures names { SetsNames self.new }
     {
         let results = run_script(rt, alloc, heap, &mut self.pass, self.script, &mut self.env);
         self.results = results.ok();
+        self.names = names_set(alloc, self.script.steps()).ok();
     }
 }
 
@@ -58,6 +62,7 @@ fn work<R: Threads + Wait + Sync, P: Pages, G: Gate>(
         (slice_index_or workers.new.items i w).pass }
     ensures made { (i : ℕ) (w : _) → i < length workers.old.items
         → KeepsMade heap.now.config (slice_index_or workers.old.items i w) (slice_index_or workers.new.items i w) }
+    ensures names { (i : ℕ) (w : _) → i < length workers.old.items → SetsNames (slice_index_or workers.new.items i w) }
 {
     for_each_mut(
         rt,
@@ -100,6 +105,7 @@ fn start<'s, P: Pages, G: Gate>(
             pass,
             env,
             results: None,
+            names: None,
         });
     }
     Ok(())
@@ -128,11 +134,15 @@ fn finish<P: Pages, G: Gate>(
 
 // The names after a round: the former ones, with what each script sets.
 fn merge_all(env: &Env, workers: &[Worker<'_>]) -> Result<Env, NoMemory>
+    requires { (i : ℕ) (w : _) → i < length workers.now → SetsNames (slice_index_or workers.now i w) }
     ensures { IfOk result (λ merged. held merged ≡ all_settled (held env.now) workers.now) }
 {
     let mut merged = env.copy()?;
     for worker in workers {
-        merge(&mut merged, &worker.env, worker.script.steps())?;
+        let Some(names) = &worker.names else {
+            return Err(NoMemory);
+        };
+        merge(&mut merged, &worker.env, names)?;
     }
     Ok(merged)
 }

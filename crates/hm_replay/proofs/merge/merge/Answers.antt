@@ -1,28 +1,21 @@
-use Rattle.std.proofs.Common.{◌≡◌, ◌<◌, ◌∷◌, List, [], take, length, refl, ap, sym, ◌∙◌, subst, arith}
-use Rattle.std.proofs.lemmas.List.{take_all}
-use Rattle.hm_trace.specs.declared.step.Step.{Step}
-use Rattle.hm_trace.specs.Views.{StepView, step_view, steps_view}
-use Rattle.hm_replay.specs.Names.{Names, held, settled}
-use Rattle.hm_replay.proofs.Merging.{settled_more, taken_view}
+use Rattle.std.proofs.Common.{◌≡◌, ◌∷◌, ℕ, Option, List, [], sym, ◌∙◌, ap}
+use Rattle.hm_trace.specs.declared.names.Name.{Name}
+use Rattle.hm_trace.specs.Views.{name_view}
+use Rattle.hm_replay.specs.Names.{Names, held, merged, with_name}
+use Rattle.hm_replay.proofs.Merging.{merged_one}
 use Rattle.hm_replay.proofs.merge.merge.Goals as goal
 
-pub loop-step-init : goal.loop-step-init
-loop-step-init c = refl
-
-pub loop-step-preserved : goal.loop-step-preserved
-loop-step-preserved c =
-    let i = c.loop-step.step-index in
-    let steps = c.args.steps.now in
-    let s = c.step-item.result in
-    let names : Names = held c.args.env.now in
+pub loop-name-preserved : goal.loop-name-preserved
+loop-name-preserved c =
+    let names : Names = held c.loop-name.env in
     let last : Names = held c.args.theirs.now in
-    let lt : i < length steps = omega arith in
-    c.in_ok-merge_step.ensures
-    ∙ (ap (λ (z : Names). settled z (step_view s ∷ []) last) c.loop-step.invariant
-    ∙ (sym (settled_more names last (steps_view (take i steps)) (step_view s))
-    ∙ ap (λ (v : List StepView). settled names v last) (sym (taken_view steps i s lt c.step-item.is))))
+    let k : Name = c.in-Some.name.now in
+    let rest : List Name = c.next.new.self in
+    let steps : c.loop-name.name-iterator ≡ k ∷ rest = c.in-Some.ensures.steps in
+    ap (λ (z : Names). merged z rest last) c.in_ok-set.ensures.value
+    ∙ (ap (λ (z : Names). merged z rest last) (ap (λ (o : Option ℕ). with_name names (name_view k) o) c.get.ensures.value)
+    ∙ (merged_one names last k rest
+    ∙ (ap (λ (l : List Name). merged names l last) (sym steps) ∙ c.loop-name.invariant)))
 
 pub returns : goal.returns
-returns c =
-    subst (λ (l : List Step). held c.loop-step.env ≡ settled (held c.args.env.now) (steps_view l) (held c.args.theirs.now))
-    (take_all c.loop-step.step-index c.args.steps.now (omega arith)) c.loop-step.invariant
+returns c = ap (λ (l : List Name). merged (held c.loop-name.env) l (held c.args.theirs.now)) (sym c.in-None.ensures.steps.0) ∙ c.loop-name.invariant

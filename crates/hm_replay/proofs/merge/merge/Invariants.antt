@@ -1,7 +1,6 @@
-use Rattle.std.proofs.Common.{◌≡◌, take}
-use Rattle.hm_trace.specs.Views.{steps_view}
-use Rattle.hm_replay.specs.Names.{held, settled}
+use Rattle.std.proofs.Common.{◌≡◌}
+use Rattle.hm_replay.specs.Names.{held, merged}
 use Rattle.hm_replay.proofs.merge.merge.Given as goal
 
-abbrev pub invariant-loop-step : goal.invariant-loop-step
-invariant-loop-step l = held l.env ≡ settled (held l.fn.env) (steps_view (take l.step-index l.steps)) (held l.theirs)
+abbrev pub invariant-loop-name : goal.invariant-loop-name
+invariant-loop-name l = merged (held l.env) l.name-iterator (held l.theirs) ≡ merged (held l.fn.env) l.names.keys (held l.theirs)
