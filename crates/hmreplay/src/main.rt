@@ -19,9 +19,9 @@ mod writing;
 use hm_frames::FrameMaker;
 use hm_outside::{NoGate, StdinSource, StdoutSink};
 use run::replay;
-use std::env;
 use std::io::ErrorKind;
 use std::process::ExitCode;
+use std::{env, mem};
 
 // The words after the program's name, or the status to end with.
 fn take_words(rt: &HostRuntime) -> Result<Vec<String>, u8> {
@@ -57,7 +57,10 @@ fn main(rt: HostRuntime) -> ExitCode {
                 &mut FrameMaker,
                 &NoGate,
             );
-            ExitCode::from(run.status)
+            let status = run.status;
+            // The process ends here, and the system takes its memory back at once.
+            mem::forget(run);
+            ExitCode::from(status)
         }
     }
 }
