@@ -1,5 +1,5 @@
 -- A stress trace is a trace.
-use Rattle.std.proofs.Common.{◌≡◌, ◌≢◌, ℕ, zero, suc, ◌+◌, ◌*◌, ◌%◌, ◌^◌, ◌<◌, ◌≤◌, Bool, true, false, not, ◌||◌, cond, List, [], ◌∷◌, ◌++◌, length, refl, ◌∙◌, ap, arith, length-append, pos}
+use Rattle.std.proofs.Common.{◌≡◌, ◌≢◌, ℕ, zero, suc, ◌+◌, ◌*◌, ◌%◌, ◌^◌, ◌<◌, ◌≤◌, Bool, true, false, not, ◌||◌, cond, List, [], ◌∷◌, ◌++◌, length, refl, sym, ◌∙◌, ap, add-one, append_assoc, arith, length-append, pos}
 use Rattle.std.specs.List.{list_all, list_any, flat_map}
 use Rattle.std.proofs.lemmas.Bool.{le-leb}
 use Rattle.std.proofs.lemmas.Grind.{flat_map-append}
@@ -54,6 +54,14 @@ length_scripts number zero = refl
 length_scripts number (suc t) =
     ap length (flat_map-append (λ (s : ScriptView). s.steps) (scripts number t) (script number (suc t) ∷ []))
     ∙ omega (arith, length-append (flat_map (λ (s : ScriptView). s.steps) (scripts number t)) (groups number (suc t) 2500 ++ []), length-append (groups number (suc t) 2500) [], length_groups number (suc t) 2500, length_scripts number t)
+
+-- ---- the scripts are made in parts
+
+-- the scripts of threads after `from`, with the next one
+pub scripts_next : (number from i : ℕ) (made : List ScriptView) → scripts number from ++ made ≡ scripts number i → scripts number from ++ (made ++ script number (i + 1) ∷ []) ≡ scripts number (i + 1)
+unfolding scripts
+scripts_next number from i made upto =
+    rw (add-one i) (sym (append_assoc (scripts number from) made (script number (suc i) ∷ [])) ∙ ap (λ (l : List ScriptView). l ++ script number (suc i) ∷ []) upto)
 
 -- ---- no name is set by two threads
 

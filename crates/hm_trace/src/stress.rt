@@ -11,6 +11,10 @@ use crate::step::{Place, Step, push_step};
 use crate::trace::{Round, Script, Trace};
 use hm_outside::NoMemory;
 use std::alloc::{AllocError, Global};
+use std::thread::{Threads, join};
+
+/// How many scripts each of four threads makes.
+const SHARE: u32 = MAX_THREADS / 4;
 
 /// How many groups each thread makes.
 const GROUPS: u64 = 2500;
@@ -21,22 +25,66 @@ const NAMES: u64 = 50;
 /// How many steps each thread makes: five in each of its groups.
 const STEPS: usize = 5 * GROUPS as usize;
 
-/// The stress trace of a number.
-pub fn stress_trace(alloc: Global, number: u64) -> Result<Trace, NoMemory>
+/// The stress trace of a number. Four threads make its scripts.
+pub fn stress_trace<R: Threads + Sync>(
+    rt: &R,
+    alloc: Global,
+    number: u64,
+) -> Result<Trace, NoMemory>
     ensures exact { IfOk result (λ trace. trace ≡ stress number) }
 {
-    let scripts = scripts_of(alloc, number)?;
+    let scripts = scripts_of(rt, alloc, number)?;
     let mut rounds = Vec::new(alloc);
     rounds.push(Round::of(scripts))?;
     Ok(Trace::of(rounds))
 }
 
+/// All scripts: two halves, made side by side.
 #[tactic(auto, unfolding(crate::specs::Stress::scripts))]
-fn scripts_of(alloc: Global, number: u64) -> Result<Vec<Script>, AllocError>
+fn scripts_of<R: Threads + Sync>(
+    rt: &R,
+    alloc: Global,
+    number: u64,
+) -> Result<Vec<Script>, AllocError>
     ensures { IfOk result (λ list. list.items ≡ scripts number 16) }
 {
+    let (low, high) = join(
+        rt,
+        || half_after(rt, alloc, number, 0),
+        || half_after(rt, alloc, number, MAX_THREADS / 2),
+    );
+    let mut scripts = low?;
+    scripts.append(&mut high?)?;
+    Ok(scripts)
+}
+
+/// The scripts of the eight threads after `from`: two halves, made side by side.
+fn half_after<R: Threads + Sync>(
+    rt: &R,
+    alloc: Global,
+    number: u64,
+    from: u32,
+) -> Result<Vec<Script>, AllocError>
+    requires { from ≤ 8 }
+    ensures { IfOk result (λ list. scripts number from ++ list.items ≡ scripts number (from + 8)) }
+{
+    let (low, high) = join(
+        rt,
+        || scripts_after(alloc, number, from),
+        || scripts_after(alloc, number, from + SHARE),
+    );
+    let mut scripts = low?;
+    scripts.append(&mut high?)?;
+    Ok(scripts)
+}
+
+/// The scripts of the four threads after `from`.
+fn scripts_after(alloc: Global, number: u64, from: u32) -> Result<Vec<Script>, AllocError>
+    requires { from ≤ 12 }
+    ensures { IfOk result (λ list. scripts number from ++ list.items ≡ scripts number (from + 4)) }
+{
     let mut scripts = Vec::new(alloc);
-    for i in 0..MAX_THREADS {
+    for i in from..from + SHARE {
         let thread = i + 1;
         let steps = steps_of(alloc, number, thread)?;
         scripts.push(Script::of(thread, steps))?;

@@ -247,7 +247,7 @@ fn group(name: &str, size: u64, other: &str) -> Option<[Step; 5]> {
 fn stress_traces(rt: HostRuntime) -> Result<(), Fail> {
     let alloc = rt.alloc();
     for (number, thread, j, name, size, other) in GROUPS {
-        let trace = stress_trace(alloc, number)?;
+        let trace = stress_trace(&rt, alloc, number)?;
         assert_eq!(rt; trace.rounds().len(), 1);
         let scripts = trace.rounds().first().ok_or("no round")?.scripts();
         assert_eq!(rt; scripts.len(), 16);

@@ -170,7 +170,7 @@ fn run_stress<R: Threads + Wait + Sync, K: Sink, M: PageMaker, G: Gate>(
     ensures { StressEnds M.P.Pages result.status result.closed options.now number (K.held sink.old) (K.held sink.new)
         (Rose (K.faults sink.old) (K.faults sink.new)) }
 {
-    let trace = match stress_trace(alloc, number) {
+    let trace = match stress_trace(rt, alloc, number) {
         Ok(trace) => trace,
         Err(_) => return give_up(),
     };
