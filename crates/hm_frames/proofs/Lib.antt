@@ -5,3 +5,4 @@ pub mod Parts
 pub mod Places
 pub mod RunEdits
 pub mod Sharing
+pub mod Zeros

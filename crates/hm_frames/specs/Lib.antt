@@ -1,5 +1,6 @@
 pub mod Ownership
 pub mod Part
+pub mod Cleared
 pub mod ContentsLends
 pub mod Run
 pub mod RunLends

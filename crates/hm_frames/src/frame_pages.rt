@@ -2,8 +2,8 @@
 ghost use Rattle.std.specs.Prelude.{◌≡◌};
 ghost use Rattle.std.specs.FinMap as map;
 
-use crate::frame::Frame;
 use crate::frame_table::FrameTable;
+use crate::spare_frames::SpareFrames;
 use hm_outside::{PageFault, PageRefusal, Pages};
 use std::alloc::Global;
 use std::marker::Model;
@@ -13,6 +13,7 @@ use std::marker::Model;
 pub struct FramePages {
     alloc: Global,
     table: FrameTable,
+    spare: SpareFrames,
 }
 
 impl Model for FramePages {
@@ -42,6 +43,7 @@ impl FramePages {
             table: FrameTable {
                 runs: Vec::new(alloc),
             },
+            spare: SpareFrames::new(alloc),
         }
     }
 }
@@ -65,7 +67,8 @@ impl Pages for FramePages {
     ghost written = { range_written };
 
     fn make_accessible(&mut self, first: u64, pages: u32) -> Result<(), PageRefusal> {
-        let Ok(run) = Frame::zeroed(self.alloc, first, pages) else {
+        let alloc = self.alloc;
+        let Ok(run) = self.spare.zeroed(alloc, first, pages) else {
             return Err(PageRefusal::NoMemory);
         };
         let i = self.table.count_begun(first);
@@ -75,7 +78,8 @@ impl Pages for FramePages {
 
     fn drop_contents(&mut self, first: u64, _pages: u32) -> Result<(), PageFault> {
         let i = self.table.count_begun(first) - 1;
-        let _run = self.table.runs.remove(i);
+        let run = self.table.runs.remove(i);
+        self.spare.keep(run);
         Ok(())
     }
 
@@ -97,7 +101,7 @@ impl Pages for FramePages {
 
     fn bytes_mut(&mut self, addr: u64, len: usize) -> &mut [u8] {
         let i = self.table.count_begun(addr) - 1;
-        let from = (addr - self.table.runs[i].first) as usize;
+        let from = (addr - self.table.runs[i].first()) as usize;
         self.table.part_at(i, from, len)
     }
 

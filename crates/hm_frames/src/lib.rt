@@ -8,6 +8,7 @@ mod frame_maker;
 mod frame_pages;
 mod frame_table;
 mod page_run;
+mod spare_frames;
 #[cfg(test)]
 mod tests;
 

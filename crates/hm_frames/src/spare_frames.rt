@@ -1,0 +1,67 @@
+//! Runs whose pages were dropped, kept to be used again: no more than a few, and none that is long.
+ghost use Rattle.std.specs.Prelude.{◌≡◌, ◌*◌, ◌≤◌, length, IfOk, IfSome};
+ghost use Rattle.hm_outside.specs.PageRuns.{zeros};
+
+use crate::frame::Frame;
+use hm_outside::NoMemory;
+use std::alloc::Global;
+
+/// No more runs are kept.
+const MOST_KEPT: usize = 8;
+
+/// No run of more bytes is kept: 256 pages.
+const LONGEST_KEPT: usize = 1_048_576;
+
+#[derive(Drop)]
+pub(crate) struct SpareFrames {
+    frames: Vec<Frame>,
+}
+
+impl SpareFrames {
+    /// None is kept. It takes no memory.
+    pub(crate) fn new(alloc: Global) -> Self {
+        SpareFrames {
+            frames: Vec::new(alloc),
+        }
+    }
+
+    /// Keeps the run, or drops it: where enough are kept, where it is long, and where there is no memory.
+    pub(crate) fn keep(&mut self, frame: Frame) {
+        if self.frames.len() < MOST_KEPT && frame.len() <= LONGEST_KEPT {
+            let _ = self.frames.push(frame);
+        }
+    }
+
+    /// A kept run of so many bytes, which is kept no longer.
+    fn take(&mut self, len: usize) -> Option<Frame>
+        ensures { IfSome result (λ r. length r.run ≡ len) }
+    {
+        for i in 0..self.frames.len() {
+            if self.frames[i].len() == len {
+                return Some(self.frames.swap_remove(i));
+            }
+        }
+        None
+    }
+
+    /// A run of zero bytes: a kept one of that length, or else a fresh one.
+    pub(crate) fn zeroed(
+        &mut self,
+        alloc: Global,
+        first: u64,
+        pages: u32,
+    ) -> Result<Frame, NoMemory>
+        requires some { 1 ≤ pages }
+        requires few { pages ≤ 262144 }
+        ensures first { IfOk result (λ r. r.first ≡ first) }
+        ensures bytes { IfOk result (λ r. r.run ≡ zeros (4096 * pages)) }
+    {
+        match self.take(pages as usize * 4096) {
+            Some(mut frame) => {
+                frame.move_to(first);
+                Ok(frame)
+            }
+            None => Frame::zeroed(alloc, first, pages),
+        }
+    }
+}
