@@ -1,3 +1,4 @@
+pub mod Apart
 pub mod Crosses
 pub mod Memory
 pub mod Ordered

@@ -1,4 +1,5 @@
-//! Pages in raw memory, each accessible run of its own, searched by halves.
+//! Pages in raw memory, each accessible run of its own, searched by halves. A run that is dropped is kept for a while,
+//! and taken again for the next range of its length.
 ghost use Rattle.std.specs.Prelude.{◌≡◌};
 ghost use Rattle.std.specs.FinMap as map;
 
@@ -67,8 +68,7 @@ impl Pages for FramePages {
     ghost written = { range_written };
 
     fn make_accessible(&mut self, first: u64, pages: u32) -> Result<(), PageRefusal> {
-        let alloc = self.alloc;
-        let Ok(run) = self.spare.zeroed(alloc, first, pages) else {
+        let Ok(run) = self.spare.zeroed(self.alloc, first, pages) else {
             return Err(PageRefusal::NoMemory);
         };
         let i = self.table.count_begun(first);

@@ -1,6 +1,7 @@
 //! Runs whose pages were dropped, kept to be used again: no more than a few, and none that is long.
-ghost use Rattle.std.specs.Prelude.{◌≡◌, ◌*◌, ◌≤◌, length, IfOk, IfSome};
+ghost use Rattle.std.specs.Prelude.{◌≡◌, ◌*◌, ◌≤◌, length, All, vec_len, IfOk, IfSome};
 ghost use Rattle.hm_outside.specs.PageRuns.{zeros};
+ghost use Rattle.hm_frames.specs.declared.spare_frames.TheConstants.{MOST_KEPT, LONGEST_KEPT};
 
 use crate::frame::Frame;
 use hm_outside::NoMemory;
@@ -12,9 +13,12 @@ const MOST_KEPT: usize = 8;
 /// No run of more bytes is kept: 256 pages.
 const LONGEST_KEPT: usize = 1_048_576;
 
+/// The kept runs. Each still has the bytes that were written, and is made zero when it is taken.
 #[derive(Drop)]
 pub(crate) struct SpareFrames {
     frames: Vec<Frame>,
+    ghost few: { vec_len frames ≤ MOST_KEPT },
+    ghost short: { All (λ f. length f.run ≤ LONGEST_KEPT) frames.items },
 }
 
 impl SpareFrames {
