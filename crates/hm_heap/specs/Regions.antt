@@ -14,22 +14,22 @@ use Rattle.hm_heap.specs.declared.region.Region.TheVariants.{Class, Large}
 
 module _ {P : Type 0} where
   abbrev pub entries_of : Region P → List Entry
-  entries_of (Class heap) = heap.entries
-  entries_of (Large heap) = heap.entries
+  entries_of (Class heap) = heap.value.entries
+  entries_of (Large heap) = heap.value.entries
 
   abbrev pub pages_of : Region P → P
-  pages_of (Class heap) = heap.pages
-  pages_of (Large heap) = heap.pages
+  pages_of (Class heap) = heap.value.pages
+  pages_of (Large heap) = heap.value.pages
 
   -- the room for entries
   abbrev pub spare_of : Region P → ℕ
-  spare_of (Class heap) = heap.spare
-  spare_of (Large heap) = heap.spare
+  spare_of (Class heap) = heap.value.spare
+  spare_of (Large heap) = heap.value.spare
 
   -- the region that it is
   abbrev pub origin_of : (P → Bool) → Region P → Origin
-  origin_of told (Class heap) = class_region.origin told heap
-  origin_of told (Large heap) = large_region.origin told heap
+  origin_of told (Class heap) = class_region.origin told heap.value
+  origin_of told (Large heap) = large_region.origin told heap.value
 
   -- exactly one entry was added, with the counts of the pages at the call's start and end
   abbrev pub Added : pages.Ghosts P → Region P → Region P → Who → Call → Reply → Type 0

@@ -34,7 +34,8 @@ fn found_class<P: Pages>(
     let arena = region / CLASSES;
     let class = ClassId((region % CLASSES) as u8);
     let heap = ClassHeap::build(alloc, config, seed, arena, class, pages)?;
-    TurnLock::build(alloc, Region::Class(heap))
+    let boxed = Box::new(alloc, heap)?;
+    TurnLock::build(alloc, Region::Class(boxed))
 }
 
 // The lock of the large region, and its first turn.
@@ -50,7 +51,8 @@ fn found_large<P: Pages>(
     ensures { IfOk result (λ r. IsFounded config.now seed large_region_number r.0 r.1) }
 {
     let heap = LargeHeap::build(alloc, config, seed, pages)?;
-    TurnLock::build(alloc, Region::Large(heap))
+    let boxed = Box::new(alloc, heap)?;
+    TurnLock::build(alloc, Region::Large(boxed))
 }
 
 impl<'g, P: Pages, G: Gate> Heap<'g, P, G> {

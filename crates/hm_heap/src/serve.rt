@@ -133,8 +133,8 @@ impl<P: Pages> Region<P> {
         ensures sound { IsSound P.Pages (origin_of P.told self) (entries_of self) (pages_of self) }
     {
         match self {
-            Region::Class(heap) => heap.into_entries(),
-            Region::Large(heap) => heap.into_entries(),
+            Region::Class(heap) => Box::into_inner(heap).into_entries(),
+            Region::Large(heap) => Box::into_inner(heap).into_entries(),
         }
     }
 }
