@@ -1,1 +1,2 @@
 pub mod EachCount
+mod NoFindings

@@ -1,14 +1,16 @@
 //! The summary of a run: how many of its results are of each kind.
-ghost use Rattle.std.specs.Prelude.{◌≡◌, ◌+◌, ◌^◌, ◌<◌, ◌≤◌, ◌++◌, length, count_by, IfOk, OnOk, string_bytes};
+ghost use Rattle.std.specs.Prelude.{◌≡◌, ◌+◌, ◌-◌, ◌*◌, ◌^◌, ◌<◌, ◌≤◌, ◌++◌, length, count_by, IfOk, OnOk, string_bytes};
 ghost use Rattle.hm_report.specs.declared.counts.Kind.{Kind};
+ghost use Rattle.hm_report.specs.Findings.{has_finding};
 ghost use Rattle.hm_report.specs.Summary.{reply_kind, kind_of, is_of, step_count, end_text, summary_text};
 ghost use Rattle.hm_report.specs.Counts.{count_of, one_if, with_one_more, sum_of, counts_of, number_text, counts_line};
 
-use crate::{Results, StepResult};
+use crate::{Results, StepResult, has_finding};
 use hm_model::{Answer, Reply};
 use hm_outside::NoMemory;
 use std::alloc::{AllocError, Global};
 use std::fmt::Write;
+use std::thread::{Threads, join};
 
 /// What the summary counts a result as.
 #[derive(Clone, Copy, PartialEq, Eq)]
@@ -20,6 +22,13 @@ enum Kind {
     Freed,
     Skipped,
     Other,
+}
+
+/// The summary of a run, and whether an answer among its results is a finding.
+#[derive(Debug, Drop)]
+pub struct RunSummary {
+    pub text: Vec<u8>,
+    pub found: bool,
 }
 
 /// How many results there are of each kind.
@@ -52,6 +61,20 @@ impl Counts<usize> {
 }
 
 impl Counts<u128> {
+    /// Adds other counts.
+    fn add_counts(&mut self, more: &Counts<u128>)
+        requires { (k : Kind) → count_of self.old k + count_of more.now k < 2 ^ 128 }
+        ensures { self.new ≡ sum_of self.old more.now }
+    {
+        self.given += more.given;
+        self.written += more.written;
+        self.size += more.size;
+        self.bytes += more.bytes;
+        self.freed += more.freed;
+        self.skipped += more.skipped;
+        self.other += more.other;
+    }
+
     /// Adds the counts of a script.
     fn add_script(&mut self, script: &Counts<usize>)
         requires { (k : Kind) → count_of self.old k + count_of script.now k < 2 ^ 128 }
@@ -67,13 +90,32 @@ impl Counts<u128> {
     }
 }
 
-/// The summary of a run of the stress trace of this number: one line.
-pub fn summary(alloc: Global, number: u64, results: &[Results]) -> Result<Vec<u8>, NoMemory>
-    ensures { IfOk result (λ text. text.items ≡ summary_text number results.now) }
+/// The summary of a run of the stress trace of this number: one line; and whether an answer is a finding. Four
+/// threads count the results.
+pub fn summary<R: Threads + Sync>(
+    rt: &R,
+    alloc: Global,
+    number: u64,
+    results: &[Results],
+) -> Result<RunSummary, NoMemory>
+    ensures text { IfOk result (λ summary. summary.text.items ≡ summary_text number results.now) }
+    ensures found { IfOk result (λ summary. summary.found ≡ has_finding results.now) }
 {
+    let counts = tally(rt, results);
     let mut out = String::new(alloc);
-    push_line(&mut out, number, step_count(results), &tally(results))?;
-    Ok(out.into_bytes())
+    push_line(&mut out, number, step_count(results), &counts)?;
+    Ok(RunSummary {
+        text: out.into_bytes(),
+        found: is_found(&counts, results),
+    })
+}
+
+/// Whether some answer is a finding. Where each result is of a kind that has a word, none is.
+fn is_found(counts: &Counts<u128>, results: &[Results]) -> bool
+    requires { counts.now ≡ counts_of results.now }
+    ensures { result ≡ has_finding results.now }
+{
+    counts.other > 0 && has_finding(results)
 }
 
 fn push_line(
@@ -123,10 +165,32 @@ fn steps_in(script: &Results) -> usize
     script.items.items().len()
 }
 
+/// How many results there are of each kind: two halves, counted side by side.
+fn tally<R: Threads + Sync>(rt: &R, results: &[Results]) -> Counts<u128>
+    ensures { result ≡ counts_of results.now }
+{
+    let (low, high) = results.split_at(results.len() / 2);
+    let (mut counts, more) = join(rt, || tally_half(rt, low), || tally_half(rt, high));
+    counts.add_counts(&more);
+    counts
+}
+
+/// How many results of a half there are of each kind: two quarters, counted side by side.
+fn tally_half<R: Threads>(rt: &R, results: &[Results]) -> Counts<u128>
+    ensures value { result ≡ counts_of results.now }
+    ensures few { (kind : Kind) → count_of result kind ≤ length results.now * (2 ^ 64 - 1) }
+{
+    let (low, high) = results.split_at(results.len() / 2);
+    let (mut counts, more) = join(rt, || tally_part(low), || tally_part(high));
+    counts.add_counts(&more);
+    counts
+}
+
 /// How many results there are of each kind, in one pass over them. The counts of many scripts may sum
 /// to more than 64 bits hold.
-fn tally(results: &[Results]) -> Counts<u128>
-    ensures { result ≡ counts_of results.now }
+fn tally_part(results: &[Results]) -> Counts<u128>
+    ensures value { result ≡ counts_of results.now }
+    ensures few { (kind : Kind) → count_of result kind ≤ length results.now * (2 ^ 64 - 1) }
 {
     let mut counts = Counts::default();
     for script in results {

@@ -8,7 +8,7 @@ mod lines;
 mod results;
 mod text;
 
-pub use counts::summary;
+pub use counts::{RunSummary, summary};
 pub use findings::has_finding;
 pub use lines::report;
 pub use results::{Results, StepResult};

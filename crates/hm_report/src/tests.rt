@@ -252,7 +252,10 @@ fn results_of(
 fn summaries(rt: HostRuntime) -> Result<(), Fail> {
     let alloc = rt.alloc();
     let none = b"stress 0: steps 0 given 0 written 0 size 0 bytes 0 freed 0 skipped 0\n";
-    assert_eq!(rt; summary(alloc, 0, &[])?.as_slice(), none.as_slice());
+    assert_eq!(rt;
+        summary(&rt, alloc, 0, &[])?.text.as_slice(),
+        none.as_slice()
+    );
 
     let bytes = Runs::from_pairs(vec![in alloc; (0x41, 1)]?).ok_or("no runs")?;
     let first = vec![in alloc;
@@ -281,12 +284,14 @@ fn summaries(rt: HostRuntime) -> Result<(), Fail> {
     let text =
         b"stress 18446744073709551615: steps 9 given 1 written 1 size 1 bytes 1 freed 2 skipped 3\n";
     assert_eq!(rt;
-        summary(alloc, u64::MAX, &results)?.as_slice(),
+        summary(&rt, alloc, u64::MAX, &results)?.text.as_slice(),
         text.as_slice()
     );
 
     results.push(results_of(alloc, 3, third)?)?;
     let text = b"stress 7: steps 13 given 1 written 1 size 1 bytes 1 freed 2 skipped 3 other 4\n";
-    assert_eq!(rt; summary(alloc, 7, &results)?.as_slice(), text.as_slice());
+    let summed = summary(&rt, alloc, 7, &results)?;
+    assert!(rt; summed.found);
+    assert_eq!(rt; summed.text.as_slice(), text.as_slice());
     Ok(())
 }

@@ -2,7 +2,7 @@ use Rattle.std.proofs.Common.{◌≡◌, ◌*◌, ◌-◌, ◌^◌, ◌≤◌, t
 use Rattle.hm_report.specs.declared.counts.Kind.{Kind}
 use Rattle.hm_report.specs.Summary.{count}
 use Rattle.hm_report.specs.Counts.{count_of}
-use Rattle.hm_report.proofs.counts.tally.Given as goal
+use Rattle.hm_report.proofs.counts.tally_part.Given as goal
 
 abbrev pub invariant-loop-script : goal.invariant-loop-script
 invariant-loop-script l = record {

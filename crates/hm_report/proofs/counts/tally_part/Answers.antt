@@ -4,7 +4,7 @@ use Rattle.hm_report.specs.declared.results.StepResult.{StepResult}
 use Rattle.hm_report.specs.Summary.{is_of}
 use Rattle.hm_report.specs.Counts.{count_of}
 use Rattle.hm_report.proofs.EachCount.{count_of-sum_of, count_more}
-use Rattle.hm_report.proofs.counts.tally.Goals as goal
+use Rattle.hm_report.proofs.counts.tally_part.Goals as goal
 
 pub loop-script-preserved : goal.loop-script-preserved
 loop-script-preserved c = record {
