@@ -70,7 +70,7 @@ fn run_steps<R: Wait, P: Pages, G: Gate>(
     ensures ran { IfOk result (λ rs. GainsResults heap.now pass.old pass.new (held env.old) (steps_view steps.now)
         rs.items (held env.new)) }
 {
-    let mut results = Vec::new(alloc);
+    let mut results = Vec::with_capacity(alloc, steps.len())?;
     for (index, step) in steps.iter().enumerate() {
         let result = run_step(rt, alloc, heap, pass, env, index as u32 + 1, step)?;
         results.push(result)?;

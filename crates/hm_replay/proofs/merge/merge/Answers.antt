@@ -1,4 +1,4 @@
-use Rattle.std.proofs.Common.{◌≡◌, ◌∷◌, ℕ, Option, List, [], sym, ◌∙◌, ap}
+use Rattle.std.proofs.Common.{◌≡◌, ◌∷◌, ℕ, Option, List, sym, ◌∙◌, ap}
 use Rattle.hm_trace.specs.declared.names.Name.{Name}
 use Rattle.hm_trace.specs.Views.{name_view}
 use Rattle.hm_replay.specs.Names.{Names, held, merged, with_name}

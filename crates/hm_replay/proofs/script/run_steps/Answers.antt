@@ -61,7 +61,7 @@ loop-index-init g c =
       same = refl;
       of = c.requires.of;
       grew = all_grew_none p.turns p.turns refl;
-      ran = gains_none p.turns p.turns (Runs t 1 names [] c.new-results.result.items names) refl (λ xs. (c.new-results.ensures.items, refl, λ place. refl));
+      ran = gains_none p.turns p.turns (Runs t 1 names [] c.in_ok-results.results.items names) refl (λ xs. (c.in_ok-results.ensures.items, refl, λ place. refl));
     }
 
 pub returns-in_err-result-clause-grew : goal.returns-in_err-result-clause-grew
@@ -74,3 +74,6 @@ pub returns-clause-ran : goal.returns-clause-ran
 returns-clause-ran g c =
     subst (λ (l : List Step). Gains c.args.pass.now.turns c.loop-index.pass.turns (Runs (terms_of c.args.heap.now c.args.pass.now) 1 (held c.args.env.now) (steps_view l) c.loop-index.results.items (held c.loop-index.env)))
     (take_all c.loop-index.index c.args.steps.now (omega arith)) c.loop-index.invariant.ran
+
+pub returns-in_err-results-clause-grew : goal.returns-in_err-results-clause-grew
+returns-in_err-results-clause-grew g c = all_grew_none c.args.pass.now.turns c.args.pass.now.turns refl
