@@ -1,6 +1,7 @@
 pub mod Words
 pub mod Streams
 pub mod Replayed
+pub mod Handed
 pub mod Endings
 pub mod Refusals
 pub mod Laws

@@ -2,11 +2,12 @@
 //! written, the sink.
 ghost use Rattle.std.specs.Prelude.{◌≡◌, ◌⊎◌, Some, None, true, IfOk};
 ghost use Rattle.hm_outside.specs.Causes.{Rose};
-ghost use Rattle.hm_report.specs.Findings.{ascends};
+ghost use Rattle.hm_report.specs.Findings.{ascends, has_finding};
 ghost use Rattle.hm_sizes.specs.Configs.{IsValid};
 ghost use Rattle.hmreplay.specs.Endings.{Ends, SourceEnds, StressEnds, TextEnds, status_of, line_of, status_after, output_text, fault_line};
+ghost use Rattle.hmreplay.specs.Handed.{HandsOut, HandsOutAs};
 ghost use Rattle.hmreplay.specs.Streams.{IsTakenWithin, IsWritten};
-ghost use Rattle.hmreplay.specs.Words.{config_of};
+ghost use Rattle.hmreplay.specs.Words.{asked_in, config_of};
 
 use crate::reading::{ReadStop, read_all};
 use crate::refusal::Refusal;
@@ -16,29 +17,33 @@ use crate::words::{Command, Options, Output, read_words};
 use crate::writing::finish;
 use hm_heap::Closed;
 use hm_journal::write_journal;
-use hm_outside::{Gate, NoMemory, PageMaker, Sink, Source};
-use hm_report::{has_finding, report, summary};
+use hm_outside::{Gate, List, NoMemory, PageMaker, Sink, Source};
+use hm_report::{Results, has_finding, report, summary};
 use hm_trace::{ReadRefusal, TraceFault, read_trace, stress_trace};
 use std::alloc::Global;
 use std::sync::Wait;
 use std::thread::Threads;
 
-/// What a run ends with: the status of the program, and what was closed, if it came so far.
+/// What a run ends with: the status of the program, and what was closed, with the results of the steps, if it came
+/// so far.
 #[derive(Drop)]
 pub struct Run<P> {
     pub status: u8,
     pub closed: Option<Closed<P>>,
+    pub results: Option<List<Results>>,
 }
 
 // Writes why a run is refused.
 fn refuse<K: Sink, P>(sink: &mut K, refusal: Refusal) -> Run<P>
     ensures closed { result.closed ≡ None }
+    ensures results { result.results ≡ None }
     ensures written { IsWritten result.status (status_of refusal) (K.held sink.old) (K.held sink.new)
         (Rose (K.faults sink.old) (K.faults sink.new)) (line_of refusal) }
 {
     Run {
         status: finish(sink, refusal.status(), refusal.line()),
         closed: None,
+        results: None,
     }
 }
 
@@ -46,16 +51,19 @@ fn refuse<K: Sink, P>(sink: &mut K, refusal: Refusal) -> Run<P>
 fn give_up<P>() -> Run<P>
     ensures status { result.status ≡ 6 }
     ensures closed { result.closed ≡ None }
+    ensures results { result.results ≡ None }
 {
     Run {
         status: 6,
         closed: None,
+        results: None,
     }
 }
 
 // Writes the fault of a text that is no trace.
 fn refuse_text<K: Sink, P>(alloc: Global, sink: &mut K, fault: &TraceFault) -> Run<P>
     ensures closed { result.closed ≡ None }
+    ensures results { result.results ≡ None }
     ensures written { ((result.status ≡ 6) × (K.held sink.new ≡ K.held sink.old))
         ⊎ IsWritten result.status 3 (K.held sink.old) (K.held sink.new) (Rose (K.faults sink.old) (K.faults sink.new))
         (fault_line fault.now) }
@@ -64,6 +72,7 @@ fn refuse_text<K: Sink, P>(alloc: Global, sink: &mut K, fault: &TraceFault) -> R
         Ok(line) => Run {
             status: finish(sink, 3, line.as_bytes()),
             closed: None,
+            results: None,
         },
         Err(_) => give_up(),
     }
@@ -88,16 +97,20 @@ fn text_of<P>(
     }
 }
 
-// Writes the text of a trace that was run.
-fn write_results<K: Sink, P: Drop>(sink: &mut K, ran: Ran<P>, text: &[u8]) -> Run<P>
+// Writes the text of a trace that was run. `found` tells whether there is a finding.
+fn write_results<K: Sink, P>(sink: &mut K, ran: Ran<P>, found: bool, text: &[u8]) -> Run<P>
+    requires found { found ≡ has_finding ran.results.items }
     ensures closed { result.closed ≡ Some ran.closed }
+    ensures results { result.results ≡ Some ran.results.items }
     ensures written { IsWritten result.status (status_after ran.results.items) (K.held sink.old) (K.held sink.new)
         (Rose (K.faults sink.old) (K.faults sink.new)) text.now }
 {
-    let planned = if has_finding(&ran.results) { 1 } else { 0 };
+    let planned = if found { 1 } else { 0 };
+    let Ran { closed, results } = ran;
     Run {
         status: finish(sink, planned, text),
-        closed: Some(ran.closed),
+        closed: Some(closed),
+        results: Some(List::of(results)),
     }
 }
 
@@ -113,8 +126,9 @@ fn run_text<R: Threads + Wait + Sync, K: Sink, M: PageMaker, G: Gate>(
     gate: &G,
 ) -> Run<M::P>
     requires valid { IsValid (config_of options.now) }
-    ensures { TextEnds M.P.Pages result.status result.closed options.now output bytes.now
+    ensures ends { TextEnds M.P.Pages result.status result.closed options.now output bytes.now
         (K.held sink.old) (K.held sink.new) (Rose (K.faults sink.old) (K.faults sink.new)) }
+    ensures handed { HandsOut M.P.Pages options.now result.closed result.results }
 {
     let trace = match read_trace(alloc, bytes) {
         Ok(trace) => trace,
@@ -126,7 +140,10 @@ fn run_text<R: Threads + Wait + Sync, K: Sink, M: PageMaker, G: Gate>(
         Err(_) => return give_up(),
     };
     match text_of(alloc, options, output, &ran) {
-        Ok(text) => write_results(sink, ran, &text),
+        Ok(text) => {
+            let found = has_finding(&ran.results);
+            write_results(sink, ran, found, &text)
+        }
         Err(_) => give_up(),
     }
 }
@@ -147,6 +164,7 @@ fn run_source<R: Threads + Wait + Sync, S: Source, K: Sink, M: PageMaker, G: Gat
     ensures ends { SourceEnds M.P.Pages result.status result.closed options.now output
         (S.left source.old) (S.left source.new) (Rose (S.faults source.old) (S.faults source.new))
         (K.held sink.old) (K.held sink.new) (Rose (K.faults sink.old) (K.faults sink.new)) }
+    ensures handed { HandsOut M.P.Pages options.now result.closed result.results }
 {
     match read_all(alloc, source) {
         Ok(bytes) => run_text(rt, alloc, options, output, &bytes, sink, maker, gate),
@@ -167,8 +185,9 @@ fn run_stress<R: Threads + Wait + Sync, K: Sink, M: PageMaker, G: Gate>(
     gate: &G,
 ) -> Run<M::P>
     requires valid { IsValid (config_of options.now) }
-    ensures { StressEnds M.P.Pages result.status result.closed options.now number (K.held sink.old) (K.held sink.new)
-        (Rose (K.faults sink.old) (K.faults sink.new)) }
+    ensures ends { StressEnds M.P.Pages result.status result.closed options.now number
+        (K.held sink.old) (K.held sink.new) (Rose (K.faults sink.old) (K.faults sink.new)) }
+    ensures handed { HandsOut M.P.Pages options.now result.closed result.results }
 {
     let trace = match stress_trace(rt, alloc, number) {
         Ok(trace) => trace,
@@ -178,15 +197,15 @@ fn run_stress<R: Threads + Wait + Sync, K: Sink, M: PageMaker, G: Gate>(
         Ok(ran) => ran,
         Err(_) => return give_up(),
     };
-    match summary(alloc, number, &ran.results) {
-        Ok(text) => write_results(sink, ran, &text),
+    match summary(rt, alloc, number, &ran.results) {
+        Ok(summed) => write_results(sink, ran, summed.found, &summed.text),
         Err(_) => give_up(),
     }
 }
 
 /// Reads a trace from the source, or makes it from a number, as the words say; runs it, and writes the report of
 /// its results, the journal of its histories or the summary, or one line that says why it was refused. All
-/// memory is taken before the first byte is written.
+/// memory is taken before the first byte is written. What was closed is handed out, with the results of the steps.
 pub fn replay<R: Threads + Wait + Sync, S: Source, K: Sink, M: PageMaker, G: Gate>(
     rt: &R,
     alloc: Global,
@@ -200,6 +219,7 @@ pub fn replay<R: Threads + Wait + Sync, S: Source, K: Sink, M: PageMaker, G: Gat
     ensures ends { Ends M.P.Pages result.status result.closed words.now (S.left source.old) (S.left source.new)
         (Rose (S.faults source.old) (S.faults source.new)) (K.held sink.old) (K.held sink.new)
         (Rose (K.faults sink.old) (K.faults sink.new)) }
+    ensures handed { HandsOutAs M.P.Pages (asked_in words.now) result.closed result.results }
 {
     let asked = match read_words(words) {
         Some(asked) => asked,
