@@ -8,3 +8,4 @@ pub mod Valid
 pub mod Fronts
 pub mod Causes
 pub mod Outcomes
+pub mod Handing

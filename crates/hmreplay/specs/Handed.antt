@@ -1,22 +1,45 @@
 -- What a run hands out.
-use Rattle.std.specs.Prelude.{◌≡◌, ⊤, List, Option, Some, None}
+use Rattle.std.specs.Prelude.{◌≡◌, ⊤, ℕ, List, Option, Some, None}
 use Rattle.hm_outside.specs.declared.pages.Pages as pages
 use Rattle.hm_report.specs.declared.results.Results.{Results}
+use Rattle.hm_trace.specs.Spelling.{spelling}
+use Rattle.hm_trace.specs.Stress.{stress}
+use Rattle.hm_trace.specs.Traces.{IsTrace}
 use Rattle.hm_trace.specs.Views.{ScriptView}
 use Rattle.hm_heap.specs.declared.close.Closed.{Closed}
 use Rattle.hmreplay.specs.declared.words.Asked.{Asked}
+use Rattle.hmreplay.specs.declared.words.Command.{Command}
+use Rattle.hmreplay.specs.declared.words.Command.TheVariants.{Run, Stress}
 use Rattle.hmreplay.specs.declared.words.Options.{Options}
+use Rattle.hmreplay.specs.Streams.{IsReadToEnd}
 use Rattle.hmreplay.specs.Replayed.{IsReplayed}
 
+-- the trace whose spelling the bytes are
+abbrev pub IsSpelled : List ℕ → List (List ScriptView) → Type 0
+IsSpelled bytes trace = IsTrace trace × (bytes ≡ spelling trace)
+
+-- the trace whose spelling was read to its end
+abbrev pub IsReadTrace : Option (List ℕ) → Option (List ℕ) → List (List ScriptView) → Type 0
+IsReadTrace left left' trace = IsTrace trace × IsReadToEnd left left' (spelling trace)
+
+-- the trace that a command asks for: that of the source, or that of the number
+abbrev pub IsAskedTrace : Command → Option (List ℕ) → Option (List ℕ) → List (List ScriptView) → Type 0
+IsAskedTrace (Run output) left left' trace = IsReadTrace left left' trace
+IsAskedTrace (Stress number) left left' trace = trace ≡ stress number
+
 module _ {P : Type 0} (meaning : pages.Ghosts P) where
-  -- where a trace was run, and only there, the heap that was closed then, and the results of the trace's steps
-  abbrev pub HandsOut : Options → Option (Closed P) → Option (List Results) → Type 0
-  HandsOut o (Some left) (Some results) = (trace : List (List ScriptView)) × IsReplayed meaning o left trace results
-  HandsOut o (Some left) None = ⊥
-  HandsOut o None (Some results) = ⊥
-  HandsOut o None None = ⊤
+  -- where a trace was run, and only there, the heap that was closed then, and the results of that trace's steps
+  abbrev pub HandsOut : (List (List ScriptView) → Type 0) → Options → Option (Closed P) → Option (List Results)
+      → Type 0
+  HandsOut IsOf o (Some left) (Some results) =
+      (trace : List (List ScriptView)) × IsOf trace × IsReplayed meaning o left trace results
+  HandsOut IsOf o (Some left) None = ⊥
+  HandsOut IsOf o None (Some results) = ⊥
+  HandsOut IsOf o None None = ⊤
 
   -- as the words ask; nothing where they are not accepted
-  abbrev pub HandsOutAs : Option Asked → Option (Closed P) → Option (List Results) → Type 0
-  HandsOutAs (Some asked) closed results = HandsOut asked.options closed results
-  HandsOutAs None closed results = (closed ≡ None) × (results ≡ None)
+  abbrev pub HandsOutAs : Option Asked → Option (List ℕ) → Option (List ℕ) → Option (Closed P)
+      → Option (List Results) → Type 0
+  HandsOutAs (Some asked) left left' closed results =
+      HandsOut (IsAskedTrace asked.command left left') asked.options closed results
+  HandsOutAs None left left' closed results = (closed ≡ None) × (results ≡ None)

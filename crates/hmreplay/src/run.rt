@@ -4,8 +4,9 @@ ghost use Rattle.std.specs.Prelude.{◌≡◌, ◌⊎◌, Some, None, true, IfOk
 ghost use Rattle.hm_outside.specs.Causes.{Rose};
 ghost use Rattle.hm_report.specs.Findings.{ascends, has_finding};
 ghost use Rattle.hm_sizes.specs.Configs.{IsValid};
+ghost use Rattle.hm_trace.specs.Stress.{stress};
 ghost use Rattle.hmreplay.specs.Endings.{Ends, SourceEnds, StressEnds, TextEnds, status_of, line_of, status_after, output_text, fault_line};
-ghost use Rattle.hmreplay.specs.Handed.{HandsOut, HandsOutAs};
+ghost use Rattle.hmreplay.specs.Handed.{HandsOut, HandsOutAs, IsReadTrace, IsSpelled};
 ghost use Rattle.hmreplay.specs.Streams.{IsTakenWithin, IsWritten};
 ghost use Rattle.hmreplay.specs.Words.{asked_in, config_of};
 
@@ -128,7 +129,7 @@ fn run_text<R: Threads + Wait + Sync, K: Sink, M: PageMaker, G: Gate>(
     requires valid { IsValid (config_of options.now) }
     ensures ends { TextEnds M.P.Pages result.status result.closed options.now output bytes.now
         (K.held sink.old) (K.held sink.new) (Rose (K.faults sink.old) (K.faults sink.new)) }
-    ensures handed { HandsOut M.P.Pages options.now result.closed result.results }
+    ensures handed { HandsOut M.P.Pages (IsSpelled bytes.now) options.now result.closed result.results }
 {
     let trace = match read_trace(alloc, bytes) {
         Ok(trace) => trace,
@@ -164,7 +165,8 @@ fn run_source<R: Threads + Wait + Sync, S: Source, K: Sink, M: PageMaker, G: Gat
     ensures ends { SourceEnds M.P.Pages result.status result.closed options.now output
         (S.left source.old) (S.left source.new) (Rose (S.faults source.old) (S.faults source.new))
         (K.held sink.old) (K.held sink.new) (Rose (K.faults sink.old) (K.faults sink.new)) }
-    ensures handed { HandsOut M.P.Pages options.now result.closed result.results }
+    ensures handed { HandsOut M.P.Pages (IsReadTrace (S.left source.old) (S.left source.new)) options.now
+        result.closed result.results }
 {
     match read_all(alloc, source) {
         Ok(bytes) => run_text(rt, alloc, options, output, &bytes, sink, maker, gate),
@@ -187,7 +189,7 @@ fn run_stress<R: Threads + Wait + Sync, K: Sink, M: PageMaker, G: Gate>(
     requires valid { IsValid (config_of options.now) }
     ensures ends { StressEnds M.P.Pages result.status result.closed options.now number
         (K.held sink.old) (K.held sink.new) (Rose (K.faults sink.old) (K.faults sink.new)) }
-    ensures handed { HandsOut M.P.Pages options.now result.closed result.results }
+    ensures handed { HandsOut M.P.Pages (λ trace. trace ≡ stress number) options.now result.closed result.results }
 {
     let trace = match stress_trace(rt, alloc, number) {
         Ok(trace) => trace,
@@ -219,7 +221,8 @@ pub fn replay<R: Threads + Wait + Sync, S: Source, K: Sink, M: PageMaker, G: Gat
     ensures ends { Ends M.P.Pages result.status result.closed words.now (S.left source.old) (S.left source.new)
         (Rose (S.faults source.old) (S.faults source.new)) (K.held sink.old) (K.held sink.new)
         (Rose (K.faults sink.old) (K.faults sink.new)) }
-    ensures handed { HandsOutAs M.P.Pages (asked_in words.now) result.closed result.results }
+    ensures handed { HandsOutAs M.P.Pages (asked_in words.now) (S.left source.old) (S.left source.new)
+        result.closed result.results }
 {
     let asked = match read_words(words) {
         Some(asked) => asked,
