@@ -58,6 +58,21 @@ impl Counts<usize> {
         self.skipped += one_if(kind, Kind::Skipped);
         self.other += one_if(kind, Kind::Other);
     }
+
+    /// The same counts, as numbers to which those of other scripts can be added.
+    fn widened(&self) -> Counts<u128>
+        ensures { result ≡ self.now }
+    {
+        Counts {
+            given: self.given as u128,
+            written: self.written as u128,
+            size: self.size as u128,
+            bytes: self.bytes as u128,
+            freed: self.freed as u128,
+            skipped: self.skipped as u128,
+            other: self.other as u128,
+        }
+    }
 }
 
 impl Counts<u128> {
@@ -74,25 +89,11 @@ impl Counts<u128> {
         self.skipped += more.skipped;
         self.other += more.other;
     }
-
-    /// Adds the counts of a script.
-    fn add_script(&mut self, script: &Counts<usize>)
-        requires { (k : Kind) → count_of self.old k + count_of script.now k < 2 ^ 128 }
-        ensures { self.new ≡ sum_of self.old script.now }
-    {
-        self.given += script.given as u128;
-        self.written += script.written as u128;
-        self.size += script.size as u128;
-        self.bytes += script.bytes as u128;
-        self.freed += script.freed as u128;
-        self.skipped += script.skipped as u128;
-        self.other += script.other as u128;
-    }
 }
 
 /// The summary of a run of the stress trace of this number: one line; and whether an answer is a finding. Four
 /// threads count the results.
-pub fn summary<R: Threads + Sync>(
+pub fn summary<R: Threads>(
     rt: &R,
     alloc: Global,
     number: u64,
@@ -165,23 +166,31 @@ fn steps_in(script: &Results) -> usize
     script.items.items().len()
 }
 
-/// How many results there are of each kind: two halves, counted side by side.
-fn tally<R: Threads + Sync>(rt: &R, results: &[Results]) -> Counts<u128>
+/// How many results there are of each kind, counted by four threads.
+fn tally<R: Threads>(rt: &R, results: &[Results]) -> Counts<u128>
     ensures { result ≡ counts_of results.now }
 {
-    let (low, high) = results.split_at(results.len() / 2);
-    let (mut counts, more) = join(rt, || tally_half(rt, low), || tally_half(rt, high));
-    counts.add_counts(&more);
-    counts
+    tally_by(rt, results, results.len().div_ceil(4))
 }
 
-/// How many results of a half there are of each kind: two quarters, counted side by side.
-fn tally_half<R: Threads>(rt: &R, results: &[Results]) -> Counts<u128>
+/// How many results there are of each kind. Each part of `size` of them is counted by a thread of its own, and this one
+/// does nothing but wait: a thread that starts another and then works may keep it waiting for its processor.
+#[cycle(parts)]
+fn tally_by<R: Threads>(rt: &R, results: &[Results], size: usize) -> Counts<u128>
+    requires { 0 < length results.now → 0 < size }
     ensures value { result ≡ counts_of results.now }
     ensures few { (kind : Kind) → count_of result kind ≤ length results.now * (2 ^ 64 - 1) }
 {
-    let (low, high) = results.split_at(results.len() / 2);
-    let (mut counts, more) = join(rt, || tally_part(low), || tally_part(high));
+    if results.is_empty() {
+        return Counts::default();
+    }
+    let (part, others) = results.split_at(size.min(results.len()));
+    let rest = || -> Counts<u128>
+        requires { 0 < size }
+        ensures value { result ≡ counts_of others.entry.now }
+        ensures few { (kind : Kind) → count_of result kind ≤ length others.entry.now * (2 ^ 64 - 1) }
+    { tally_by(rt, others, size) };
+    let (mut counts, more) = join(rt, || tally_part(part), rest);
     counts.add_counts(&more);
     counts
 }
@@ -194,7 +203,7 @@ fn tally_part(results: &[Results]) -> Counts<u128>
 {
     let mut counts = Counts::default();
     for script in results {
-        counts.add_script(&counts_in(script.items.items()));
+        counts.add_counts(&counts_in(script.items.items()).widened());
     }
     counts
 }

@@ -1,6 +1,6 @@
 //! The stress trace of a number: one round in which each thread makes groups of five steps, whose sizes follow
 //! from the number.
-ghost use Rattle.std.specs.Prelude.{◌≡◌, ◌+◌, ◌≤◌, ◌<◌, ◌^◌, ◌++◌, length, slice_get, EachIndex, IfOk, OnOk, Some};
+ghost use Rattle.std.specs.Prelude.{◌≡◌, ◌+◌, ◌%◌, ◌≤◌, ◌<◌, ◌^◌, ◌++◌, length, slice_get, EachIndex, IfOk, OnOk, Some};
 ghost use Rattle.std.specs.Option.{option_map};
 ghost use Rattle.hm_trace.specs.Stress.{first, next, size_for, name_at, group, groups, script, scripts, stress};
 ghost use Rattle.hm_trace.specs.Views.{name_view, steps_view};
@@ -26,11 +26,7 @@ const NAMES: u64 = 50;
 const STEPS: usize = 5 * GROUPS as usize;
 
 /// The stress trace of a number. Four threads make its scripts.
-pub fn stress_trace<R: Threads + Sync>(
-    rt: &R,
-    alloc: Global,
-    number: u64,
-) -> Result<Trace, NoMemory>
+pub fn stress_trace<R: Threads>(rt: &R, alloc: Global, number: u64) -> Result<Trace, NoMemory>
     ensures exact { IfOk result (λ trace. trace ≡ stress number) }
 {
     let scripts = scripts_of(rt, alloc, number)?;
@@ -39,42 +35,37 @@ pub fn stress_trace<R: Threads + Sync>(
     Ok(Trace::of(rounds))
 }
 
-/// All scripts: two halves, made side by side.
+/// All scripts.
 #[tactic(auto, unfolding(crate::specs::Stress::scripts))]
-fn scripts_of<R: Threads + Sync>(
-    rt: &R,
-    alloc: Global,
-    number: u64,
-) -> Result<Vec<Script>, AllocError>
+fn scripts_of<R: Threads>(rt: &R, alloc: Global, number: u64) -> Result<Vec<Script>, AllocError>
     ensures { IfOk result (λ list. list.items ≡ scripts number 16) }
 {
-    let (low, high) = join(
-        rt,
-        || half_after(rt, alloc, number, 0),
-        || half_after(rt, alloc, number, MAX_THREADS / 2),
-    );
-    let mut scripts = low?;
-    scripts.append(&mut high?)?;
-    Ok(scripts)
+    scripts_from(rt, alloc, number, 0)
 }
 
-/// The scripts of the eight threads after `from`: two halves, made side by side.
-fn half_after<R: Threads + Sync>(
+/// The scripts of the threads after `from`. Each four are made by a thread of their own, and this one does nothing but
+/// wait: a thread that starts another and then works may keep it waiting for its processor.
+#[cycle(shares)]
+fn scripts_from<R: Threads>(
     rt: &R,
     alloc: Global,
     number: u64,
     from: u32,
 ) -> Result<Vec<Script>, AllocError>
-    requires { from ≤ 8 }
-    ensures { IfOk result (λ list. scripts number from ++ list.items ≡ scripts number (from + 8)) }
+    requires within { from ≤ 16 }
+    requires fours { from % 4 ≡ 0 }
+    ensures { IfOk result (λ list. scripts number from ++ list.items ≡ scripts number 16) }
 {
-    let (low, high) = join(
-        rt,
-        || scripts_after(alloc, number, from),
-        || scripts_after(alloc, number, from + SHARE),
-    );
-    let mut scripts = low?;
-    scripts.append(&mut high?)?;
+    if from == MAX_THREADS {
+        return Ok(Vec::new(alloc));
+    }
+    let others = || -> Result<Vec<Script>, AllocError>
+        requires { (from < 16) × (from % 4 ≡ 0) }
+        ensures { IfOk result (λ list. scripts number (from + 4) ++ list.items ≡ scripts number 16) }
+    { scripts_from(rt, alloc, number, from + SHARE) };
+    let (share, rest) = join(rt, || scripts_after(alloc, number, from), others);
+    let mut scripts = share?;
+    scripts.append(&mut rest?)?;
     Ok(scripts)
 }
 

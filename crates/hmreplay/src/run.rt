@@ -23,7 +23,7 @@ use hm_report::{Results, has_finding, report, summary};
 use hm_trace::{ReadRefusal, TraceFault, read_trace, stress_trace};
 use std::alloc::Global;
 use std::sync::Wait;
-use std::thread::Threads;
+use std::thread::{Threads, join};
 
 /// What a run ends with: the status of the program, and what was closed, with the results of the steps, if it came
 /// so far.
@@ -199,7 +199,13 @@ fn run_stress<R: Threads + Wait + Sync, K: Sink, M: PageMaker, G: Gate>(
         Ok(ran) => ran,
         Err(_) => return give_up(),
     };
-    match summary(rt, alloc, number, &ran.results) {
+    // The memory of the trace goes back to the system while the results are counted.
+    let ((), summed) = join(
+        rt,
+        || drop(trace),
+        || summary(rt, alloc, number, &ran.results),
+    );
+    match summed {
         Ok(summed) => write_results(sink, ran, summed.found, &summed.text),
         Err(_) => give_up(),
     }
