@@ -19,7 +19,8 @@ ReplyTraps found addr reply = ⊤
 module _ {P : Type 0} where
   -- exactly the entry of this call was added, with the counts of the pages at the call's start and end
   abbrev pub Added : pages.Ghosts P → Region P → Region P → Who → Call → Reply → Type 0
-  Added meaning old new who call reply = Adds who call reply (meaning.faults old.pages) (meaning.faults new.pages) old.entries new.entries
+  Added meaning old new who call reply =
+      Adds who call reply (meaning.faults old.pages) (meaning.faults new.pages) old.entries new.entries
 
   -- a trap is at the first address of the range that is not accessible, or at its own where all are and the pages do not lend them
   abbrev pub TrapsIn : (P → Bool) → Region P → ℕ → ℕ → Reply → Type 0

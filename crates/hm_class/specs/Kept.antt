@@ -79,4 +79,5 @@ pub record IsKept (told : Bool) (runs : PageRuns) (faults : ℕ) (c : Config) (n
   pub count : faults ≡ (state (terms_of told c p) es).faults
   pub follows : Follows p (state (terms_of told c p) es) k
   pub slabs : IsTrue told → HoldsSlabs p (state (terms_of told c p) es).opens runs
-  pub lists : cells number arena (terms_of told c p) es ≡ cells_of (state (terms_of told c p) es) k stream quarantine parking
+  pub lists : cells number arena (terms_of told c p) es
+      ≡ cells_of (state (terms_of told c p) es) k stream quarantine parking

@@ -35,7 +35,12 @@ module _ {P : Type 0} where
 
   -- the region that it is
   abbrev pub origin : (P → Bool) → Region P → Origin
-  origin told r = record { config = r.config; number = r.number; region = class_region_number r.arena r.class; told = told r.pages }
+  origin told r = record {
+    config = r.config;
+    number = r.number;
+    region = class_region_number r.arena r.class;
+    told = told r.pages;
+  }
 
   -- the bytes are told where the pages tell them
   abbrev pub terms : (P → Bool) → Region P → Terms
@@ -70,7 +75,8 @@ pub record IsRegion {P : Type 0} (meaning : pages.Ghosts P) (r : Region P) : Typ
   pub legal : IsLegal (terms meaning.told r) r.entries
   pub drawn : IsDrawn r.number r.arena (terms meaning.told r) r.entries
   pub count : meaning.faults r.pages ≡ (region_state meaning.told r).faults
-  pub slabs : IsTrue (meaning.told r.pages) → HoldsSlabs (region_shape r) (region_state meaning.told r).opens (meaning.runs r.pages)
+  pub slabs : IsTrue (meaning.told r.pages)
+      → HoldsSlabs (region_shape r) (region_state meaning.told r).opens (meaning.runs r.pages)
   -- an entry for the free of each live block
   pub room : length (region_state meaning.told r).live ≤ r.spare
 

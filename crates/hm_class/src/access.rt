@@ -172,7 +172,8 @@ pub fn fill<P: Pages>(
     requires range { addr + length bytes.now < 2 ^ 48 }
     ensures told { P.told pages.new ≡ P.told pages.old }
     ensures count { P.faults pages.new ≡ P.faults pages.old }
-    ensures filled { Fills (P.told pages.old) (P.runs pages.old) (P.runs pages.new) shape.now slabs.now.slabs addr bytes.now result }
+    ensures filled { Fills (P.told pages.old) (P.runs pages.old) (P.runs pages.new) shape.now slabs.now.slabs addr
+        bytes.now result }
     ensures trap { FillTraps (trap_in shape.now slabs.now.slabs addr (length bytes.now)) addr result }
     ensures within { IsFillReply addr (length bytes.now) (reply_of result) }
 {

@@ -61,7 +61,8 @@ impl<P: Pages> Model for ClassHeap<P> {
       pages = h.pages;
     } };
 
-    ghost invariant = { λ h. IsKept (P.told h.pages) (P.runs h.pages) (P.faults h.pages) h.config h.number h.arena h.shape h.entries.items h.slabs h.stream h.quarantine h.slabs.parking
+    ghost invariant = { λ h. IsKept (P.told h.pages) (P.runs h.pages) (P.faults h.pages) h.config h.number h.arena
+        h.shape h.entries.items h.slabs h.stream h.quarantine h.slabs.parking
         × (h.slabs.live ≤ h.entries.cap - h.entries.len) };
 }
 

@@ -126,7 +126,8 @@ fn retire<P: Pages>(
     requires counted { slabs.old.live ≡ live_count slabs.old.slabs }
     ensures told { P.told pages.new ≡ P.told pages.old }
     ensures counted { slabs.new.live ≡ live_count slabs.new.slabs }
-    ensures retired { Retires P.Pages shape.now slab slabs.old slabs.new pages.old pages.new stream.old stream.new result }
+    ensures retired { Retires P.Pages shape.now slab slabs.old slabs.new pages.old pages.new stream.old stream.new
+        result }
 {
     if !drop_slab(pages, shape, slab) {
         slabs.after_release(slab);
@@ -161,7 +162,8 @@ fn release<P: Pages>(
     requires parking { length slabs.old.parking ≡ park_length }
     ensures told { P.told pages.new ≡ P.told pages.old }
     ensures counted { slabs.new.live ≡ live_count slabs.new.slabs }
-    ensures released { Releases P.Pages shape.now addr slabs.old slabs.new pages.old pages.new stream.old stream.new result }
+    ensures released { Releases P.Pages shape.now addr slabs.old slabs.new pages.old pages.new stream.old stream.new
+        result }
 {
     let slot = slot_at(shape, addr);
     slabs.release(slot);
@@ -188,7 +190,8 @@ pub fn settle<P: Pages>(
     requires parking { length slabs.old.parking ≡ park_length }
     ensures told { P.told pages.new ≡ P.told pages.old }
     ensures counted { slabs.new.live ≡ live_count slabs.new.slabs }
-    ensures settled { Settles P.Pages shape.now slabs.old slabs.new pages.old pages.new stream.old stream.new released result }
+    ensures settled { Settles P.Pages shape.now slabs.old slabs.new pages.old pages.new stream.old stream.new released
+        result }
 {
     match released {
         Some(addr) => release(slabs, stream, pages, shape, park_length, addr),

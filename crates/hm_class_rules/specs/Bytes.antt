@@ -12,7 +12,8 @@ use Rattle.hm_sizes.specs.declared.shape.Shape.{Shape}
 -- ---- reading
 -- the byte at an address: none where it is not accessible
 abbrev pub byte_at : Shape → State → ℕ → Option ℕ
-byte_at p s q = if nat_lt q p.first then None else option_and_then (λ (b : Slab). slice_get b.bytes ((q - p.first) % p.slab)) (at (slab_of p q) s.opens)
+byte_at p s q = if nat_lt q p.first then None
+    else option_and_then (λ (b : Slab). slice_get b.bytes ((q - p.first) % p.slab)) (at (slab_of p q) s.opens)
 
 -- the first of len addresses from a on that is not accessible
 abbrev pub first_trap : Shape → State → ℕ → ℕ → Option ℕ
@@ -26,7 +27,8 @@ bytes_read p s a (suc len) = unwrap_or (byte_at p s a) 0 ∷ bytes_read p s (a +
 
 -- the bytes of the slab of an address from that address on, as many as are asked for
 abbrev pub bytes_from : Shape → State → ℕ → ℕ → List ℕ
-bytes_from p s a len = take len (drop (a - slab_at p (slab_of p a)) (option_map_or (λ (b : Slab). b.bytes) (at (slab_of p a) s.opens) []))
+bytes_from p s a len = take len
+    (drop (a - slab_at p (slab_of p a)) (option_map_or (λ (b : Slab). b.bytes) (at (slab_of p a) s.opens) []))
 
 abbrev pub usable_bytes : Shape → State → ℕ → List ℕ
 usable_bytes p s a = bytes_from p s a (usable p)
@@ -49,7 +51,8 @@ found_canary p s a = from_le_bytes w64 (bytes_from p s (a + usable p) 8)
 
 -- ---- writing
 abbrev pub overlaid_slabs : Shape → ℕ → List ℕ → List (ℕ × Slab) → List (ℕ × Slab)
-overlaid_slabs p a w slabs = map (λ e. (e.0, record { bytes = overlaid a w (slab_at p e.0) e.1.bytes; canary = e.1.canary })) slabs
+overlaid_slabs p a w slabs = map
+    (λ e. (e.0, record { bytes = overlaid a w (slab_at p e.0) e.1.bytes; canary = e.1.canary })) slabs
 
 -- w is written from a on, where there are bytes
 abbrev pub write : Shape → ℕ → List ℕ → State → State

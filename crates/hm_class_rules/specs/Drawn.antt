@@ -21,7 +21,8 @@ first_free p s n i = option_map (place p n) (find (is_free p s n) (range_with_le
 -- in state s, the canary is that of the first two words, and a is the first available place from the start slot
 pub record IsPicked (t : Terms) (s : State) (e : Entry) (a : ℕ) : Type 0 where
   pub canary : IfSome e.choices.canary (λ k. k ≡ canary_of e.draws.w0 e.draws.w1)
-  pub place : first_free t.shape (opened t.shape e.choices.opened e.choices.canary s) (slab_of t.shape a) (start_slot t e.choices e.draws) ≡ Some a
+  pub place : first_free t.shape (opened t.shape e.choices.opened e.choices.canary s) (slab_of t.shape a)
+      (start_slot t e.choices e.draws) ≡ Some a
 
 -- ---- the past is the list of the entries so far, the latest first
 abbrev pub state_after : Terms → List Entry → State
@@ -65,7 +66,8 @@ retirements_of t (e ∷ past) = with_retirement t e (event e) (retirements_of t 
 -- the slab of the latest retirement to this parking place
 abbrev pub latest_parked : ℕ → List Retirement → Option ℕ
 latest_parked place [] = None
-latest_parked place (retirement ∷ past) = if retirement.place == place then Some retirement.slab else latest_parked place past
+latest_parked place (retirement ∷ past) =
+    if retirement.place == place then Some retirement.slab else latest_parked place past
 
 -- a slab is unparked only where one is retired
 abbrev pub unparked_by : Option ℕ → Option ℕ → Option ℕ
@@ -79,7 +81,8 @@ pub record IsDrawnPicking (t : Terms) (past : List Entry) (e : Entry) (a : ℕ) 
 
 pub record IsDrawnFree (t : Terms) (past : List Entry) (e : Entry) (a : ℕ) : Type 0 where
   pub released : e.choices.released ≡ released t.shape.array t.shape.ring (frees_of t past) (free_at t.shape e.draws a)
-  pub unparked : e.choices.unparked ≡ unparked_by e.choices.retired (latest_parked (parking_place t e.draws) (retirements_of t past))
+  pub unparked : e.choices.unparked
+      ≡ unparked_by e.choices.retired (latest_parked (parking_place t e.draws) (retirements_of t past))
 
 abbrev pub IsDrawnEvent : Terms → List Entry → Entry → Event → Type 0
 IsDrawnEvent t past e (Picked a) = IsDrawnPicking t past e a

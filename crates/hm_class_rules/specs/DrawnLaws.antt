@@ -18,21 +18,26 @@ use Rattle.hm_class_rules.specs.Draws.{drawn_shape}
 
 -- looking back and going step by step say the same of every legal history
 abbrev pub DrawnIsStepped : Type 0
-DrawnIsStepped = (seed arena : ℕ) (t : Terms) (es : List Entry) → 1 ≤ t.config.park_length → IsShape t.shape → IsLegal t es → IsDrawn seed arena t es ↔ IsStepped seed arena t es
+DrawnIsStepped = (seed arena : ℕ) (t : Terms) (es : List Entry) → 1 ≤ t.config.park_length → IsShape t.shape
+    → IsLegal t es → IsDrawn seed arena t es ↔ IsStepped seed arena t es
 
 -- the history goes on with exactly the entries that the lists and the stream give, and each changes them
 abbrev pub OneMoreStepped : Type 0
-OneMoreStepped = (seed arena : ℕ) (t : Terms) (es : List Entry) (e : Entry) → IsStepped seed arena t es → IsSteppedEntry t (cells seed arena t es) e → IsStepped seed arena t (es ++ e ∷ [])
+OneMoreStepped = (seed arena : ℕ) (t : Terms) (es : List Entry) (e : Entry) → IsStepped seed arena t es
+    → IsSteppedEntry t (cells seed arena t es) e → IsStepped seed arena t (es ++ e ∷ [])
 
 abbrev pub OneLessStepped : Type 0
-OneLessStepped = (seed arena : ℕ) (t : Terms) (es : List Entry) (e : Entry) → IsStepped seed arena t (es ++ e ∷ []) → IsStepped seed arena t es × IsSteppedEntry t (cells seed arena t es) e
+OneLessStepped = (seed arena : ℕ) (t : Terms) (es : List Entry) (e : Entry) → IsStepped seed arena t (es ++ e ∷ [])
+    → IsStepped seed arena t es × IsSteppedEntry t (cells seed arena t es) e
 
 abbrev pub NextCells : Type 0
-NextCells = (seed arena : ℕ) (t : Terms) (es : List Entry) (e : Entry) → cells seed arena t (es ++ e ∷ []) ≡ next t (cells seed arena t es) e
+NextCells = (seed arena : ℕ) (t : Terms) (es : List Entry) (e : Entry)
+    → cells seed arena t (es ++ e ∷ []) ≡ next t (cells seed arena t es) e
 
 -- the numbers of a region that begins where its first word says fit together
 abbrev pub DrawnShapeFits : Type 0
-DrawnShapeFits = (seed : ℕ) (c : Config) (arena : ℕ) (class : ClassId) → IsValid c → arena < c.arenas → class.0 < class_count → IsShape (drawn_shape seed c arena class)
+DrawnShapeFits = (seed : ℕ) (c : Config) (arena : ℕ) (class : ClassId) → IsValid c → arena < c.arenas
+    → class.0 < class_count → IsShape (drawn_shape seed c arena class)
 
 -- ---- the first available place
 -- slot k comes before slot j in the order from slot i on, cyclically
@@ -46,7 +51,8 @@ pub record IsFirstFree (p : Shape) (s : State) (n i j : ℕ) : Type 0 where
   pub first : (k : ℕ) → k < p.slots → ComesBefore i k j → is_free p s n k ≡ false
 
 abbrev pub FindsFirst : Type 0
-FindsFirst = (p : Shape) (s : State) (n i j : ℕ) → i < p.slots → IsFirstFree p s n i j → first_free p s n i ≡ Some (place p n j)
+FindsFirst = (p : Shape) (s : State) (n i j : ℕ) → i < p.slots → IsFirstFree p s n i j
+    → first_free p s n i ≡ Some (place p n j)
 
 -- there is one exactly where the slab has an available slot
 abbrev pub FindsSome : Type 0
@@ -75,7 +81,8 @@ pub record AreKept (t : Terms) (s : State) (c : Cells) : Type 0 where
   pub parking_length : length c.parking ≡ t.config.park_length
 
 abbrev pub ListsAreKept : Type 0
-ListsAreKept = (seed arena : ℕ) (t : Terms) (es : List Entry) → 1 ≤ t.config.park_length → IsShape t.shape → IsLegal t es → IsStepped seed arena t es
+ListsAreKept = (seed arena : ℕ) (t : Terms) (es : List Entry) → 1 ≤ t.config.park_length → IsShape t.shape
+    → IsLegal t es → IsStepped seed arena t es
     → AreKept t (state t es) (cells seed arena t es)
 
 -- ---- what is drawn next is legal
@@ -84,10 +91,13 @@ pub record AllowsDrawn (t : Terms) (s : State) (c : Cells) : Type 0 where
   pub source : (n : ℕ) → front c.partial c.empty ≡ Some n → Source t.shape s None n
   pub no_source : front c.partial c.empty ≡ None → NoneServes t.shape s
   -- what the quarantine lets go as a live slot is freed
-  pub release : (a place : ℕ) → is_live s a ≡ true → IsArrayPlace t.shape.array place → Releases t.shape (takes_back t.shape a s) (let_go c.quarantine a place)
+  pub release : (a place : ℕ) → is_live s a ≡ true → IsArrayPlace t.shape.array place
+      → Releases t.shape (takes_back t.shape a s) (let_go c.quarantine a place)
   -- what stands at a parking place
-  pub unparked : (place : ℕ) → place < t.config.park_length → Unparks t.config.park_length s.parked (slice_index_or c.parking place None)
+  pub unparked : (place : ℕ) → place < t.config.park_length
+      → Unparks t.config.park_length s.parked (slice_index_or c.parking place None)
 
 abbrev pub DrawnIsAllowed : Type 0
-DrawnIsAllowed = (seed arena : ℕ) (t : Terms) (es : List Entry) → 1 ≤ t.config.park_length → IsShape t.shape → IsLegal t es → IsStepped seed arena t es
+DrawnIsAllowed = (seed arena : ℕ) (t : Terms) (es : List Entry) → 1 ≤ t.config.park_length → IsShape t.shape
+    → IsLegal t es → IsStepped seed arena t es
     → AllowsDrawn t (state t es) (cells seed arena t es)

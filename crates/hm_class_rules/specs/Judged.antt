@@ -16,10 +16,13 @@ differs None None = Freed
 
 -- the first that applies
 abbrev pub first_reply : Bool → Bool → Bool → Reply → Reply
-first_reply place given live last = if not place then NoSlot else if not given then Unused else if not live then DoubleFree else last
+first_reply place given live last =
+    if not place then NoSlot else if not given then Unused else if not live then DoubleFree else last
 
 abbrev pub judged : Terms → State → ℕ → Option ℕ → Reply
-judged t s a stated = first_reply (is_slot t.shape a (slab_of t.shape a) (slot_of t.shape a)) (among a s.given) (is_live s a) (differs (wrong_size t.shape stated) (wrong_canary t.shape s a))
+judged t s a stated = first_reply (is_slot t.shape a (slab_of t.shape a) (slot_of t.shape a)) (among a s.given)
+    (is_live s a) (differs (wrong_size t.shape stated) (wrong_canary t.shape s a))
 
 abbrev pub Judged : Type 0
-Judged = (t : Terms) (s : State) (before now : ℕ) (c : Choices) (a : ℕ) (stated : Option ℕ) (reply : Reply) → IsTrue t.told → Allows t s before now c (GiveBack a stated) reply → reply ≡ judged t s a stated
+Judged = (t : Terms) (s : State) (before now : ℕ) (c : Choices) (a : ℕ) (stated : Option ℕ) (reply : Reply)
+    → IsTrue t.told → Allows t s before now c (GiveBack a stated) reply → reply ≡ judged t s a stated

@@ -54,7 +54,8 @@ Sound = (t : Terms) (es : List Entry) → IsShape t.shape → IsLegal t es → I
 
 -- ---- live blocks never overlap
 abbrev pub Apart : Type 0
-Apart = (t : Terms) (es : List Entry) (a b : ℕ) → IsShape t.shape → IsLegal t es → is_live (state t es) a ≡ true → is_live (state t es) b ≡ true → a ≢ b
+Apart = (t : Terms) (es : List Entry) (a b : ℕ) → IsShape t.shape → IsLegal t es → is_live (state t es) a ≡ true
+    → is_live (state t es) b ≡ true → a ≢ b
     → (a + t.shape.slot ≤ b) ⊎ (b + t.shape.slot ≤ a)
 
 -- ---- the delay
@@ -81,7 +82,8 @@ frees_in (e ∷ es) = (if is_freed e.reply then 1 else 0) + frees_in es
 
 -- between a free of a slot and a later giving of it stand as many further frees as the delay says
 abbrev pub Delays : Type 0
-Delays = (t : Terms) (before middle after : List Entry) (f g : Entry) (a : ℕ) → IsLegal t (before ++ (f ∷ (middle ++ (g ∷ after)))) → IsFreedAt f a → IsGivenAt g a
+Delays = (t : Terms) (before middle after : List Entry) (f g : Entry) (a : ℕ)
+    → IsLegal t (before ++ (f ∷ (middle ++ (g ∷ after)))) → IsFreedAt f a → IsGivenAt g a
     → delay t.shape ≤ frees_in middle
 
 -- ---- what is never given
@@ -95,7 +97,8 @@ pub record IsOverwrittenAt (e : Entry) (a : ℕ) : Type 0 where
 
 -- a slot that was found overwritten is never given afterwards
 abbrev pub NeverGiven : Type 0
-NeverGiven = (t : Terms) (before middle after : List Entry) (o g : Entry) (a : ℕ) → IsLegal t (before ++ (o ∷ (middle ++ (g ∷ after)))) → IsOverwrittenAt o a → IsGivenAt g a → ⊥
+NeverGiven = (t : Terms) (before middle after : List Entry) (o g : Entry) (a : ℕ)
+    → IsLegal t (before ++ (o ∷ (middle ++ (g ∷ after)))) → IsOverwrittenAt o a → IsGivenAt g a → ⊥
 
 -- the quarantine holds no more addresses than its array and its ring have places
 abbrev pub HoldsFew : Type 0
@@ -103,8 +106,10 @@ HoldsFew = (t : Terms) (es : List Entry) → IsLegal t es → length (state t es
 
 -- a release that empties a slab makes one empty slab more
 abbrev pub OneMoreEmpty : Type 0
-OneMoreEmpty = (p : Shape) (s : State) (a b : ℕ) → IsShape p → IsSound p s → is_live s a ≡ true → Releases p (takes_back p a s) (Some b)
-    → is_empty p (releases (Some b) (takes_back p a s)) (slab_of p b) ≡ true → length (empty_slabs p (releases (Some b) (takes_back p a s))) ≡ length (empty_slabs p s) + 1
+OneMoreEmpty = (p : Shape) (s : State) (a b : ℕ) → IsShape p → IsSound p s → is_live s a ≡ true
+    → Releases p (takes_back p a s) (Some b)
+    → is_empty p (releases (Some b) (takes_back p a s)) (slab_of p b) ≡ true
+    → length (empty_slabs p (releases (Some b) (takes_back p a s))) ≡ length (empty_slabs p s) + 1
 
 -- ---- bytes
 -- how many bytes an open slab has
@@ -120,5 +125,6 @@ WholeSlabs = (t : Terms) (es : List Entry) → IsLegal t es → AllWhole (bytes_
 
 -- where reuse is checked, all usable bytes of a given slot are zero
 abbrev pub Zeroed : Type 0
-Zeroed = (t : Terms) (es : List Entry) (g : Entry) (a k : ℕ) → IsShape t.shape → IsLegal t (es ++ (g ∷ [])) → IsGivenAt g a → IsTrue t.told → t.config.check_reuse ≡ true
+Zeroed = (t : Terms) (es : List Entry) (g : Entry) (a k : ℕ) → IsShape t.shape → IsLegal t (es ++ (g ∷ []))
+    → IsGivenAt g a → IsTrue t.told → t.config.check_reuse ≡ true
     → k < usable t.shape → byte_at t.shape (state t (es ++ (g ∷ []))) (a + k) ≡ Some 0

@@ -27,7 +27,15 @@ pub record Terms : Type 0 where
 
 -- ---- choices
 abbrev pub chose : Option ℕ → Option ℕ → Option ℕ → Option ℕ → Option ℕ → Option ℕ → Choices
-chose canary opened released retired purged unparked = record { canary = canary; opened = opened; released = released; retired = retired; purged = purged; unparked = unparked; guard = None }
+chose canary opened released retired purged unparked = record {
+  canary = canary;
+  opened = opened;
+  released = released;
+  retired = retired;
+  purged = purged;
+  unparked = unparked;
+  guard = None;
+}
 
 -- ---- allotting
 -- no open slab serves
@@ -60,14 +68,16 @@ AllowsGiven t s c a size =
 abbrev pub AllowsOverwritten : Terms → State → Choices → ℕ → ℕ → ℕ → Type 0
 AllowsOverwritten t s c a at found =
     let now = opened t.shape c.opened c.canary s in
-    Picks t.shape s now c a × (t.config.check_reuse ≡ true) × (IsTrue t.told → reuse_finds t.config t.shape now a ≡ Some (at, found))
+    Picks t.shape s now c a × (t.config.check_reuse ≡ true)
+    × (IsTrue t.told → reuse_finds t.config t.shape now a ≡ Some (at, found))
 
 abbrev pub AllowsExhausted : Terms → State → Choices → Type 0
 AllowsExhausted t s c = NoneServes t.shape s × (unopened t.shape s.shut s.next ≡ None) × (c ≡ no_choices)
 
 abbrev pub AllowsPagesFailed : Terms → State → ℕ → ℕ → Choices → Type 0
 AllowsPagesFailed t s before now c =
-    NoneServes t.shape s × (is_some (unopened t.shape s.shut s.next) ≡ true) × (has_bytes t.shape ≡ true) × (before < now) × (c ≡ no_choices)
+    NoneServes t.shape s × (is_some (unopened t.shape s.shut s.next) ≡ true) × (has_bytes t.shape ≡ true)
+    × (before < now) × (c ≡ no_choices)
 
 -- ---- blocks
 pub record IsLiveBlock (p : Shape) (s : State) (a : ℕ) : Type 0 where
@@ -92,17 +102,20 @@ wrong_size p (Some size) = if block_size size == class_size_of p then None else 
 
 -- the slab's canary and what was found, where they differ
 abbrev pub wrong_canary : Shape → State → ℕ → Option (ℕ × ℕ)
-wrong_canary p s a = if has_bytes p && not (found_canary p s a == kept_canary p s a) then Some (kept_canary p s a, found_canary p s a) else None
+wrong_canary p s a = if has_bytes p && not (found_canary p s a == kept_canary p s a)
+    then Some (kept_canary p s a, found_canary p s a) else None
 
 -- what may be released, s being the state with the freed slot in quarantine
 abbrev pub Releases : Shape → State → Option ℕ → Type 0
 Releases p s None = length s.held ≤ p.array + p.ring
-Releases p s (Some b) = (among b s.held ≡ true) × (among b (take (delay p) s.frees) ≡ false) × (length (without b s.held) ≤ p.array + p.ring)
+Releases p s (Some b) = (among b s.held ≡ true) × (among b (take (delay p) s.frees) ≡ false)
+    × (length (without b s.held) ≤ p.array + p.ring)
 
 -- the slab that is to go, s being the state after the release: it is empty, and there are too many such
 abbrev pub surplus : Shape → State → Option ℕ → Option ℕ
 surplus p s None = None
-surplus p s (Some b) = if is_empty p s (slab_of p b) && nat_lt 131072 (length (empty_slabs p s) * p.slab) then Some (slab_of p b) else None
+surplus p s (Some b) = if is_empty p s (slab_of p b) && nat_lt 131072 (length (empty_slabs p s) * p.slab)
+    then Some (slab_of p b) else None
 
 abbrev pub Unparks : ℕ → List ℕ → Option ℕ → Type 0
 Unparks most parked None = length parked < most
@@ -120,7 +133,8 @@ pub record AllowsFreed (t : Terms) (s : State) (before now : ℕ) (c : Choices) 
   pub size : wrong_size t.shape stated ≡ None
   pub canary : IsTrue t.told → wrong_canary t.shape s a ≡ None
   pub release : Releases t.shape (takes_back t.shape a s) c.released
-  pub emptied : Empties t (releases c.released (takes_back t.shape a s)) before now c (surplus t.shape (releases c.released (takes_back t.shape a s)) c.released)
+  pub emptied : Empties t (releases c.released (takes_back t.shape a s)) before now c
+      (surplus t.shape (releases c.released (takes_back t.shape a s)) c.released)
   pub choices : c ≡ chose None None c.released c.retired c.purged c.unparked
 
 -- ---- what each call asks of its arguments
@@ -137,18 +151,24 @@ Allows t s before now c (Allot asked align) PagesFailed = AllowsPagesFailed t s 
 Allows t s before now c (GiveBack a stated) NoSlot = IsNoSlot t.shape s a × (c ≡ no_choices)
 Allows t s before now c (GiveBack a stated) Unused = IsUnused t.shape s a × (c ≡ no_choices)
 Allows t s before now c (GiveBack a stated) DoubleFree = IsDoubleFree t.shape s a × (c ≡ no_choices)
-Allows t s before now c (GiveBack a stated) (WrongSize block other) = IsLiveBlock t.shape s a × (wrong_size t.shape stated ≡ Some (block, other)) × (c ≡ no_choices)
+Allows t s before now c (GiveBack a stated) (WrongSize block other) =
+    IsLiveBlock t.shape s a × (wrong_size t.shape stated ≡ Some (block, other)) × (c ≡ no_choices)
 Allows t s before now c (GiveBack a stated) (Canary kept found) =
-    IsLiveBlock t.shape s a × (wrong_size t.shape stated ≡ None) × (has_bytes t.shape ≡ true) × (IsTrue t.told → wrong_canary t.shape s a ≡ Some (kept, found)) × (c ≡ no_choices)
+    IsLiveBlock t.shape s a × (wrong_size t.shape stated ≡ None) × (has_bytes t.shape ≡ true)
+    × (IsTrue t.told → wrong_canary t.shape s a ≡ Some (kept, found)) × (c ≡ no_choices)
 Allows t s before now c (GiveBack a stated) Freed = AllowsFreed t s before now c a stated
 Allows t s before now c (Measure a) NoSlot = IsNoSlot t.shape s a × (c ≡ no_choices)
 Allows t s before now c (Measure a) Unused = IsUnused t.shape s a × (c ≡ no_choices)
 Allows t s before now c (Measure a) DoubleFree = IsDoubleFree t.shape s a × (c ≡ no_choices)
 Allows t s before now c (Measure a) (Usable size) = IsLiveBlock t.shape s a × (size ≡ usable t.shape) × (c ≡ no_choices)
-Allows t s before now c (Fetch a len) (Bytes runs) = (length (expand runs) ≡ len) × (IsTrue t.told → (first_trap t.shape s a len ≡ None) × (expand runs ≡ bytes_read t.shape s a len)) × (c ≡ no_choices)
+Allows t s before now c (Fetch a len) (Bytes runs) = (length (expand runs) ≡ len)
+    × (IsTrue t.told → (first_trap t.shape s a len ≡ None) × (expand runs ≡ bytes_read t.shape s a len))
+    × (c ≡ no_choices)
 Allows t s before now c (Fetch a len) (Trap q) = (IsTrue t.told → first_trap t.shape s a len ≡ Some q) × (c ≡ no_choices)
-Allows t s before now c (Fill a runs) Filled = (IsTrue t.told → first_trap t.shape s a (length (expand runs)) ≡ None) × (c ≡ no_choices)
-Allows t s before now c (Fill a runs) (Trap q) = (IsTrue t.told → first_trap t.shape s a (length (expand runs)) ≡ Some q) × (c ≡ no_choices)
+Allows t s before now c (Fill a runs) Filled =
+    (IsTrue t.told → first_trap t.shape s a (length (expand runs)) ≡ None) × (c ≡ no_choices)
+Allows t s before now c (Fill a runs) (Trap q) =
+    (IsTrue t.told → first_trap t.shape s a (length (expand runs)) ≡ Some q) × (c ≡ no_choices)
 Allows t s before now c call reply = ⊥
 
 pub record Allowed (t : Terms) (s : State) (e : Entry) : Type 0 where

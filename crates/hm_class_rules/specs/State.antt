@@ -28,7 +28,18 @@ pub record State : Type 0 where
   pub faults : ℕ
 
 abbrev pub start : State
-start = record { live = []; held = []; condemned = []; given = []; frees = []; opens = []; parked = []; shut = []; next = 0; faults = 0 }
+start = record {
+  live = [];
+  held = [];
+  condemned = [];
+  given = [];
+  frees = [];
+  opens = [];
+  parked = [];
+  shut = [];
+  next = 0;
+  faults = 0;
+}
 
 -- ---- available places
 abbrev pub is_open : State → ℕ → Bool

@@ -47,7 +47,8 @@ touched p released Undrawn = 0
 -- that stays so keeps its place, and one that is so no more leaves
 abbrev pub listed : Kind → ℕ → Kind → Kind → List ℕ → List ℕ
 listed wanted n before after list =
-    if same_kind after before then list else if same_kind after wanted then n ∷ list else if same_kind before wanted then without n list else list
+    if same_kind after before then list else if same_kind after wanted then n ∷ list
+    else if same_kind before wanted then without n list else list
 
 -- ---- the quarantine and the parking array
 abbrev pub quarantine_with : Shape → Entry → Event → Kept → Kept
@@ -88,7 +89,8 @@ pub record IsSteppedPicking (t : Terms) (c : Cells) (e : Entry) (a : ℕ) : Type
 
 pub record IsSteppedFree (t : Terms) (c : Cells) (e : Entry) (a : ℕ) : Type 0 where
   pub released : e.choices.released ≡ let_go c.quarantine a (array_place t.shape e.draws)
-  pub unparked : e.choices.unparked ≡ unparked_by e.choices.retired (slice_index_or c.parking (parking_place t e.draws) None)
+  pub unparked : e.choices.unparked
+      ≡ unparked_by e.choices.retired (slice_index_or c.parking (parking_place t e.draws) None)
 
 abbrev pub IsSteppedEvent : Terms → Cells → Entry → Event → Type 0
 IsSteppedEvent t c e (Picked a) = IsSteppedPicking t c e a

@@ -35,7 +35,11 @@ condemns a s = record s { condemned = a ∷ s.condemned }
 
 -- ---- giving back
 abbrev pub takes_back : Shape → ℕ → State → State
-takes_back p a s = record (write p a (zeros (usable p)) s) { live = removed a s.live; frees = a ∷ s.frees; held = a ∷ s.held }
+takes_back p a s = record (write p a (zeros (usable p)) s) {
+  live = removed a s.live;
+  frees = a ∷ s.frees;
+  held = a ∷ s.held;
+}
 
 abbrev pub releases : Option ℕ → State → State
 releases None s = s
@@ -57,7 +61,8 @@ purges p (Some m) s = write p (slab_at p m) (zeros p.slab) s
 abbrev pub moved : Shape → Choices → Call → Reply → State → State
 moved p c (Allot asked align) (Given a usable) s = gives p a asked (opened p c.opened c.canary s)
 moved p c (Allot asked align) (Overwritten a place found) s = condemns a (opened p c.opened c.canary s)
-moved p c (GiveBack a stated) Freed s = purges p c.purged (retires c.retired (unparks c.unparked (releases c.released (takes_back p a s))))
+moved p c (GiveBack a stated) Freed s =
+    purges p c.purged (retires c.retired (unparks c.unparked (releases c.released (takes_back p a s))))
 moved p c (Fill a runs) Filled s = write p a (expand runs) s
 moved p c call reply s = s
 

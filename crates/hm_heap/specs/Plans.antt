@@ -33,7 +33,8 @@ pub record MakesPart (p q : PassView) (place : ℕ) (who : Who) (call : Call) (a
 abbrev pub Follows : PassView → PassView → ℕ → ℕ → Plan → Result Answer NoMemory → Type 0
 Follows p q step n (Done a) answer = (answer ≡ Ok a) × (q ≡ p)
 Follows p q step n (Part place call next) answer =
-    MakesPart p q place (who_of p step n) call answer (λ between reply. Follows between q step (n + 1) (next reply) answer)
+    MakesPart p q place (who_of p step n) call answer
+    (λ between reply. Follows between q step (n + 1) (next reply) answer)
 
 -- some plan of this kind was followed
 pub record Serves (IsPlan : Plan → Type 0) (p q : PassView) (step : ℕ) (answer : Result Answer NoMemory) : Type 0 where

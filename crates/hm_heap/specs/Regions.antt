@@ -34,4 +34,5 @@ module _ {P : Type 0} where
   -- exactly one entry was added, with the counts of the pages at the call's start and end
   abbrev pub Added : pages.Ghosts P → Region P → Region P → Who → Call → Reply → Type 0
   Added meaning old new who call reply =
-      Adds who call reply (meaning.faults (pages_of old)) (meaning.faults (pages_of new)) (entries_of old) (entries_of new)
+      Adds who call reply (meaning.faults (pages_of old)) (meaning.faults (pages_of new)) (entries_of old)
+      (entries_of new)

@@ -53,7 +53,8 @@ impl<'g, P: Pages, G: Gate> Heap<'g, P, G> {
         requires asks { IsInReach addr → AsksAtHome (call_of request) }
         ensures same { pass.new ≡ record pass.old { turns = pass.new.turns } }
         ensures of { AreOf self.now.locks pass.new.turns }
-        ensures answer { Follows pass.old pass.new step 1 (at_home (home_place self.now.config addr) (call_of request.entry)) result }
+        ensures answer { Follows pass.old pass.new step 1
+            (at_home (home_place self.now.config addr) (call_of request.entry)) result }
     {
         match home_place(&self.config, addr) {
             None => Ok(Answer::Outside),
@@ -75,7 +76,8 @@ impl<'g, P: Pages, G: Gate> Heap<'g, P, G> {
         requires kind { AsksOfKind asked align kind }
         ensures same { pass.new ≡ record pass.old { turns = pass.new.turns } }
         ensures of { AreOf self.now.locks pass.new.turns }
-        ensures answer { Follows pass.old pass.new step 1 (allot_plan self.now.config pass.old.thread asked align kind) result }
+        ensures answer { Follows pass.old pass.new step 1
+            (allot_plan self.now.config pass.old.thread asked align kind) result }
         ensures reach { IfOk result AnswerInReach }
     {
         match kind {
@@ -143,7 +145,8 @@ impl<'g, P: Pages, G: Gate> Heap<'g, P, G> {
         requires of { AreOf self.now.locks pass.old.turns }
         ensures same { pass.new ≡ record pass.old { turns = pass.new.turns } }
         ensures of { AreOf self.now.locks pass.new.turns }
-        ensures answer { Serves (IsAlignedPlan self.now.config pass.old.thread align asked) pass.old pass.new step result }
+        ensures answer { Serves (IsAlignedPlan self.now.config pass.old.thread align asked) pass.old pass.new step
+            result }
         ensures reach { IfOk result AnswerInReach }
     {
         match class_aligned(asked, align) {

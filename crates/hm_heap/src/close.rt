@@ -71,8 +71,10 @@ fn close_all<P: Pages>(
 )
     requires arenas { config.now.arenas ≤ 4 }
     requires of { AreOf locks.items turns.items }
-    requires root { (r : ℕ) (t : Known) → r < vec_len turns → ((slice_index_or turns.items r t).knows.caller ≡ 0) × ((slice_index_or turns.items r t).knows.out ≡ 0) }
-    requires regions { (r : ℕ) (l : Lock) → r < vec_len locks → (origin_in (slice_index_or locks.items r l).origin).region ≡ region_at config.now r }
+    requires root { (r : ℕ) (t : Known) → r < vec_len turns
+        → ((slice_index_or turns.items r t).knows.caller ≡ 0) × ((slice_index_or turns.items r t).knows.out ≡ 0) }
+    requires regions { (r : ℕ) (l : Lock) → r < vec_len locks
+        → (origin_in (slice_index_or locks.items r l).origin).region ≡ region_at config.now r }
     requires room { (vec_len locks ≤ vec_capacity histories.old) × (vec_len locks ≤ vec_capacity pages.old) }
     requires empty { (vec_len histories.old ≡ 0) × (vec_len pages.old ≡ 0) }
     ensures { ClosesAll P.Pages turns.items histories.new.items pages.new.items }
@@ -95,7 +97,8 @@ impl<'g, P: Pages, G: Gate> Heap<'g, P, G> {
     pub fn close(self, alloc: Global, pass: Pass) -> Result<Closed<P>, NoMemory>
         requires of { AreOf self.locks pass.turns }
         requires root { (pass.caller ≡ 0) × (pass.out ≡ 0) }
-        ensures { IfOk result (λ closed. Closes P.Pages self.entry.config self.entry.number pass.turns closed.histories closed.pages) }
+        ensures { IfOk result (λ closed. Closes P.Pages self.entry.config self.entry.number pass.turns
+            closed.histories closed.pages) }
     {
         let Heap { config, locks, .. } = self;
         let Pass { turns, .. } = pass;

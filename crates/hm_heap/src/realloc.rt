@@ -56,7 +56,8 @@ impl<'g, P: Pages, G: Gate> Heap<'g, P, G> {
         requires reach { IsInReach moved.new }
         ensures same { pass.new ≡ record pass.old { turns = pass.new.turns } }
         ensures of { AreOf self.now.locks pass.new.turns }
-        ensures answer { Follows pass.old pass.new step part (freeing moved.home moved.addr moved.new moved.usable) result }
+        ensures answer { Follows pass.old pass.new step part (freeing moved.home moved.addr moved.new moved.usable)
+            result }
         ensures reach { IfOk result AnswerInReach }
     {
         let request = Request::GiveBack {
@@ -89,7 +90,9 @@ impl<'g, P: Pages, G: Gate> Heap<'g, P, G> {
         requires reach { IsInReach moved.new }
         ensures same { pass.new ≡ record pass.old { turns = pass.new.turns } }
         ensures of { AreOf self.now.locks pass.new.turns }
-        ensures answer { Follows pass.old pass.new step 4 (Part moved.place (call.Fill moved.new runs.now) (filled moved.home moved.addr moved.new moved.usable)) result }
+        ensures answer { Follows pass.old pass.new step 4
+            (Part moved.place (call.Fill moved.new runs.now) (filled moved.home moved.addr moved.new moved.usable))
+            result }
         ensures reach { IfOk result AnswerInReach }
     {
         let request = Request::Fill {
@@ -119,7 +122,8 @@ impl<'g, P: Pages, G: Gate> Heap<'g, P, G> {
         requires few { count ≤ 2 ^ 30 }
         ensures same { pass.new ≡ record pass.old { turns = pass.new.turns } }
         ensures of { AreOf self.now.locks pass.new.turns }
-        ensures answer { Follows pass.old pass.new step 3 (copying moved.home moved.place moved.addr moved.new moved.usable count) result }
+        ensures answer { Follows pass.old pass.new step 3
+            (copying moved.home moved.place moved.addr moved.new moved.usable count) result }
         ensures reach { IfOk result AnswerInReach }
     {
         if count == 0 {
@@ -157,7 +161,8 @@ impl<'g, P: Pages, G: Gate> Heap<'g, P, G> {
         requires asks { Asks (region_at self.now.config place) (call.Allot asked 1) }
         ensures same { pass.new ≡ record pass.old { turns = pass.new.turns } }
         ensures of { AreOf self.now.locks pass.new.turns }
-        ensures answer { Follows pass.old pass.new step 2 (Part place (call.Allot asked 1) (allotted home place addr count)) result }
+        ensures answer { Follows pass.old pass.new step 2
+            (Part place (call.Allot asked 1) (allotted home place addr count)) result }
         ensures reach { IfOk result AnswerInReach }
     {
         let request = Request::Allot { asked, align: 1 };
@@ -198,7 +203,9 @@ impl<'g, P: Pages, G: Gate> Heap<'g, P, G> {
         requires asks { Asks (region_at self.now.config place) (call.Allot asked 1) }
         ensures same { pass.new ≡ record pass.old { turns = pass.new.turns } }
         ensures of { AreOf self.now.locks pass.new.turns }
-        ensures answer { Follows pass.old pass.new step 1 (Part home (call.Measure addr) (measured home place addr asked (keeps self.now.config home kind))) result }
+        ensures answer { Follows pass.old pass.new step 1
+            (Part home (call.Measure addr) (measured home place addr asked (keeps self.now.config home kind)))
+            result }
         ensures reach { IfOk result AnswerInReach }
     {
         let request = Request::Measure { addr };

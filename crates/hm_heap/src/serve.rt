@@ -48,7 +48,8 @@ fn serve_class<P: Pages>(
     ensures added { IfOk result (class_calls.Added P.Pages heap.old heap.new who (call_of request.entry)) }
     ensures replies { IfOk result (IsReply (class_region.origin P.told heap.old) (call_of request.entry)) }
     ensures memory { OnErr result (heap.new.entries ≡ heap.old.entries) }
-    ensures accepted { IsAccepted (class_region.origin P.told heap.old) heap.old.entries (call_of request.entry) → IsOk result }
+    ensures accepted { IsAccepted (class_region.origin P.told heap.old) heap.old.entries (call_of request.entry)
+        → IsOk result }
 {
     let _ = heap.entries();
     match request {
@@ -73,7 +74,8 @@ fn serve_large<P: Pages>(
     ensures added { IfOk result (large_calls.Added P.Pages heap.old heap.new who (call_of request.entry)) }
     ensures replies { IfOk result (IsReply (large_region.origin P.told heap.old) (call_of request.entry)) }
     ensures memory { OnErr result (heap.new.entries ≡ heap.old.entries) }
-    ensures accepted { IsAccepted (large_region.origin P.told heap.old) heap.old.entries (call_of request.entry) → IsOk result }
+    ensures accepted { IsAccepted (large_region.origin P.told heap.old) heap.old.entries (call_of request.entry)
+        → IsOk result }
 {
     match request {
         Request::Allot { asked, align } => heap.allot(who, asked, align),
@@ -94,7 +96,8 @@ impl<P: Pages> Region<P> {
         ensures added { IfOk result (Added P.Pages self.old self.new who (call_of request.entry)) }
         ensures replies { IfOk result (IsReply (origin_of P.told self.old) (call_of request.entry)) }
         ensures memory { OnErr result (entries_of self.new ≡ entries_of self.old) }
-        ensures accepted { IsAccepted (origin_of P.told self.old) (entries_of self.old) (call_of request.entry) → IsOk result }
+        ensures accepted { IsAccepted (origin_of P.told self.old) (entries_of self.old) (call_of request.entry)
+            → IsOk result }
     {
         match self {
             Region::Class(heap) => serve_class(heap, who, request),

@@ -19,7 +19,9 @@ fn split_all<P: Pages>(
     caller: u32,
 )
     requires of { AreOf locks.now roots.old.items }
-    requires root { (r : ℕ) (t : Known) → r < vec_len roots.old → ((slice_index_or roots.old.items r t).knows.caller ≡ 0) × (is_among caller (slice_index_or roots.old.items r t).knows.used ≡ false) }
+    requires root { (r : ℕ) (t : Known) → r < vec_len roots.old
+        → ((slice_index_or roots.old.items r t).knows.caller ≡ 0)
+        × (is_among caller (slice_index_or roots.old.items r t).knows.used ≡ false) }
     requires caller { 0 < caller }
     requires empty { turns.old.items ≡ [] }
     requires room { vec_len roots.old ≤ vec_capacity turns.old }

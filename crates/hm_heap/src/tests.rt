@@ -6,8 +6,7 @@ ghost use Rattle.hm_heap.specs.Passes.{AreOf};
 use crate::{Closed, Heap, Pass};
 use hm_model::{Answer, Reply, Runs};
 use hm_outside::{
-    Gate, NoGate, NoMemory, PageFault, PageMaker, PageRefusal, Pages, PlainMaker, PlainPages,
-    RegionId,
+    Gate, NoGate, NoMemory, PageMaker, Pages, PlainMaker, PlainPages, RegionId, SilentMaker,
 };
 use hm_sizes::Config;
 use std::alloc::Global;
@@ -435,71 +434,6 @@ fn a_root_goes_on_without_a_split(rt: HostRuntime) -> Result<(), Fail> {
     heap.join(&mut root, again);
     assert_eq!(rt; (root.caller(), root.out()), (0, 0));
     Ok(())
-}
-
-/// Pages that tell nothing, and lend nothing but what lies at address 0.
-#[derive(Drop)]
-struct SilentPages {
-    plain: PlainPages,
-}
-
-impl Pages for SilentPages {
-    ghost use Rattle.std.specs.Prelude.{◌≡◌, false, refl};
-    ghost use Rattle.std.specs.FinMap as map;
-    ghost use Rattle.std.proofs.lemmas.Bool.{false≢true};
-    ghost use Rattle.hm_outside.specs.PlainRuns.{CanWrite, with_range};
-
-    ghost told = { λ p. false };
-
-    ghost runs = { λ p. map.empty };
-
-    ghost faults = { λ p. 0 };
-
-    ghost can_write = { λ p addr len. (addr ≡ 0) × CanWrite p.plain addr len };
-
-    ghost after_write = { λ p addr len bytes. record p { plain = with_range p.plain addr len bytes } };
-
-    ghost written = { λ p addr bytes can. record { same_telling = refl; same_count = refl; over = λ tells. absurd (false≢true tells) } };
-
-    fn make_accessible(&mut self, _first: u64, _pages: u32) -> Result<(), PageRefusal> {
-        Ok(())
-    }
-
-    fn drop_contents(&mut self, _first: u64, _pages: u32) -> Result<(), PageFault> {
-        Ok(())
-    }
-
-    fn purge(&mut self, _first: u64, _pages: u32) {}
-
-    fn bytes(&self, _addr: u64, _len: usize) -> Option<&[u8]> {
-        None
-    }
-
-    fn holds(&self, addr: u64, len: usize) -> bool {
-        addr == 0 && self.plain.holds(addr, len)
-    }
-
-    fn bytes_mut(&mut self, addr: u64, len: usize) -> &mut [u8] {
-        self.plain.bytes_mut(addr, len)
-    }
-
-    fn faults(&self) -> u64 {
-        0
-    }
-}
-
-/// Their maker.
-#[derive(Drop)]
-struct SilentMaker;
-
-impl PageMaker for SilentMaker {
-    type P = SilentPages;
-
-    fn make(&mut self, alloc: Global, _region: RegionId) -> Result<SilentPages, NoMemory> {
-        Ok(SilentPages {
-            plain: PlainPages::new(alloc),
-        })
-    }
 }
 
 const GREATEST: [(Ask, u8, u64); 5] = [

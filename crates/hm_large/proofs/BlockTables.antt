@@ -1,5 +1,5 @@
 -- The table of blocks after a change, address by address, and the starts of the live ones.
-use Rattle.std.proofs.Common.{◌≡◌, ⊎_elim, ℕ, ◌==◌, Bool, true, false, cond, List, [], Option, Some, None, sym, ◌∙◌, ap, subst, refl}
+use Rattle.std.proofs.Common.{◌≡◌, ⊎_elim, ℕ, ◌==◌, Bool, true, false, cond, List, [], Option, Some, None, sym, ◌∙◌, ap, refl}
 use Rattle.std.specs.Ordering.{nat_cmp}
 use Rattle.std.specs.BTreeMap as tree
 use Rattle.std.specs.Map.{lookup}
@@ -64,19 +64,6 @@ pub none_live : (t : Table) (live : tree.BTreeMap ℕ ℕ) → t.blocks ≡ map.
 none_live t live e f q =
     ap (λ (es : List (ℕ × ℕ)). lookup (tree.is_at (nat_cmp q)) es) f ∙ sym (ap live_size (nothing_there t e q))
 
--- a block that stays live and as large
-pub live_kept : (old new : Table) (live : tree.BTreeMap ℕ ℕ) (a : ℕ) (x : Option KeptBlock) → AreLive old.blocks live → Updates old new a x → live_size (map.get old.blocks a) ≡ live_size x → AreLive new.blocks live
-live_kept old new live a x h f e = live_changed old new live live a x h f (λ q. ⊎_elim (here q) (there q) (cases_eq a q))
-  where
-    here : (q : ℕ) → a ≡ q → sizes live q ≡ cond (a == q) (live_size x) (sizes live q)
-    here q same = ap (sizes live) (sym same) ∙ (h a ∙ (e ∙ sym (ap (λ (t : Bool). cond t (live_size x) (sizes live q)) (same_eq a q same))))
-
-    there : (q : ℕ) → (a ≡ q → ⊥) → sizes live q ≡ cond (a == q) (live_size x) (sizes live q)
-    there q ne = sym (ap (λ (t : Bool). cond t (live_size x) (sizes live q)) (other_eq a q ne))
-
 -- ---- a state that is live or in quarantine
 pub live_of : (b : KeptBlock) (size : ℕ) → b.held ≡ false → b.size ≡ size → live_size (Some b) ≡ Some size
 live_of b size live e = ap (λ (t : Bool). cond t None (Some b.size)) live ∙ ap Some e
-
-pub held_of : (b : KeptBlock) → b.held ≡ true → live_size (Some b) ≡ None
-held_of b held = ap (λ (t : Bool). cond t None (Some b.size)) held

@@ -264,17 +264,6 @@ live_taken s a w x r = out r (is_quarantined x)
     out (Some b) true = refl
     out (Some b) false = refl
 
-words_taken : (s : State) (a w : ℕ) (o : Option Block) (r : Option ℕ) → (releases r (takes_back a w o s)).words ≡ s.words
-words_taken s a w None None = refl
-words_taken s a w None (Some b) = refl
-words_taken s a w (Some x) r = out r (is_quarantined x)
-  where
-    out : (r : Option ℕ) (t : Bool) → (releases r (cond t (record s { live = removed a s.live; held = (a, x) ∷ s.held; frees = free_of a w ∷ s.frees }) (record s { live = removed a s.live }))).words ≡ s.words
-    out None true = refl
-    out None false = refl
-    out (Some b) true = refl
-    out (Some b) false = refl
-
 module _ {P : Type 0} (meaning : pages.Ghosts P) (old now : P) (c : Config) (n : ℕ) (es : List Entry) (k new : Store) (who : Who) (a : ℕ) (stated : Option ℕ) (x : Block) where
   -- a page failed
   pub kept_failed : IsKept meaning old c n es k → meaning.told now ≡ meaning.told old

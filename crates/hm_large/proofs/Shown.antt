@@ -33,10 +33,6 @@ shows_same c n s k new words h same drawn = record {
   new = h.new;
 }
 
--- only the count of faults is another
-pub shows_faults : (c : Config) (n : ℕ) (s : State) (k : Store) (faults : ℕ) → Shows c n s k → Shows c n (record s { faults = faults }) k
-shows_faults c n s k faults h = record { blocks = h.blocks; space = h.space; out = h.out; quarantine = h.quarantine; words = h.words; owed_is = h.owed_is; held_are = h.held_are; places = h.places; new = h.new }
-
 -- what the store is once a block was put in
 pub record Gives (old new : Store) (a asked size guard : ℕ) : Type 0 where
   pub blocks : (q : ℕ) → map.get new.blocks.blocks q ≡ cond (a == q) (Some (record { asked = asked; size = size; guard = guard; held = false; failed = false })) (map.get old.blocks.blocks q)

@@ -29,7 +29,13 @@ guard_of size word = 1 + drawn (most_guard size) word
 
 -- a new block
 abbrev pub new_block : ℕ → ℕ → Block
-new_block asked guard = record { asked = asked; size = size_for asked; guard = guard; failed = false; bytes = zeros (size_for asked) }
+new_block asked guard = record {
+  asked = asked;
+  size = size_for asked;
+  guard = guard;
+  failed = false;
+  bytes = zeros (size_for asked);
+}
 
 -- a freed block below this size stays in quarantine
 abbrev pub is_quarantined : Block → Bool
@@ -68,7 +74,8 @@ owed blocks = how_many is_owed blocks
 -- the byte at an address: none where it is not accessible
 abbrev pub byte_at : Blocks → ℕ → Option ℕ
 byte_at [] q = None
-byte_at (e ∷ blocks) q = if nat_le e.0 q && nat_lt q (e.0 + length e.1.bytes) then slice_get e.1.bytes (q - e.0) else byte_at blocks q
+byte_at (e ∷ blocks) q = if nat_le e.0 q && nat_lt q (e.0 + length e.1.bytes) then slice_get e.1.bytes (q - e.0)
+    else byte_at blocks q
 
 -- the first of len addresses from a on that is not accessible
 abbrev pub first_trap : Blocks → ℕ → ℕ → Option ℕ

@@ -30,12 +30,14 @@ abbrev pub FreeDraws : ℕ → State → ℕ → Entry → Option Block → Type
 FreeDraws seed s a e None = ⊥
 FreeDraws seed s a e (Some b) =
     MatchBool (is_quarantined b)
-    ((e.draws ≡ one_word (word_after seed s.words)) × (e.choices.released ≡ released array_length ring_length s.frees (free_of a (word_after seed s.words))))
+    ((e.draws ≡ one_word (word_after seed s.words))
+    × (e.choices.released ≡ released array_length ring_length s.frees (free_of a (word_after seed s.words))))
     (e.draws ≡ no_words)
 
 -- an allotment holds the next word, whatever its reply, and the guard is drawn by it
 abbrev pub EntryDraws : ℕ → State → Entry → Call → Reply → Type 0
-EntryDraws seed s e (Allot asked align) reply = (e.draws ≡ one_word (word_after seed s.words)) × (e.choices.guard ≡ Some (guard_of (size_for asked) (word_after seed s.words)))
+EntryDraws seed s e (Allot asked align) reply = (e.draws ≡ one_word (word_after seed s.words))
+    × (e.choices.guard ≡ Some (guard_of (size_for asked) (word_after seed s.words)))
 EntryDraws seed s e (GiveBack a stated) Freed = FreeDraws seed s a e (at a s.live)
 EntryDraws seed s e call reply = e.draws ≡ no_words
 

@@ -53,10 +53,12 @@ pub record Shows (c : Config) (number : ℕ) (s : State) (k : Store) : Type 0 wh
   pub new : AreNew array_length ring_length s.frees
 
 -- the history is legal and drawn, and the pages and the store are what it says
-pub record IsKept {P : Type 0} (meaning : pages.Ghosts P) (p : P) (c : Config) (number : ℕ) (es : List Entry) (k : Store) : Type 0 where
+pub record IsKept {P : Type 0} (meaning : pages.Ghosts P) (p : P) (c : Config) (number : ℕ) (es : List Entry)
+    (k : Store) : Type 0 where
   pub valid : IsValid c
   pub legal : IsLegal (record { config = c; told = meaning.told p }) es
   pub drawn : IsDrawn number es
   pub count : meaning.faults p ≡ (state (record { config = c; told = meaning.told p }) es).faults
-  pub held : IsTrue (meaning.told p) → HoldsBlocks (state (record { config = c; told = meaning.told p }) es).live (meaning.runs p)
+  pub held : IsTrue (meaning.told p)
+      → HoldsBlocks (state (record { config = c; told = meaning.told p }) es).live (meaning.runs p)
   pub shows : Shows c number (state (record { config = c; told = meaning.told p }) es) k

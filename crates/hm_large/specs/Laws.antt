@@ -45,7 +45,8 @@ Sound = (t : Terms) (es : List Entry) → IsLegal t es → IsSound t.config (sta
 
 -- ---- live blocks never overlap
 abbrev pub Apart : Type 0
-Apart = (t : Terms) (es : List Entry) (a b : ℕ) (x y : Block) → IsLegal t es → at a (state t es).live ≡ Some x → at b (state t es).live ≡ Some y → a ≢ b
+Apart = (t : Terms) (es : List Entry) (a b : ℕ) (x y : Block) → IsLegal t es → at a (state t es).live ≡ Some x
+    → at b (state t es).live ≡ Some y → a ≢ b
     → (a + x.size ≤ b) ⊎ (b + y.size ≤ a)
 
 -- ---- the delay
@@ -70,6 +71,8 @@ pub record Meets (x y : ℕ × Block) : Type 0 where
 -- between the free of a block that goes into quarantine and a given one that meets it stand at least 1,025 further
 -- frees of such blocks
 abbrev pub Delays : Type 0
-Delays = (t : Terms) (before middle after : List Entry) (f g : Entry) (a b asked guard : ℕ) (x : Block) → IsLegal t (before ++ (f ∷ (middle ++ (g ∷ after))))
-    → IsFreedAt f a → at a (state t before).live ≡ Some x → is_quarantined x ≡ true → IsGivenAt g b asked guard → Meets (a, x) (b, new_block asked guard)
+Delays = (t : Terms) (before middle after : List Entry) (f g : Entry) (a b asked guard : ℕ) (x : Block)
+    → IsLegal t (before ++ (f ∷ (middle ++ (g ∷ after))))
+    → IsFreedAt f a → at a (state t before).live ≡ Some x → is_quarantined x ≡ true → IsGivenAt g b asked guard
+    → Meets (a, x) (b, new_block asked guard)
     → length (state t (before ++ f ∷ [])).frees + 1025 ≤ length (state t (before ++ (f ∷ middle))).frees

@@ -25,7 +25,15 @@ pub record Terms : Type 0 where
 
 -- ---- choices
 abbrev pub chose : Option ℕ → Option ℕ → Choices
-chose released guard = record { canary = None; opened = None; released = released; retired = None; purged = None; unparked = None; guard = guard }
+chose released guard = record {
+  canary = None;
+  opened = None;
+  released = released;
+  retired = None;
+  purged = None;
+  unparked = None;
+  guard = guard;
+}
 
 abbrev pub chose_guard : ℕ → Choices
 chose_guard guard = chose None (Some guard)
@@ -55,13 +63,15 @@ pub record IsLeastCandidate (c : Config) (s : State) (align size guard a : ℕ) 
   pub least : (other : ℕ) → IsCandidate c s align size guard other → a ≤ other
 
 abbrev pub AllowsGiven : Terms → State → ℕ → ℕ → ℕ → ℕ → ℕ → Type 0
-AllowsGiven t s guard asked align a usable = IsLeastCandidate t.config s align (size_for asked) guard a × (usable ≡ size_for asked)
+AllowsGiven t s guard asked align a usable =
+    IsLeastCandidate t.config s align (size_for asked) guard a × (usable ≡ size_for asked)
 
 abbrev pub AllowsNoSpace : Terms → State → ℕ → ℕ → ℕ → Type 0
 AllowsNoSpace t s guard asked align = (a : ℕ) → IsCandidate t.config s align (size_for asked) guard a → ⊥
 
 abbrev pub AllowsPagesFailed : Terms → State → ℕ → ℕ → ℕ → ℕ → ℕ → Type 0
-AllowsPagesFailed t s before now guard asked align = ((a : ℕ) × IsCandidate t.config s align (size_for asked) guard a) × (before < now)
+AllowsPagesFailed t s before now guard asked align =
+    ((a : ℕ) × IsCandidate t.config s align (size_for asked) guard a) × (before < now)
 
 -- ---- giving back
 -- the block's size and that of the stated size, where they differ
@@ -73,7 +83,9 @@ wrong_size (Some b) (Some size) = if block_size size == b.size then None else So
 -- what may be released, s being the state with the freed block in quarantine
 abbrev pub ReleasesFrom : State → Option ℕ → Type 0
 ReleasesFrom s None = length s.held ≤ array_length + ring_length
-ReleasesFrom s (Some b) = (has b s.held ≡ true) × (among b (take (delay array_length ring_length) (slots_of s.frees)) ≡ false) × (length (removed b s.held) ≤ array_length + ring_length)
+ReleasesFrom s (Some b) = (has b s.held ≡ true)
+    × (among b (take (delay array_length ring_length) (slots_of s.frees)) ≡ false)
+    × (length (removed b s.held) ≤ array_length + ring_length)
 
 -- a block that does not go into quarantine releases none
 abbrev pub Releases : Option Block → State → Option ℕ → Type 0
@@ -97,21 +109,30 @@ Asks call = AsksRange call
 
 -- ---- each call with each of its replies
 abbrev pub Allows : Terms → State → Entry → Call → Reply → Type 0
-Allows t s e (Allot asked align) (Given a usable) = AllowsGiven t s (unwrap_or e.choices.guard 0) asked align a usable × (e.choices ≡ chose_guard (unwrap_or e.choices.guard 0))
-Allows t s e (Allot asked align) NoSpace = AllowsNoSpace t s (unwrap_or e.choices.guard 0) asked align × (e.choices ≡ chose_guard (unwrap_or e.choices.guard 0))
+Allows t s e (Allot asked align) (Given a usable) = AllowsGiven t s (unwrap_or e.choices.guard 0) asked align a usable
+    × (e.choices ≡ chose_guard (unwrap_or e.choices.guard 0))
+Allows t s e (Allot asked align) NoSpace = AllowsNoSpace t s (unwrap_or e.choices.guard 0) asked align
+    × (e.choices ≡ chose_guard (unwrap_or e.choices.guard 0))
 Allows t s e (Allot asked align) PagesFailed =
-    AllowsPagesFailed t s e.faults_before e.faults_after (unwrap_or e.choices.guard 0) asked align × (e.choices ≡ chose_guard (unwrap_or e.choices.guard 0))
+    AllowsPagesFailed t s e.faults_before e.faults_after (unwrap_or e.choices.guard 0) asked align
+    × (e.choices ≡ chose_guard (unwrap_or e.choices.guard 0))
 Allows t s e (GiveBack a stated) NotLive = (has a s.live ≡ false) × (e.choices ≡ no_choices)
-Allows t s e (GiveBack a stated) (WrongSize block other) = (wrong_size (at a s.live) stated ≡ Some (block, other)) × (e.choices ≡ no_choices)
-Allows t s e (GiveBack a stated) PagesFailed = (has a s.live ≡ true) × (wrong_size (at a s.live) stated ≡ None) × (e.faults_before < e.faults_after) × (e.choices ≡ no_choices)
+Allows t s e (GiveBack a stated) (WrongSize block other) =
+    (wrong_size (at a s.live) stated ≡ Some (block, other)) × (e.choices ≡ no_choices)
+Allows t s e (GiveBack a stated) PagesFailed = (has a s.live ≡ true) × (wrong_size (at a s.live) stated ≡ None)
+    × (e.faults_before < e.faults_after) × (e.choices ≡ no_choices)
 Allows t s e (GiveBack a stated) Freed = AllowsFreed s e.draws.w0 e.choices a stated
 Allows t s e (Measure a) NotLive = (has a s.live ≡ false) × (e.choices ≡ no_choices)
-Allows t s e (Measure a) (Usable size) = (option_map (λ (b : Block). b.size) (at a s.live) ≡ Some size) × (e.choices ≡ no_choices)
+Allows t s e (Measure a) (Usable size) =
+    (option_map (λ (b : Block). b.size) (at a s.live) ≡ Some size) × (e.choices ≡ no_choices)
 Allows t s e (Fetch a len) (Bytes runs) =
-    (length (expand runs) ≡ len) × (IsTrue t.told → (first_trap s.live a len ≡ None) × (expand runs ≡ bytes_read s.live a len)) × (e.choices ≡ no_choices)
+    (length (expand runs) ≡ len) × (IsTrue t.told
+    → (first_trap s.live a len ≡ None) × (expand runs ≡ bytes_read s.live a len)) × (e.choices ≡ no_choices)
 Allows t s e (Fetch a len) (Trap q) = (IsTrue t.told → first_trap s.live a len ≡ Some q) × (e.choices ≡ no_choices)
-Allows t s e (Fill a runs) Filled = (IsTrue t.told → first_trap s.live a (length (expand runs)) ≡ None) × (e.choices ≡ no_choices)
-Allows t s e (Fill a runs) (Trap q) = (IsTrue t.told → first_trap s.live a (length (expand runs)) ≡ Some q) × (e.choices ≡ no_choices)
+Allows t s e (Fill a runs) Filled =
+    (IsTrue t.told → first_trap s.live a (length (expand runs)) ≡ None) × (e.choices ≡ no_choices)
+Allows t s e (Fill a runs) (Trap q) =
+    (IsTrue t.told → first_trap s.live a (length (expand runs)) ≡ Some q) × (e.choices ≡ no_choices)
 Allows t s e call reply = ⊥
 
 pub record Allowed (t : Terms) (s : State) (e : Entry) : Type 0 where

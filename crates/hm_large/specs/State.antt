@@ -41,7 +41,11 @@ free_of a word = record { slot = a; place = drawn array_length word }
 abbrev pub takes_back : ℕ → ℕ → Option Block → State → State
 takes_back a word None s = s
 takes_back a word (Some b) s =
-    if is_quarantined b then record s { live = removed a s.live; held = (a, b) ∷ s.held; frees = free_of a word ∷ s.frees }
+    if is_quarantined b then record s {
+      live = removed a s.live;
+      held = (a, b) ∷ s.held;
+      frees = free_of a word ∷ s.frees;
+    }
     else record s { live = removed a s.live }
 
 abbrev pub releases : Option ℕ → State → State
@@ -49,7 +53,8 @@ releases None s = s
 releases (Some b) s = record s { held = removed b s.held }
 
 abbrev pub moved : Entry → Call → Reply → State → State
-moved e (Allot asked align) (Given a size) s = record s { live = (a, new_block asked (unwrap_or e.choices.guard 0)) ∷ s.live }
+moved e (Allot asked align) (Given a size) s =
+    record s { live = (a, new_block asked (unwrap_or e.choices.guard 0)) ∷ s.live }
 moved e (GiveBack a stated) PagesFailed s = record s { live = marked a s.live }
 moved e (GiveBack a stated) Freed s = releases e.choices.released (takes_back a e.draws.w0 (at a s.live) s)
 moved e (Fill a runs) Filled s = record s { live = written_over a (expand runs) s.live }

@@ -67,7 +67,8 @@ module _ {P : Type 0} (meaning : pages.Ghosts P) where
       × (meaning.faults before < meaning.faults now)
 
   -- the next word was drawn, and the guard by it
-  pub record Allots (c : Config) (number : ℕ) (s : State) (asked align : ℕ) (new : Store) (before now : P) (attempt : Attempt) : Type 0 where
+  pub record Allots (c : Config) (number : ℕ) (s : State) (asked align : ℕ) (new : Store) (before now : P)
+      (attempt : Attempt) : Type 0 where
     pub word : attempt.word ≡ word_after number s.words
     pub guard : attempt.guard ≡ guard_of (size_for asked) attempt.word
     pub ends : Ends c number s asked align new before now attempt.guard attempt.outcome
@@ -116,18 +117,23 @@ pub record StandsLive (k : Store) (a : ℕ) (b : KeptBlock) : Type 0 where
   pub is : b ≡ kept_of false block
 
 -- what freeing the block at a leaves
-pub record Frees (c : Config) (number : ℕ) (s : State) (a : ℕ) (x : Block) (new : Store) (freeing : Freeing) : Type 0 where
+pub record Frees (c : Config) (number : ℕ) (s : State) (a : ℕ) (x : Block) (new : Store) (freeing : Freeing) :
+    Type 0 where
   pub words : MatchBool (is_quarantined x)
-      ((freeing.word ≡ Some (word_after number s.words)) × (freeing.released ≡ released array_length ring_length s.frees (free_of a (word_after number s.words))))
+      ((freeing.word ≡ Some (word_after number s.words))
+      × (freeing.released ≡ released array_length ring_length s.frees (free_of a (word_after number s.words))))
       ((freeing.word ≡ None) × (freeing.released ≡ None))
   pub allowed : Releases (Some x) (takes_back a (word_after number s.words) (Some x) s) freeing.released
-  pub shows : Shows c number (record (releases freeing.released (takes_back a (word_after number s.words) (Some x) s)) { words = words_with freeing.word s.words }) new
+  pub shows : Shows c number (record (releases freeing.released (takes_back a (word_after number s.words) (Some x) s))
+      { words = words_with freeing.word s.words }) new
 
 -- what is said of a block that is given back
 abbrev pub Judges : State → ℕ → Option ℕ → Verdict → Type 0
 Judges s a stated (verdict.Refused refusal.NotLive) = at a s.live ≡ None
-Judges s a stated (verdict.Refused (refusal.WrongSize block other)) = wrong_size (at a s.live) stated ≡ Some (block, other)
-Judges s a stated (verdict.Live k) = (x : Block) × (at a s.live ≡ Some x) × (k ≡ kept_of false x) × (wrong_size (at a s.live) stated ≡ None)
+Judges s a stated (verdict.Refused (refusal.WrongSize block other)) =
+    wrong_size (at a s.live) stated ≡ Some (block, other)
+Judges s a stated (verdict.Live k) =
+    (x : Block) × (at a s.live ≡ Some x) × (k ≡ kept_of false x) × (wrong_size (at a s.live) stated ≡ None)
 
 abbrev pub refused_reply : Refusal → Reply
 refused_reply refusal.NotLive = reply.NotLive

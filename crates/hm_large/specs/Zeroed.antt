@@ -7,4 +7,5 @@ use Rattle.hm_large.specs.Laws.{IsGivenAt}
 
 -- all bytes of a given block are zero
 abbrev pub Zeroed : Type 0
-Zeroed = (t : Terms) (es : List Entry) (g : Entry) (b asked guard k : ℕ) → IsLegal t (es ++ (g ∷ [])) → IsGivenAt g b asked guard → k < size_for asked → byte_at (state t (es ++ (g ∷ []))).live (b + k) ≡ Some 0
+Zeroed = (t : Terms) (es : List Entry) (g : Entry) (b asked guard k : ℕ) → IsLegal t (es ++ (g ∷ []))
+    → IsGivenAt g b asked guard → k < size_for asked → byte_at (state t (es ++ (g ∷ []))).live (b + k) ≡ Some 0

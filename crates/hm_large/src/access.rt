@@ -17,7 +17,8 @@ use std::alloc::Global;
 
 // How many bytes a live block has from the address on: 0 where the address is in none.
 fn live_left(store: &Store, addr: u64) -> u64
-    ensures { (c : Config) (number : ℕ) (s : State) → IsSound c s → Shows c number s store.now → IsLeft s.live addr result }
+    ensures { (c : Config) (number : ℕ) (s : State) → IsSound c s → Shows c number s store.now
+        → IsLeft s.live addr result }
 {
     match store.blocks.last_live(addr) {
         Some((start, size)) => size.saturating_sub(addr - start),

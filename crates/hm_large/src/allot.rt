@@ -92,7 +92,8 @@ fn open<P: Pages>(
     ensures put { OnOk result (Updates blocks.old blocks.new addr (Some block)) }
     ensures stays { OnErr result ((a : ℕ) → map.get blocks.new.blocks a ≡ map.get blocks.old.blocks a) }
     ensures told { P.told pages.new ≡ P.told pages.old }
-    ensures made { OnOk result (IsTrue (P.told pages.old) → P.runs pages.new ≡ map.insert (P.runs pages.old) addr (zeros block.size)) }
+    ensures made { OnOk result (IsTrue (P.told pages.old)
+        → P.runs pages.new ≡ map.insert (P.runs pages.old) addr (zeros block.size)) }
     ensures unchanged { OnErr result (IsTrue (P.told pages.old) → P.runs pages.new ≡ P.runs pages.old) }
     ensures cause { HasRefusalCause (P.faults pages.old) (P.faults pages.new) result }
 {

@@ -81,7 +81,8 @@ fn reply_to(attempt: Attempt, asked: u64) -> Reply
 // The entry of an attempt at allotting. The counts of page faults are those at its start and its end.
 fn allot_entry(who: Who, asked: u64, align: u64, attempt: Attempt, before: u64, now: u64) -> Entry
     requires { asked ≤ 2 ^ 30 }
-    ensures { result ≡ entry_of who (Call.Allot asked align) (attempt_reply asked attempt.outcome) (chose_guard attempt.guard) (one_word attempt.word) before now }
+    ensures { result ≡ entry_of who (Call.Allot asked align) (attempt_reply asked attempt.outcome)
+        (chose_guard attempt.guard) (one_word attempt.word) before now }
 {
     Entry {
         who,
@@ -116,7 +117,8 @@ fn free_entry(
     before: u64,
     now: u64,
 ) -> Entry
-    ensures { result ≡ entry_of who (Call.GiveBack addr stated) Reply.Freed (chose freeing.released None) (free_draws freeing.word) before now }
+    ensures { result ≡ entry_of who (Call.GiveBack addr stated) Reply.Freed (chose freeing.released None)
+        (free_draws freeing.word) before now }
 {
     Entry {
         who,

@@ -5,7 +5,7 @@ ghost use Rattle.hm_model.specs.Runs.{expand};
 
 use crate::LargeHeap;
 use hm_model::{Reply, Runs, Who};
-use hm_outside::{FailingPages, NoMemory, PageFault, PageRefusal, Pages, PlainPages};
+use hm_outside::{FailingPages, NoMemory, Pages, PlainPages, SilentPages};
 use hm_sizes::Config;
 use std::alloc::Global;
 use std::test::Fail;
@@ -23,63 +23,6 @@ const SPACE_START: u64 = 1 << 46;
 
 /// The last address that a call may name.
 const LAST: u64 = (1 << 47) - 1;
-
-/// Pages that tell nothing, and lend nothing but what lies at address 0.
-#[derive(Drop)]
-struct SilentPages {
-    plain: PlainPages,
-}
-
-impl Pages for SilentPages {
-    ghost use Rattle.std.specs.Prelude.{◌≡◌, false, refl};
-    ghost use Rattle.std.specs.FinMap as map;
-    ghost use Rattle.std.proofs.lemmas.Bool.{false≢true};
-    ghost use Rattle.hm_outside.specs.PlainRuns.{CanWrite, with_range};
-
-    ghost told = { λ p. false };
-
-    ghost runs = { λ p. map.empty };
-
-    ghost faults = { λ p. 0 };
-
-    ghost can_write = { λ p addr len. (addr ≡ 0) × CanWrite p.plain addr len };
-
-    ghost after_write = { λ p addr len bytes. record p { plain = with_range p.plain addr len bytes } };
-
-    ghost written = { λ p addr bytes can. record { same_telling = refl; same_count = refl; over = λ tells. absurd (false≢true tells) } };
-
-    fn make_accessible(&mut self, _first: u64, _pages: u32) -> Result<(), PageRefusal> {
-        Ok(())
-    }
-
-    fn drop_contents(&mut self, _first: u64, _pages: u32) -> Result<(), PageFault> {
-        Ok(())
-    }
-
-    fn purge(&mut self, _first: u64, _pages: u32) {}
-
-    fn bytes(&self, _addr: u64, _len: usize) -> Option<&[u8]> {
-        None
-    }
-
-    fn holds(&self, addr: u64, len: usize) -> bool {
-        addr == 0 && self.plain.holds(addr, len)
-    }
-
-    fn bytes_mut(&mut self, addr: u64, len: usize) -> &mut [u8] {
-        self.plain.bytes_mut(addr, len)
-    }
-
-    fn faults(&self) -> u64 {
-        0
-    }
-}
-
-fn silent_pages(alloc: Global) -> SilentPages {
-    SilentPages {
-        plain: PlainPages::new(alloc),
-    }
-}
 
 /// A region with a large space of so many bytes.
 fn region_of<P: Pages>(alloc: Global, pages: P, large_space: u64) -> Result<LargeHeap<P>, NoMemory>
@@ -268,7 +211,7 @@ fn failed_drop_leaves_the_block(rt: HostRuntime) -> Result<(), Fail> {
 #[test]
 fn pages_that_lend_nothing(rt: HostRuntime) -> Result<(), Fail> {
     let alloc = rt.alloc();
-    let mut region = standard(alloc, silent_pages(alloc))?;
+    let mut region = standard(alloc, SilentPages::new(alloc))?;
     let (block, _) = given(allot(&mut region, 200_000)?);
     assert!(rt; matches!(fetch_one(&mut region, block)?, Reply::Trap { addr } if addr == block));
     let runs = Runs::same(alloc, 7, 100)?;

@@ -39,7 +39,8 @@ pub enum Verdict {
 
 /// The live block at the address.
 pub fn live_block(store: &Store, addr: u64) -> Option<KeptBlock>
-    ensures { (c : Config) (number : ℕ) (s : State) → Shows c number s store.now → result ≡ option_map (kept_of false) (at addr s.live) }
+    ensures { (c : Config) (number : ℕ) (s : State) → Shows c number s store.now
+        → result ≡ option_map (kept_of false) (at addr s.live) }
 {
     let block = store.blocks.get(addr)?;
     if block.held { None } else { Some(block) }

@@ -23,7 +23,15 @@ AsksRange call = ⊤
 -- ---- entries
 -- nothing is chosen
 abbrev pub no_choices : Choices
-no_choices = record { canary = None; opened = None; released = None; retired = None; purged = None; unparked = None; guard = None }
+no_choices = record {
+  canary = None;
+  opened = None;
+  released = None;
+  retired = None;
+  purged = None;
+  unparked = None;
+  guard = None;
+}
 
 -- no word is drawn, or one
 abbrev pub no_words : Draws

@@ -30,7 +30,8 @@ impl Runs {
         ensures value { IfOk result (λ runs. runs ≡ runs_of bytes.now) }
         ensures bytes { IfOk result (λ runs. expand runs ≡ bytes.now) }
     {
-        let mut pairs = Vec::new(alloc);
+        // Most bytes are one run.
+        let mut pairs = Vec::with_capacity(alloc, 1)?;
         let mut start = 0;
         while start < bytes.len() {
             let byte = bytes[start];

@@ -61,7 +61,8 @@ pub trait Pages: Send + Drop {
         requires below { first + 4096 * pages ≤ 2 ^ 47 }
         requires apart { IsTrue (told self.old) → MeetsNone (runs self.old) first (4096 * pages) }
         ensures told { told self.new ≡ told self.old }
-        ensures made { OnOk result (IsTrue (told self.old) → runs self.new ≡ map.insert (runs self.old) first (zeros (4096 * pages))) }
+        ensures made { OnOk result (IsTrue (told self.old)
+            → runs self.new ≡ map.insert (runs self.old) first (zeros (4096 * pages))) }
         ensures unchanged { OnErr result (IsTrue (told self.old) → runs self.new ≡ runs self.old) }
         ensures cause { HasRefusalCause (faults self.old) (faults self.new) result };
 
@@ -77,7 +78,8 @@ pub trait Pages: Send + Drop {
     fn purge(&mut self, first: u64, pages: u32)
         requires run { IsTrue (told self.old) → IsRun (runs self.old) first (4096 * pages) }
         ensures told { told self.new ≡ told self.old }
-        ensures zeroed { IsTrue (told self.old) → runs self.new ≡ map.insert (runs self.old) first (zeros (4096 * pages)) }
+        ensures zeroed { IsTrue (told self.old)
+            → runs self.new ≡ map.insert (runs self.old) first (zeros (4096 * pages)) }
         ensures count { faults self.new ≡ faults self.old };
 
     /// The bytes of a range. Where the pages tell, Some comes exactly where the range is not empty and
@@ -104,7 +106,8 @@ pub trait Pages: Send + Drop {
         ensures { result ≡ faults self.now };
 
     /// A write changes the bytes that were lent, and nothing else.
-    ghost written: { (s : Self) (addr : ℕ) (w : List ℕ) → can_write s addr (length w) → EndsWritten told runs faults s addr w (after_write s addr (length w) w) };
+    ghost written: { (s : Self) (addr : ℕ) (w : List ℕ) → can_write s addr (length w)
+        → EndsWritten told runs faults s addr w (after_write s addr (length w) w) };
 }
 
 pub trait PageMaker {

@@ -28,7 +28,8 @@ all_left array (free ∷ past) = cons_option (leaves_array array past free) (all
 -- what a free releases: where something left the array at it, that which stands `ring` places before the last of all
 -- that has left so far, if there is one
 abbrev pub released : ℕ → ℕ → List Free → Free → Option ℕ
-released array ring past free = if is_some (leaves_array array past free) then slice_get (all_left array (free ∷ past)) ring else None
+released array ring past free =
+    if is_some (leaves_array array past free) then slice_get (all_left array (free ∷ past)) ring else None
 
 -- each free stands at a place of the array
 abbrev pub ArePlaces : ℕ → List Free → Type 0

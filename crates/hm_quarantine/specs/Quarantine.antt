@@ -10,7 +10,8 @@ pub record Kept : Type 0 where
 
 -- at first every place is empty, and so is the ring
 abbrev pub nothing_kept : ℕ → ℕ → Kept
-nothing_kept array_length ring_length = record { array = replicate array_length None; ring = []; ring_length = ring_length }
+nothing_kept array_length ring_length =
+    record { array = replicate array_length None; ring = []; ring_length = ring_length }
 
 -- an index is below the array's length, or 0 where there is no array
 abbrev pub IsArrayPlace : ℕ → ℕ → Type 0

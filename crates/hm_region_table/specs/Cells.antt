@@ -60,7 +60,8 @@ pub record IsPlaceFor (cells : Cells) (addr place : ℕ) : Type 0 where
 -- the cells passed from a key's home on have other keys
 abbrev pub Passed : Cells → ℕ → ℕ → Type 0
 Passed cells addr far =
-    (m r : ℕ) → m < far → IsOn (length cells) (home (length cells) addr) m r → (e : Entry) × At cells r e × (e.addr ≢ addr)
+    (m r : ℕ) → m < far → IsOn (length cells) (home (length cells) addr) m r
+    → (e : Entry) × At cells r e × (e.addr ≢ addr)
 
 -- the cells passed from a key's home on are not empty
 abbrev pub Crossed : Cells → ℕ → ℕ → Type 0

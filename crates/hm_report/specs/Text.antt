@@ -68,7 +68,8 @@ answer_text base BadAlignment = codes "bad alignment"
 answer_text base TooLarge = codes "too large"
 answer_text base Outside = codes "outside"
 answer_text base Busy = codes "busy"
-answer_text base (HalfMoved addr usable cause) = codes "half moved " ++ decimal usable ++ codes ": " ++ cause_text base cause
+answer_text base (HalfMoved addr usable cause) =
+    codes "half moved " ++ decimal usable ++ codes ": " ++ cause_text base cause
 answer_text base (Kept addr usable) = codes "kept " ++ decimal usable
 answer_text base Nothing = codes "nothing"
 
@@ -82,12 +83,14 @@ result_text result = answered_text result.base result.answer
 
 -- ROUND.THREAD.STEP TEXT and a line feed
 abbrev pub line_text : ℕ → ℕ → ℕ → StepResult → List ℕ
-line_text round thread step result = decimal round ++ 46 ∷ decimal thread ++ 46 ∷ decimal step ++ 32 ∷ result_text result ++ 10 ∷ []
+line_text round thread step result =
+    decimal round ++ 46 ∷ decimal thread ++ 46 ∷ decimal step ++ 32 ∷ result_text result ++ 10 ∷ []
 
 -- the lines of the results from this step on
 abbrev pub lines_text : ℕ → ℕ → ℕ → List StepResult → List ℕ
 lines_text round thread step [] = []
-lines_text round thread step (result ∷ results) = line_text round thread step result ++ lines_text round thread (step + 1) results
+lines_text round thread step (result ∷ results) =
+    line_text round thread step result ++ lines_text round thread (step + 1) results
 
 -- a script's lines: its steps count from 1
 abbrev pub script_text : Results → List ℕ

@@ -69,7 +69,8 @@ pub record LiesWithin (c : Config) (arena : ℕ) (p : Shape) (n : ℕ) : Type 0 
   pub to_end : slab_at p n + p.slab ≤ region_end c arena p.class.0
 
 abbrev pub SlabsLieWithin : Type 0
-SlabsLieWithin = (c : Config) (arena : ℕ) (class : ClassId) (gap n : ℕ) → IsValid c → class.0 < class_count → gap ≤ c.class_region
+SlabsLieWithin = (c : Config) (arena : ℕ) (class : ClassId) (gap n : ℕ) → IsValid c → class.0 < class_count
+    → gap ≤ c.class_region
     → n < (shape_of c arena class gap).limit → LiesWithin c arena (shape_of c arena class gap) n
 
 -- the region of this arena and class is another than that one
@@ -80,11 +81,13 @@ IsOther arena class other_arena other_class = (arena ≢ other_arena) ⊎ (class
 abbrev pub RegionsApart : Type 0
 RegionsApart = (c : Config) (arena class other_arena other_class : ℕ) → class < class_count → other_class < class_count
     → IsOther arena class other_arena other_class
-    → (region_end c arena class ≤ region_start c other_arena other_class) ⊎ (region_end c other_arena other_class ≤ region_start c arena class)
+    → (region_end c arena class ≤ region_start c other_arena other_class)
+    ⊎ (region_end c other_arena other_class ≤ region_start c arena class)
 
 -- all of them end below the large space
 abbrev pub RegionsBelow : Type 0
-RegionsBelow = (c : Config) (arena class : ℕ) → IsValid c → arena < c.arenas → class < class_count → region_end c arena class ≤ 2 ^ 46
+RegionsBelow = (c : Config) (arena class : ℕ) → IsValid c → arena < c.arenas → class < class_count
+    → region_end c arena class ≤ 2 ^ 46
 
 -- ---- homes
 -- the range that a class region reserves is that of its number

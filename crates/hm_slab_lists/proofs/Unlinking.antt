@@ -236,8 +236,3 @@ chains_without ls all lists x lx chains below at k =
 
     loose : slice_get (unlinked ls x lx) x ≡ Some None
     loose = get-set_same (with_previous (with_next ls lx.previous lx.next) lx.next lx.previous) x None (omega (arith, long, below))
-
-pub length-unlinked : (ls : Links) (x : ℕ) (lx : Link) → length (unlinked ls x lx) ≡ length ls
-length-unlinked ls x lx =
-    length-set (with_previous (with_next ls lx.previous lx.next) lx.next lx.previous) x None
-    ∙ length-edited (with_next ls lx.previous lx.next) lx.next (precedes lx.previous) ∙ length-edited ls lx.previous (follows lx.next)

@@ -49,7 +49,8 @@ pub(crate) fn cut(ranges: &mut Vec<FreeRange>, place: usize, at: u64, len: u64)
 fn ending_at(ranges: &[FreeRange], place: usize, at: u64) -> Option<FreeRange>
     requires apart { AreApart 0 ranges.now }
     requires place { place ≤ length ranges.now }
-    ensures some { IfSome result (λ range. (0 < place) × (slice_get ranges.now (place - 1) ≡ Some range) × (end_of range ≡ at)) }
+    ensures some { IfSome result (λ range. (0 < place) × (slice_get ranges.now (place - 1) ≡ Some range)
+        × (end_of range ≡ at)) }
     ensures none { IfNone result (0 < place → IfSome (slice_get ranges.now (place - 1)) (λ range. end_of range ≢ at)) }
 {
     if place == 0 {

@@ -42,9 +42,6 @@ pub round_agrees : (p : Progress) (line : List ℕ) → Agrees (round_at p) (row
 unfolding round_at
 round_agrees p line = round_rows (length (rounds_of p)) (record { rounds = rounds_of p; scripts = []; steps = []; stage = InRound; count = p.count }) (leb 1024 (length (rounds_of p))) refl
 
-round_more : (p : Progress) (line w : List ℕ) (ws : List (List ℕ)) → rows p line (codes "round" ∷ w ∷ ws) ≡ Some BadWord
-round_more p line w ws = refl
-
 -- ---- thread
 
 abbrev pub state : Open → Progress → Progress

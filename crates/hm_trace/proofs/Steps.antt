@@ -143,9 +143,6 @@ from_aligned first rest = cond (is_word first (codes "aligned")) (aligned_at res
 abbrev from_calloc : Else
 from_calloc first rest = cond (is_word first (codes "calloc")) (calloc_at rest) (from_aligned first rest)
 
-abbrev from_malloc : Else
-from_malloc first rest = cond (is_word first (codes "malloc")) (malloc_at rest) (from_calloc first rest)
-
 pub step_is : (words : List (List ℕ)) (s : StepView) → step_at words ≡ Ok s → Reads words s
 unfolding step_at
 step_is [] s e = absurd cc

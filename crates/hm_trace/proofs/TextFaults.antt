@@ -30,9 +30,6 @@ at_end : (p : Progress) → line_fault (seen_of p) (codes "end") ≡ None
 unfolding line_fault
 at_end p = refl
 
-end_words : words_at (codes "end") ≡ codes "end" ∷ []
-end_words = refl
-
 ended : (n : ℕ) (lines : List (List (List ℕ))) (all : Rounds) (next : List ℕ) (more : List (List ℕ)) → n ≡ length lines + 1
     → AgreesText (ended_at (n + 1) all (next ∷ more)) (pieces_fault ((codes "end" ∷ []) ∷ lines) (next ∷ more))
 unfolding pieces_fault line_fault

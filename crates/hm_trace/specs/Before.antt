@@ -25,7 +25,8 @@ is_setting_line line = begins_with_one setting_words line
 
 -- the line is a step
 abbrev pub is_step_line : List (List ℕ) → Bool
-is_step_line line = is_setting_line line || begins_with_one (codes "free" ∷ codes "sfree" ∷ codes "write" ∷ codes "read" ∷ codes "size" ∷ []) line
+is_step_line line = is_setting_line line
+    || begins_with_one (codes "free" ∷ codes "sfree" ∷ codes "write" ∷ codes "read" ∷ codes "size" ∷ []) line
 
 -- the line sets this name
 abbrev pub sets : List ℕ → List (List ℕ) → Bool
@@ -50,7 +51,8 @@ has_ended (line ∷ lines) = begins (codes "end") line
 -- the latest line `round` or `thread T`
 abbrev pub stage_after : List (List (List ℕ)) → Open
 stage_after [] = Nothing
-stage_after (line ∷ lines) = if begins (codes "round") line then InRound else (if begins (codes "thread") line then InScript (thread_in line) else stage_after lines)
+stage_after (line ∷ lines) = if begins (codes "round") line then InRound
+    else (if begins (codes "thread") line then InScript (thread_in line) else stage_after lines)
 
 -- how many lines `round`
 abbrev pub rounds_in : List (List (List ℕ)) → ℕ
@@ -65,7 +67,9 @@ steps_in (line ∷ lines) = if is_step_line line then steps_in lines + 1 else st
 -- a line of this round sets the name; while `own`, the lines are of the script that is open, and do not count
 abbrev pub is_taken : List ℕ → Bool → List (List (List ℕ)) → Bool
 is_taken name own [] = false
-is_taken name own (line ∷ lines) = if begins (codes "round") line then false else (if begins (codes "thread") line then is_taken name false lines else (not own && sets name line) || is_taken name own lines)
+is_taken name own (line ∷ lines) = if begins (codes "round") line then false
+    else (if begins (codes "thread") line then is_taken name false lines
+    else (not own && sets name line) || is_taken name own lines)
 
 -- what the faults of a line depend on: whether `end` came, whether there is no line before, what is open, how many rounds and
 -- steps came, and which names other threads of this round set
@@ -79,4 +83,11 @@ pub record Before : Type 0 where
 
 -- what these lines say
 abbrev pub before_of : List (List (List ℕ)) → Before
-before_of lines = record { ended = has_ended lines; first = is_first lines; stage = stage_after lines; rounds = rounds_in lines; steps = steps_in lines; taken = λ name. is_taken name true lines }
+before_of lines = record {
+  ended = has_ended lines;
+  first = is_first lines;
+  stage = stage_after lines;
+  rounds = rounds_in lines;
+  steps = steps_in lines;
+  taken = λ name. is_taken name true lines;
+}

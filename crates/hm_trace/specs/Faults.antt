@@ -73,7 +73,8 @@ with_line lines (Some kind) = Some (fault_after lines kind)
 unfoldable pub pieces_fault : List (List (List ℕ)) → List (List ℕ) → Option TraceFault
 pieces_fault lines [] = Some (fault_after lines NoEnd)
 pieces_fault lines (last ∷ []) = with_line lines (last_fault (before_of lines) last)
-pieces_fault lines (line ∷ next ∷ more) = or_later (with_line lines (line_fault (before_of lines) line)) (pieces_fault (words_at line ∷ lines) (next ∷ more))
+pieces_fault lines (line ∷ next ∷ more) = or_later (with_line lines (line_fault (before_of lines) line))
+    (pieces_fault (words_at line ∷ lines) (next ∷ more))
 
 -- the first fault of a text, if it has one
 abbrev pub text_fault : List ℕ → Option TraceFault

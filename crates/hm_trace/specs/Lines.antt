@@ -114,12 +114,14 @@ number_fault fits = if fits then None else Some BadNumber
 
 -- a name, and what stands behind it from the first sign on
 abbrev pub named_fault : List ℕ → Option FaultKind
-named_fault word = if is_name (take (sign_place word) word) then number_fault (is_offset_word (drop (sign_place word) word)) else Some BadName
+named_fault word = if is_name (take (sign_place word) word)
+    then number_fault (is_offset_word (drop (sign_place word) word)) else Some BadName
 
 -- `@` and a hexadecimal number, `null`, or a name with what stands behind it
 unfoldable pub ref_fault : List ℕ → Option FaultKind
 ref_fault [] = Some BadName
-ref_fault (c ∷ cs) = if c == 64 then number_fault (is_hex cs) else (if is_word (c ∷ cs) (codes "null") then None else named_fault (c ∷ cs))
+ref_fault (c ∷ cs) = if c == 64 then number_fault (is_hex cs)
+    else (if is_word (c ∷ cs) (codes "null") then None else named_fault (c ∷ cs))
 
 -- what is wrong with a word in such a place; that a thread is too great is a fault of its own
 abbrev pub part_fault : Open → Part → List ℕ → Option FaultKind

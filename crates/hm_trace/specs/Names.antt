@@ -18,4 +18,5 @@ is_name_byte c = is_letter c || (nat_le 48 c && nat_le c 57) || c == 95
 -- a letter and then at most 31 such bytes, but not `null`
 unfoldable pub is_name : List ℕ → Bool
 is_name [] = false
-is_name (c ∷ cs) = is_letter c && list_all is_name_byte cs && nat_le (length cs) 31 && not (is_word (c ∷ cs) (codes "null"))
+is_name (c ∷ cs) = is_letter c && list_all is_name_byte cs && nat_le (length cs) 31
+    && not (is_word (c ∷ cs) (codes "null"))

@@ -38,7 +38,8 @@ scripts_after (InScript thread) scripts steps = scripts ++ record { thread = thr
 abbrev pub rounds_after : Open → List (List ScriptView) → List ScriptView → List StepView → List (List ScriptView)
 rounds_after Nothing rounds scripts steps = rounds
 rounds_after InRound rounds scripts steps = rounds ++ scripts ∷ []
-rounds_after (InScript thread) rounds scripts steps = rounds ++ (scripts ++ record { thread = thread; steps = steps } ∷ []) ∷ []
+rounds_after (InScript thread) rounds scripts steps =
+    rounds ++ (scripts ++ record { thread = thread; steps = steps } ∷ []) ∷ []
 
 -- the rounds so far
 abbrev pub rounds_of : Progress → List (List ScriptView)
@@ -46,7 +47,9 @@ rounds_of p = rounds_after p.stage p.rounds p.scripts p.steps
 
 -- a new round begins
 unfoldable pub round_at : Progress → Result Progress FaultKind
-round_at p = if nat_lt (length (rounds_of p)) 1024 then Ok (record { rounds = rounds_of p; scripts = []; steps = []; stage = InRound; count = p.count }) else Err TooManyRounds
+round_at p = if nat_lt (length (rounds_of p)) 1024
+    then Ok (record { rounds = rounds_of p; scripts = []; steps = []; stage = InRound; count = p.count })
+    else Err TooManyRounds
 
 -- the thread before, in a round
 abbrev pub former_thread : Open → Result ℕ FaultKind
@@ -59,7 +62,15 @@ unfoldable pub thread_line_at : Progress → List (List ℕ) → Result Progress
 thread_line_at p (word ∷ []) = do
   former ← former_thread p.stage
   thread ← or_fault BadNumber (thread_at word)
-  if nat_le thread former then Err BadNumber else (if nat_lt 16 thread then Err TooManyThreads else Ok (record { rounds = p.rounds; scripts = scripts_after p.stage p.scripts p.steps; steps = []; stage = InScript thread; count = p.count }))
+  if nat_le thread former then Err BadNumber
+      else (if nat_lt 16 thread then Err TooManyThreads
+      else Ok (record {
+        rounds = p.rounds;
+        scripts = scripts_after p.stage p.scripts p.steps;
+        steps = [];
+        stage = InScript thread;
+        count = p.count;
+      }))
 thread_line_at p _ = Err BadWord
 
 -- a script is open
@@ -79,16 +90,25 @@ next_step_at p words = do
 unfoldable pub step_line_at : Progress → List (List ℕ) → Result Progress FaultKind
 step_line_at p words = do
   step ← next_step_at p words
-  Ok (record { rounds = p.rounds; scripts = p.scripts; steps = p.steps ++ step ∷ []; stage = p.stage; count = p.count + 1 })
+  Ok (record {
+    rounds = p.rounds;
+    scripts = p.scripts;
+    steps = p.steps ++ step ∷ [];
+    stage = p.stage;
+    count = p.count + 1;
+  })
 
 -- a line of these words
 unfoldable pub words_line_at : Progress → List (List ℕ) → Result Progress FaultKind
 words_line_at p [] = Err BadWord
-words_line_at p (first ∷ rest) = if is_word first (codes "round") then (if length rest == 0 then round_at p else Err BadWord) else (if is_word first (codes "thread") then thread_line_at p rest else step_line_at p (first ∷ rest))
+words_line_at p (first ∷ rest) = if is_word first (codes "round")
+    then (if length rest == 0 then round_at p else Err BadWord)
+    else (if is_word first (codes "thread") then thread_line_at p rest else step_line_at p (first ∷ rest))
 
 -- a line of plain bytes
 abbrev pub plain_at : List ℕ → Result (Unit {0}) FaultKind
-plain_at line = if nat_lt 256 (length line) then Err LineTooLong else (if list_all is_plain line then Ok tt else Err NotAscii)
+plain_at line = if nat_lt 256 (length line) then Err LineTooLong
+    else (if list_all is_plain line then Ok tt else Err NotAscii)
 
 -- a line
 unfoldable pub line_at : Progress → List ℕ → Result Progress FaultKind
@@ -122,7 +142,8 @@ ended_at n rounds ((c ∷ cs) ∷ more) = Err (fault n AfterEnd)
 unfoldable pub read_lines : ℕ → Progress → List (List ℕ) → Result (List (List ScriptView)) TraceFault
 read_lines n p [] = Err (fault n NoEnd)
 read_lines n p (last ∷ []) = Err (fault n NoEnd)
-read_lines n p (line ∷ next ∷ more) = if is_word line (codes "end") then ended_at (n + 1) (rounds_of p) (next ∷ more) else (in_line n (line_at p line) >>= λ q. read_lines (n + 1) q (next ∷ more))
+read_lines n p (line ∷ next ∷ more) = if is_word line (codes "end") then ended_at (n + 1) (rounds_of p) (next ∷ more)
+    else (in_line n (line_at p line) >>= λ q. read_lines (n + 1) q (next ∷ more))
 
 -- the pieces between line feeds, of which the first is the header
 unfoldable pub read_pieces : List (List ℕ) → Result (List (List ScriptView)) TraceFault

@@ -3,7 +3,8 @@ use Rattle.std.specs.Prelude.{ℕ, ◌+◌, ◌-◌, ◌*◌, ◌&&◌, ◌||◌
 
 -- a digit after those of n, below 2 ^ 64
 abbrev pub next_value : ℕ → ℕ → Option ℕ
-next_value n c = if nat_le 48 c && nat_le c 57 && nat_lt (10 * n + (c - 48)) 18446744073709551616 then Some (10 * n + (c - 48)) else None
+next_value n c = if nat_le 48 c && nat_le c 57 && nat_lt (10 * n + (c - 48)) 18446744073709551616
+    then Some (10 * n + (c - 48)) else None
 
 -- more digits after those of n
 abbrev pub value_after : ℕ → List ℕ → Option ℕ
@@ -29,7 +30,8 @@ thread_at (c ∷ d ∷ cs) = if c == 48 then None else thread_after 0 (c ∷ d �
 
 -- the value of a hexadecimal digit
 abbrev pub hex_digit : ℕ → Option ℕ
-hex_digit c = if nat_le 48 c && nat_le c 57 then Some (c - 48) else (if nat_le 97 c && nat_le c 102 then Some (c - 87) else None)
+hex_digit c = if nat_le 48 c && nat_le c 57 then Some (c - 48)
+    else (if nat_le 97 c && nat_le c 102 then Some (c - 87) else None)
 
 -- a hexadecimal digit after those of n
 abbrev pub hex_after : ℕ → List ℕ → Option ℕ

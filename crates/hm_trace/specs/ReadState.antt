@@ -18,7 +18,13 @@ use Rattle.hm_trace.specs.ReadLines.{Progress, scripts_after, rounds_of}
 
 -- what was read, without where it lies in memory
 abbrev pub progress_of : code.Progress → Progress
-progress_of p = record { rounds = p.rounds.items; scripts = p.scripts.items; steps = steps_view p.steps.items; stage = p.stage; count = p.count }
+progress_of p = record {
+  rounds = p.rounds.items;
+  scripts = p.scripts.items;
+  steps = steps_view p.steps.items;
+  stage = p.stage;
+  count = p.count;
+}
 
 -- ---- the names of the scripts that are closed
 

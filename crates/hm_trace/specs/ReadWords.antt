@@ -54,7 +54,8 @@ named_at word = do
 -- `@` and an address, `null`, or a name with what stands behind it
 unfoldable pub place_at : List ℕ → Result PlaceView FaultKind
 place_at [] = Err BadName
-place_at (c ∷ cs) = if c == 64 then (or_fault BadNumber (hex_at cs) >>= λ a. Ok (At a)) else (if is_word (c ∷ cs) (codes "null") then Ok Null else named_at (c ∷ cs))
+place_at (c ∷ cs) = if c == 64 then (or_fault BadNumber (hex_at cs) >>= λ a. Ok (At a))
+    else (if is_word (c ∷ cs) (codes "null") then Ok Null else named_at (c ∷ cs))
 
 -- `malloc` NAME NUMBER
 unfoldable pub malloc_parts : List ℕ → List ℕ → Result StepView FaultKind
@@ -169,4 +170,12 @@ size_step_at _ = Err BadWord
 -- the step that words are
 unfoldable pub step_at : List (List ℕ) → Result StepView FaultKind
 step_at [] = Err BadWord
-step_at (first ∷ rest) = if is_word first (codes "malloc") then malloc_at rest else (if is_word first (codes "calloc") then calloc_at rest else (if is_word first (codes "aligned") then aligned_at rest else (if is_word first (codes "realloc") then realloc_at rest else (if is_word first (codes "free") then free_at rest else (if is_word first (codes "sfree") then sfree_at rest else (if is_word first (codes "write") then write_at rest else (if is_word first (codes "read") then read_at rest else (if is_word first (codes "size") then size_step_at rest else (Err BadWord)))))))))
+step_at (first ∷ rest) = if is_word first (codes "malloc") then malloc_at rest
+    else (if is_word first (codes "calloc") then calloc_at rest
+    else (if is_word first (codes "aligned") then aligned_at rest
+    else (if is_word first (codes "realloc") then realloc_at rest
+    else (if is_word first (codes "free") then free_at rest
+    else (if is_word first (codes "sfree") then sfree_at rest
+    else (if is_word first (codes "write") then write_at rest
+    else (if is_word first (codes "read") then read_at rest
+    else (if is_word first (codes "size") then size_step_at rest else (Err BadWord)))))))))

@@ -67,7 +67,8 @@ avoids scripts steps = list_all (λ s. not (sets_again scripts s)) steps
 -- scripts after those `before`: their threads ascend from above `last`, and none sets a name that an earlier one sets
 abbrev pub are_scripts : List ScriptView → ℕ → List ScriptView → Bool
 are_scripts before last [] = true
-are_scripts before last (s ∷ ss) = nat_lt last s.thread && is_script s && avoids before s.steps && are_scripts (before ++ s ∷ []) s.thread ss
+are_scripts before last (s ∷ ss) =
+    nat_lt last s.thread && is_script s && avoids before s.steps && are_scripts (before ++ s ∷ []) s.thread ss
 
 -- the scripts of a round
 abbrev pub is_round : List ScriptView → Bool

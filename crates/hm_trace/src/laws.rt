@@ -10,7 +10,8 @@ ghost use Rattle.hm_trace.specs.Views.{ScriptView};
 
 /// A text without a fault is the spelling of a trace.
 pub fn texts_without_fault_are_spelled()
-    ensures { (bytes : List ℕ) → text_fault bytes ≡ None → (trace : List (List ScriptView)) × IsTrace trace × (bytes ≡ spelling trace) }
+    ensures { (bytes : List ℕ) → text_fault bytes ≡ None
+        → (trace : List (List ScriptView)) × IsTrace trace × (bytes ≡ spelling trace) }
 {}
 
 /// The spelling of a trace has no fault.
@@ -20,7 +21,8 @@ pub fn spellings_have_no_fault()
 
 /// Two traces of one spelling are one trace.
 pub fn spellings_differ()
-    ensures { (one other : List (List ScriptView)) → IsTrace one → IsTrace other → spelling one ≡ spelling other → one ≡ other }
+    ensures { (one other : List (List ScriptView)) → IsTrace one → IsTrace other → spelling one ≡ spelling other
+        → one ≡ other }
 {}
 
 /// The spelling of a trace has at most 67,108,864 bytes.

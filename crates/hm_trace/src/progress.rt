@@ -64,7 +64,8 @@ impl Progress {
     fn close_script(&mut self, alloc: Global) -> Result<(), AllocError>
         requires { IsReady self.old }
         ensures indexed { OnOk result (IsIndex self.new.names.keys self.new.scripts.items) }
-        ensures scripts { OnOk result (self.new.scripts.items ≡ scripts_after self.old.stage self.old.scripts.items (steps_view self.old.steps.items)) }
+        ensures scripts { OnOk result (self.new.scripts.items
+            ≡ scripts_after self.old.stage self.old.scripts.items (steps_view self.old.steps.items)) }
         ensures rounds { self.new.rounds.items ≡ self.old.rounds.items }
         ensures stage { self.new.stage ≡ self.old.stage }
         ensures count { self.new.count ≡ self.old.count }
@@ -124,7 +125,8 @@ impl Progress {
     #[tactic(auto, unfolding(crate::specs::ReadLines::thread_line_at))]
     fn thread(&mut self, alloc: Global, words: &[&[u8]]) -> Result<(), LineRefusal>
         requires { IsReady self.old }
-        ensures exact { GivesLine (progress_of self.new) result (thread_line_at (progress_of self.old) (map (λ w. w.now) words.now)) }
+        ensures exact { GivesLine (progress_of self.new) result
+            (thread_line_at (progress_of self.old) (map (λ w. w.now) words.now)) }
         ensures indexed { OnOk result (IsIndex self.new.names.keys self.new.scripts.items) }
     {
         let [word] = words else {
@@ -167,7 +169,8 @@ impl Progress {
     #[tactic(auto, unfolding(crate::specs::ReadLines::step_line_at))]
     fn step(&mut self, words: &[&[u8]]) -> Result<(), LineRefusal>
         requires { IsReady self.old }
-        ensures exact { GivesLine (progress_of self.new) result (step_line_at (progress_of self.old) (map (λ w. w.now) words.now)) }
+        ensures exact { GivesLine (progress_of self.new) result
+            (step_line_at (progress_of self.old) (map (λ w. w.now) words.now)) }
         ensures indexed { OnOk result (IsIndex self.new.names.keys self.new.scripts.items) }
     {
         match self.next_step(words) {
@@ -183,7 +186,8 @@ impl Progress {
     #[tactic(auto, unfolding(crate::specs::ReadLines::words_line_at))]
     fn words(&mut self, alloc: Global, words: &[&[u8]]) -> Result<(), LineRefusal>
         requires { IsReady self.old }
-        ensures exact { GivesLine (progress_of self.new) result (words_line_at (progress_of self.old) (map (λ w. w.now) words.now)) }
+        ensures exact { GivesLine (progress_of self.new) result
+            (words_line_at (progress_of self.old) (map (λ w. w.now) words.now)) }
         ensures indexed { OnOk result (IsIndex self.new.names.keys self.new.scripts.items) }
     {
         match words {

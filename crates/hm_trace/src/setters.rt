@@ -20,7 +20,8 @@ fn has(names: &BTreeSet<Name>, name: &Name) -> bool
 
 /// Whether a step sets a name that is among them.
 pub(crate) fn sets_again(names: &BTreeSet<Name>, step: &Step) -> bool
-    ensures { (scripts : List ScriptView) → IsIndex names.now.keys scripts → result ≡ sets_again scripts (step_view step.now) }
+    ensures { (scripts : List ScriptView) → IsIndex names.now.keys scripts
+        → result ≡ sets_again scripts (step_view step.now) }
 {
     match step.name_set() {
         Some(name) => has(names, &name),

@@ -15,7 +15,7 @@ use Rattle.hm_turn.proofs.Histories.{calls_by, calls_by_begun, starts_itself, st
 use Rattle.hm_turn.specs.declared.view.View.{View}
 use Rattle.hm_turn.specs.Callers.{is_among, ended_of}
 use Rattle.hm_turn.specs.Rule.{At, Fits, AreKnown, AreQueued, IsHome, IsOut, Orderly}
-use Rattle.hm_turn.specs.Views.{founder, view_in, drawing, noting, outrun, last_number, holding, knowing, resting}
+use Rattle.hm_turn.specs.Views.{founder, drawing, noting, outrun, last_number, holding, knowing, resting}
 use Rattle.hm_turn.specs.Sound.{IsSound, IsIdle, MayAsk, IsWaiting}
 use Rattle.hm_turn.specs.Steps.{Wins, drawn, awaited, observed, asked, counted, added, freed, informed}
 use Rattle.hm_turn.proofs.Views.{at_one, set_at, one_at, not_true, apart_bools, calls_by-other, rebuilt, backwards, forwards}
@@ -445,12 +445,3 @@ module _ {T : Type 0} (entries : T → List Entry) (origin_of : T → List ℕ) 
 
 pub founder_sound : (origin : List ℕ) → IsSound (founder origin ∷ []) 0 0
 founder_sound origin = record { one = refl; caller_is = refl; out_is = refl; rests = refl; live = refl; no_ticket = refl; no_note = refl; books = record { distinct = tt; small = λ c h. cc; some_out = omega arith } }
-
--- a turn's seat, once it is one again
-pub sound_idle : {T : Type 0} (m : Me (Option T) View) (views : List View) (caller out : ℕ) → IsSound views caller out → views ≡ m.0 ∷ [] → m.1 ≡ [] → IsIdle m
-sound_idle m views caller out s one empty = let same : m.0 ≡ view_in views = sym (ap view_in one) in record {
-  empty = empty;
-  rests = ap (λ (v : View). v.holds) same ∙ s.rests;
-  live = ap (λ (v : View). v.spent) same ∙ s.live;
-  no_ticket = ap (λ (v : View). v.ticket) same ∙ s.no_ticket;
-}

@@ -42,8 +42,21 @@ with_split k caller = record k { used = caller ∷ k.used; out = k.out + 1 }
 
 -- of the caller that was split off
 abbrev pub newcomer : Knowledge → ℕ → Knowledge
-newcomer k caller = record { caller = caller; origin = k.origin; seen = k.seen; mine = []; lost = 0; used = []; out = 0; ended = [] }
+newcomer k caller = record {
+  caller = caller;
+  origin = k.origin;
+  seen = k.seen;
+  mine = [];
+  lost = 0;
+  used = [];
+  out = 0;
+  ended = [];
+}
 
 -- it has joined the other
 abbrev pub with_joined : Knowledge → Knowledge → Knowledge
-with_joined k other = record k { seen = longer k.seen other.seen; out = k.out - 1; ended = (other.caller, other.mine) ∷ k.ended }
+with_joined k other = record k {
+  seen = longer k.seen other.seen;
+  out = k.out - 1;
+  ended = (other.caller, other.mine) ∷ k.ended;
+}

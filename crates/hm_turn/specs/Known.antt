@@ -47,7 +47,8 @@ module _ {T : Type 0} (entries : T → List Entry) (origin : T → List ℕ) whe
     pub same_lock : held.lock ≡ lock.id
     pub same_origin : held.knows.origin ≡ lock.origin
     pub origin_is : origin held.value ≡ lock.origin
-    pub grown : (entries held.value ≡ held.knows.seen) ⊎ ((e : Entry) × (e.who.caller ≡ held.knows.caller) × (entries held.value ≡ held.knows.seen ++ e ∷ []))
+    pub grown : (entries held.value ≡ held.knows.seen)
+        ⊎ ((e : Entry) × (e.who.caller ≡ held.knows.caller) × (entries held.value ≡ held.knows.seen ++ e ∷ []))
 
 -- its own entries are as before, or have grown by the entry that was given
 pub record Gains (before after : Knowledge) : Type 0 where

@@ -28,18 +28,22 @@ pub record AreSeated (root : ℕ) (chief : View) (outs : List ℕ) (views : List
   pub root_zero : chief.caller ≡ 0
   pub counted : chief.out ≡ length outs
   pub distinct : AreDistinct outs
-  pub apart : (j k : ℕ) (v w : View) → At views j v → At views k w → v.spent ≡ false → w.spent ≡ false → v.caller ≡ w.caller → j ≡ k
+  pub apart : (j k : ℕ) (v w : View) → At views j v → At views k w → v.spent ≡ false → w.spent ≡ false
+      → v.caller ≡ w.caller → j ≡ k
   pub live : (j : ℕ) (v : View) → At views j v → v.spent ≡ false → (v.caller ≡ 0) ⊎ (is_among v.caller outs ≡ true)
-  pub present : (c : ℕ) → is_among c outs ≡ true → (j : ℕ) × (v : View) × At views j v × (v.spent ≡ false) × (v.caller ≡ c)
+  pub present : (c : ℕ) → is_among c outs ≡ true
+      → (j : ℕ) × (v : View) × At views j v × (v.spent ≡ false) × (v.caller ≡ c)
 
 -- the callers that are out are the used ones that are not ended; what the history has of an ended caller is what was joined,
 -- the chief has seen it, and there is nothing of a caller never split off
 pub record AreCounted (chief : View) (outs : List ℕ) (history : List Entry) (views : List View) : Type 0 where
   pub gone : (j : ℕ) (v : View) → At views j v → v.spent ≡ false → ended_of v.caller chief.ended ≡ None
   pub out_used : (c : ℕ) → is_among c outs ≡ true → is_among c chief.used ≡ true
-  pub used_are : (c : ℕ) → is_among c chief.used ≡ true → (is_among c outs ≡ true) ⊎ ((calls : List Entry) × (ended_of c chief.ended ≡ Some calls))
+  pub used_are : (c : ℕ) → is_among c chief.used ≡ true
+      → (is_among c outs ≡ true) ⊎ ((calls : List Entry) × (ended_of c chief.ended ≡ Some calls))
   pub ended_used : (c : ℕ) (calls : List Entry) → ended_of c chief.ended ≡ Some calls → is_among c chief.used ≡ true
-  pub ended_are : (c : ℕ) (calls : List Entry) → ended_of c chief.ended ≡ Some calls → (calls_of chief.seen c ≡ calls) × (calls_of history c ≡ calls)
+  pub ended_are : (c : ℕ) (calls : List Entry) → ended_of c chief.ended ≡ Some calls
+      → (calls_of chief.seen c ≡ calls) × (calls_of history c ≡ calls)
   pub strangers : (c : ℕ) → c ≢ 0 → is_among c chief.used ≡ false → calls_of history c ≡ []
 
 -- there is a chief, and there are callers that are out

@@ -11,7 +11,8 @@ use Rattle.hm_turn.specs.Views.{knowledge, drawing, noting, finding, outrun, hol
 
 -- the turn came to the seat with the view v, which has the value: its entries begin with those seen, and have of the
 -- caller just its own
-pub record Wins {T : Type 0} (entries : T → List Entry) (origin_of : T → List ℕ) (v : View) (after : Me (Option T) View) : Type 0 where
+pub record Wins {T : Type 0} (entries : T → List Entry) (origin_of : T → List ℕ)
+    (v : View) (after : Me (Option T) View) : Type 0 where
   pub value : T
   pub has : after.1 ≡ (0, Some value) ∷ []
   pub view_is : after.0 ≡ holding v (entries value)
@@ -20,7 +21,8 @@ pub record Wins {T : Type 0} (entries : T → List Entry) (origin_of : T → Lis
   pub origin_is : origin_of value ≡ v.origin
 
 -- after some asking the turn came to the seat, which drew this number
-pub record WinsLater {T : Type 0} (entries : T → List Entry) (origin_of : T → List ℕ) (before : Me (Option T) View) (number : ℕ) (after : Me (Option T) View) : Type 0 where
+pub record WinsLater {T : Type 0} (entries : T → List Entry) (origin_of : T → List ℕ)
+    (before : Me (Option T) View) (number : ℕ) (after : Me (Option T) View) : Type 0 where
   pub asking : Me (Option T) View
   pub asked : HasAsked before asking
   pub won : Wins entries origin_of (drawing asking.0 number) after

@@ -10,7 +10,16 @@ use Rattle.hm_turn.specs.Knowledge.{Knowledge}
 
 -- what contracts see of a view
 abbrev pub knowledge : View → Knowledge
-knowledge v = record { caller = v.caller; origin = v.origin; seen = v.seen; mine = v.mine; lost = v.lost; used = v.used; out = v.out; ended = v.ended }
+knowledge v = record {
+  caller = v.caller;
+  origin = v.origin;
+  seen = v.seen;
+  mine = v.mine;
+  lost = v.lost;
+  used = v.used;
+  out = v.out;
+  ended = v.ended;
+}
 
 -- of the first seat
 abbrev pub founder : List ℕ → View
@@ -89,7 +98,11 @@ entering v caller = record {
 
 -- it has joined the other
 abbrev pub joining : View → View → View
-joining v other = record v { seen = longer v.seen other.seen; out = v.out - 1; ended = (other.caller, other.mine) ∷ v.ended }
+joining v other = record v {
+  seen = longer v.seen other.seen;
+  out = v.out - 1;
+  ended = (other.caller, other.mine) ∷ v.ended;
+}
 
 -- what is left of the other
 abbrev pub spent : View

@@ -58,7 +58,10 @@ impl<T: Kept> TurnLock<T> {
     /// was not served when this call loaded `serving`, or found 2^64 - 1 tickets drawn.
     pub fn try_take(&self, turn: Turn) -> Result<Held<T>, Turn>
         requires lock { IsOf self.now turn }
-        ensures { MatchResult result (λ held. IsTaken T.entries T.origin self.now turn held × (held.knows ≡ with_seen turn.knows (T.entries held.value))) (λ back. (back.lock ≡ turn.lock) × (back.knows ≡ with_lost turn.knows)) }
+        ensures { MatchResult result
+            (λ held. IsTaken T.entries T.origin self.now turn held
+            × (held.knows ≡ with_seen turn.knows (T.entries held.value)))
+            (λ back. (back.lock ≡ turn.lock) × (back.knows ≡ with_lost turn.knows)) }
     {
         let Turn { badge, caller, out } = turn;
         let mut seat = badge.into_seat::<Option<T>>();

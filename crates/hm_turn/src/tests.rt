@@ -224,7 +224,8 @@ fn add_behind_each<R: Threads + Wait + Sync>(
 fn hold_until<R: Wait>(rt: &R, lock: &TurnLock<Shelf>, turn: Turn, drawn: u64) -> (Turn, bool)
     requires { IsOf lock.now turn }
     ensures of { IsOf lock.entry.now result.0 }
-    ensures same { (result.0.knows.caller ≡ turn.knows.caller) × (result.0.knows.used ≡ turn.knows.used) × (result.0.knows.out ≡ turn.knows.out) }
+    ensures same { (result.0.knows.caller ≡ turn.knows.caller) × (result.0.knows.used ≡ turn.knows.used)
+        × (result.0.knows.out ≡ turn.knows.out) }
 {
     let held = lock.take(rt, turn);
     let seen = until_drawn(lock, drawn);

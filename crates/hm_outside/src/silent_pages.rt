@@ -1,0 +1,86 @@
+//! Pages that tell nothing of what they hold.
+ghost use Rattle.std.specs.Prelude.{◌≡◌};
+ghost use Rattle.std.specs.FinMap as map;
+
+use crate::{PageFault, PageRefusal, Pages, PlainPages};
+use std::alloc::Global;
+use std::marker::Model;
+
+/// Pages that tell nothing: every call on them succeeds, and none makes anything accessible. They lend nothing but
+/// what lies at address 0, which is nothing at first.
+#[derive(Drop)]
+pub struct SilentPages {
+    plain: PlainPages,
+}
+
+impl Model for SilentPages {
+    ghost use Rattle.std.specs.FinMap as map;
+    ghost use Rattle.std.specs.Coded.{coded_ℕ, coded_list};
+    ghost use Rattle.hm_outside.specs.PageRuns.{PageRuns};
+
+    ghost Value = { PageRuns };
+
+    ghost coded = { map.code coded_ℕ (coded_list coded_ℕ) };
+
+    ghost view = { λ p. p.plain };
+}
+
+impl SilentPages {
+    /// Pages that hold nothing. It takes no memory.
+    pub fn new(alloc: Global) -> SilentPages
+        ensures { result ≡ map.empty }
+    {
+        SilentPages {
+            plain: PlainPages::new(alloc),
+        }
+    }
+}
+
+impl Pages for SilentPages {
+    ghost use Rattle.std.specs.Prelude.{◌≡◌, false, refl};
+    ghost use Rattle.std.specs.FinMap as map;
+    ghost use Rattle.std.proofs.lemmas.Bool.{false≢true};
+    ghost use Rattle.hm_outside.specs.PlainRuns.{CanWrite, with_range};
+
+    ghost told = { λ p. false };
+
+    ghost runs = { λ p. map.empty };
+
+    ghost faults = { λ p. 0 };
+
+    ghost can_write = { λ p addr len. (addr ≡ 0) × CanWrite p addr len };
+
+    ghost after_write = { λ p addr len bytes. with_range p addr len bytes };
+
+    ghost written = { λ p addr bytes can. record {
+      same_telling = refl;
+      same_count = refl;
+      over = λ tells. absurd (false≢true tells);
+    } };
+
+    fn make_accessible(&mut self, _first: u64, _pages: u32) -> Result<(), PageRefusal> {
+        Ok(())
+    }
+
+    fn drop_contents(&mut self, _first: u64, _pages: u32) -> Result<(), PageFault> {
+        Ok(())
+    }
+
+    fn purge(&mut self, _first: u64, _pages: u32) {}
+
+    fn bytes(&self, _addr: u64, _len: usize) -> Option<&[u8]> {
+        None
+    }
+
+    fn holds(&self, addr: u64, len: usize) -> bool {
+        addr == 0 && self.plain.holds(addr, len)
+    }
+
+    fn bytes_mut(&mut self, addr: u64, len: usize) -> &mut [u8] {
+        self.plain.bytes_mut(addr, len)
+    }
+
+    fn faults(&self) -> u64 {
+        0
+    }
+}
