@@ -4,13 +4,14 @@ ghost use Rattle.std.specs.List.{prefix_len};
 ghost use Rattle.hm_model.specs.Runs.{expand, total, runs_of, same_runs, AreApart, AreRuns};
 
 use hm_outside::NoMemory;
+use smallvec::SmallVec;
 use std::alloc::Global;
 use std::marker::Model;
 
-/// Bytes as pairs of a byte and how often it stands there.
+/// Bytes as pairs of a byte and how often it stands there. One pair, as most bytes are, takes no memory.
 #[derive(Debug, Drop)]
 pub struct Runs {
-    pairs: Vec<(u8, u64)>,
+    pairs: SmallVec<(u8, u64), 1>,
 }
 
 impl Model for Runs {
@@ -30,8 +31,7 @@ impl Runs {
         ensures value { IfOk result (λ runs. runs ≡ runs_of bytes.now) }
         ensures bytes { IfOk result (λ runs. expand runs ≡ bytes.now) }
     {
-        // Most bytes are one run.
-        let mut pairs = Vec::with_capacity(alloc, 1)?;
+        let mut pairs = SmallVec::new(alloc);
         let mut start = 0;
         while start < bytes.len() {
             let byte = bytes[start];
@@ -47,7 +47,7 @@ impl Runs {
         ensures value { IfOk result (λ runs. runs ≡ same_runs byte len) }
         ensures bytes { IfOk result (λ runs. expand runs ≡ replicate len byte) }
     {
-        let mut pairs = Vec::new(alloc);
+        let mut pairs = SmallVec::new(alloc);
         if len > 0 {
             pairs.push((byte, len))?;
         }
@@ -58,7 +58,7 @@ impl Runs {
     pub fn copy(&self) -> Result<Runs, NoMemory>
         ensures { IfOk result (λ runs. runs ≡ self.now) }
     {
-        let pairs = self.pairs.clone()?;
+        let pairs = SmallVec::from_slice(*self.pairs.allocator(), self.pairs())?;
         Ok(Runs { pairs })
     }
 
@@ -67,7 +67,7 @@ impl Runs {
         ensures { IfOk result (λ bytes. bytes.items ≡ expand self.now) }
     {
         let mut bytes = Vec::new(alloc);
-        for (byte, len) in &self.pairs {
+        for (byte, len) in self.pairs.as_slice() {
             bytes.resize(bytes.len() + *len as usize, *byte)?;
         }
         Ok(bytes)
@@ -79,7 +79,7 @@ impl Runs {
         ensures bytes { result ≡ length (expand self.now) }
     {
         let mut bytes = 0;
-        for (_, len) in &self.pairs {
+        for (_, len) in self.pairs.as_slice() {
             bytes += *len;
         }
         bytes
@@ -92,7 +92,9 @@ impl Runs {
         ensures value { IfSome result (λ runs. runs ≡ pairs.items) }
     {
         if are_apart(&pairs) && total(&pairs).is_some() {
-            Some(Runs { pairs })
+            Some(Runs {
+                pairs: SmallVec::from_vec(pairs),
+            })
         } else {
             None
         }

@@ -1,5 +1,5 @@
 -- What a quarantine keeps, and what a free does to it.
-use Rattle.std.specs.Prelude.{◌≡◌, ℕ, zero, suc, ◌<◌, List, [], ◌∷◌, ◌++◌, length, replicate, slice_get, slice_index_or, slice_set, Option, Some, None, nat_lt, if◌then◌else◌}
+use Rattle.std.specs.Prelude.{◌≡◌, ℕ, zero, suc, ◌-◌, ◌<◌, List, [], ◌∷◌, ◌++◌, length, replicate, slice_get, slice_index_or, slice_set, Option, Some, None, nat_lt, if◌then◌else◌}
 use Rattle.circular_buffer.specs.Buffer.{keep_last}
 
 -- the places of the array, the slots of the ring, the oldest first, and how many the ring may hold
@@ -7,6 +7,10 @@ pub record Kept : Type 0 where
   pub array : List (Option ℕ)
   pub ring : List ℕ
   pub ring_length : ℕ
+
+-- so many places, of which the first ones are given and the others are empty
+abbrev pub places : ℕ → List (Option ℕ) → List (Option ℕ)
+places count first = first ++ replicate (count - length first) None
 
 -- at first every place is empty, and so is the ring
 abbrev pub nothing_kept : ℕ → ℕ → Kept

@@ -3,6 +3,7 @@
 ghost use Rattle.std.specs.Prelude.{◌≡◌, length, IfOk};
 ghost use Rattle.hm_quarantine.specs.Quarantine.{IsArrayPlace, nothing_kept, let_go, kept_with};
 
+use crate::array::Array;
 use circular_buffer::HeapCircularBuffer;
 use hm_outside::NoMemory;
 use std::alloc::Global;
@@ -11,7 +12,7 @@ use std::marker::Model;
 /// Slots that are freed and not yet released.
 #[derive(Drop)]
 pub struct Quarantine {
-    array: Vec<Option<u64>>,
+    array: Array,
     ring: HeapCircularBuffer<u64>,
 }
 
@@ -20,7 +21,7 @@ impl Model for Quarantine {
 
     ghost Value = { Kept };
 
-    ghost view = { λ q. record { array = q.array.items; ring = q.ring.items; ring_length = q.ring.capacity } };
+    ghost view = { λ q. record { array = q.array; ring = q.ring.items; ring_length = q.ring.capacity } };
 }
 
 impl Quarantine {
@@ -28,7 +29,7 @@ impl Quarantine {
     pub fn build(alloc: Global, array: u32, ring: u32) -> Result<Quarantine, NoMemory>
         ensures { IfOk result (λ q. q ≡ nothing_kept array ring) }
     {
-        let array = vec![in alloc; None; array as usize]?;
+        let array = Array::build(alloc, array as usize)?;
         let ring = HeapCircularBuffer::with_capacity(alloc, ring as usize)?;
         Ok(Quarantine { array, ring })
     }
@@ -42,7 +43,7 @@ impl Quarantine {
         if self.array.is_empty() {
             return self.ring.push_back(slot);
         }
-        let before = self.array[index as usize].replace(slot)?;
+        let before = self.array.put(index as usize, slot)?;
         self.ring.push_back(before)
     }
 }

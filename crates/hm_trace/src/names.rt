@@ -13,7 +13,7 @@ use std::cmp::Ordering;
 /// A name of a block: a letter, then up to 31 letters, digits or `_`, and not `null`.
 #[derive(Clone, Copy, Debug)]
 pub struct Name {
-    len: usize,
+    len: u8,
     bytes: [u8; 32],
     ghost within: { len ≤ 32 },
     ghost zeros: { bytes ≡ take len bytes ++ replicate (32 - len) 0 },
@@ -95,7 +95,7 @@ impl Name {
     pub fn bytes(&self) -> &[u8]
         ensures { result.now ≡ name_view self.now }
     {
-        &self.bytes[..self.len]
+        &self.bytes[..self.len as usize]
     }
 
     // A text of at most 32 bytes, followed by zeros.
@@ -106,7 +106,7 @@ impl Name {
         let mut bytes = [0; 32];
         bytes[..word.len()].copy_from_slice(word);
         Name {
-            len: word.len(),
+            len: word.len() as u8,
             bytes,
         }
     }

@@ -6,9 +6,9 @@ use Rattle.hm_model.proofs.runs.Runs.len.Goals as goal
 
 pub returns-clause-value : goal.returns-clause-value
 returns-clause-value c =
-    let none : drop c.loop-len.len-index c.deref-len-items.result.now ≡ [] = drop_all c.loop-len.len-index c.deref-len-items.result.now c.loop-len-test.false in
-    let all : c.loop-len.bytes ≡ total c.deref-len-items.result.now = omega (arith, c.loop-len.invariant, ap total none) in
-    all ∙ ap total (c.deref-len-items.ensures.value ∙ c.self.view_is)
+    let none : drop c.loop-len.len-index c.as_slice-len-items.result.now ≡ [] = drop_all c.loop-len.len-index c.as_slice-len-items.result.now c.loop-len-test.false in
+    let all : c.loop-len.bytes ≡ total c.as_slice-len-items.result.now = omega (arith, c.loop-len.invariant, ap total none) in
+    all ∙ ap total (c.as_slice-len-items.ensures ∙ c.self.view_is)
 
 pub returns-clause-bytes : goal.returns-clause-bytes
 returns-clause-bytes c = returns-clause-value c ∙ sym (length_expand c.args.self.now)

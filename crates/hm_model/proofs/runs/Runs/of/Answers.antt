@@ -8,7 +8,7 @@ pub loop-start-preserved : goal.loop-start-preserved
 loop-start-preserved c =
     let byte = get_or c.args.bytes.now c.loop-start.start 0 in
     let count : c.leading-len.result ≡ in_front byte (drop c.loop-start.start c.args.bytes.now) = c.leading-len.ensures.count ∙ ap (λ (l : List ℕ). in_front byte l) (take_rest c.args.bytes.now c.loop-start.start) in (
-      runs_taken c.loop-start.pairs.items c.push.new.self.items c.args.bytes.now c.loop-start.start byte c.leading-len.result c.loop-start-test.true refl count c.in_ok-push.ensures.items c.loop-start.invariant.0,
+      runs_taken c.loop-start.pairs.items c.push.new.self.items c.args.bytes.now c.loop-start.start byte c.leading-len.result c.loop-start-test.true refl count c.in_ok-push.ensures.ok c.loop-start.invariant.0,
       omega arith,
     )
 
