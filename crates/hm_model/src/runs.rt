@@ -1,5 +1,5 @@
 //! Bytes as runs of equal ones.
-ghost use Rattle.std.specs.Prelude.{◌≡◌, ◌==◌, ◌^◌, ◌<◌, ◌≤◌, ◌↔◌, length, replicate, IsTrue, IsSome, IfSome, IfOk};
+ghost use Rattle.std.specs.Prelude.{◌≡◌, ◌==◌, ◌^◌, ◌<◌, ◌≤◌, ◌↔◌, length, replicate, IsTrue, IsSome, IfSome, IsOk, IfOk};
 ghost use Rattle.std.specs.List.{prefix_len};
 ghost use Rattle.hm_model.specs.Runs.{expand, total, runs_of, same_runs, AreApart, AreRuns};
 
@@ -30,6 +30,7 @@ impl Runs {
     pub fn of(alloc: Global, bytes: &[u8]) -> Result<Runs, NoMemory>
         ensures value { IfOk result (λ runs. runs ≡ runs_of bytes.now) }
         ensures bytes { IfOk result (λ runs. expand runs ≡ bytes.now) }
+        ensures at_most_one { length (runs_of bytes.now) ≤ 1 → IsOk result }
     {
         let mut pairs = SmallVec::new(alloc);
         let mut start = 0;
@@ -44,6 +45,7 @@ impl Runs {
 
     /// The runs of one byte, so many times.
     pub fn same(alloc: Global, byte: u8, len: u64) -> Result<Runs, NoMemory>
+        ensures always { IsOk result }
         ensures value { IfOk result (λ runs. runs ≡ same_runs byte len) }
         ensures bytes { IfOk result (λ runs. expand runs ≡ replicate len byte) }
     {
@@ -56,7 +58,8 @@ impl Runs {
 
     /// The same runs once more.
     pub fn copy(&self) -> Result<Runs, NoMemory>
-        ensures { IfOk result (λ runs. runs ≡ self.now) }
+        ensures value { IfOk result (λ runs. runs ≡ self.now) }
+        ensures at_most_one { length self.now ≤ 1 → IsOk result }
     {
         let pairs = SmallVec::from_slice(*self.pairs.allocator(), self.pairs())?;
         Ok(Runs { pairs })

@@ -1,5 +1,5 @@
 //! Pages that tell nothing of what they hold.
-ghost use Rattle.std.specs.Prelude.{◌≡◌};
+ghost use Rattle.std.specs.Prelude.{◌≡◌, IsOk, IsNone};
 ghost use Rattle.std.specs.FinMap as map;
 
 use crate::{PageFault, PageRefusal, Pages, PlainPages};
@@ -58,17 +58,27 @@ impl Pages for SilentPages {
       over = λ tells. absurd (false≢true tells);
     } };
 
-    fn make_accessible(&mut self, _first: u64, _pages: u32) -> Result<(), PageRefusal> {
+    fn make_accessible(&mut self, _first: u64, _pages: u32) -> Result<(), PageRefusal>
+        ensures always { IsOk result }
+        ensures same { self.new ≡ self.old }
+    {
         Ok(())
     }
 
-    fn drop_contents(&mut self, _first: u64, _pages: u32) -> Result<(), PageFault> {
+    fn drop_contents(&mut self, _first: u64, _pages: u32) -> Result<(), PageFault>
+        ensures always { IsOk result }
+        ensures same { self.new ≡ self.old }
+    {
         Ok(())
     }
 
-    fn purge(&mut self, _first: u64, _pages: u32) {}
+    fn purge(&mut self, _first: u64, _pages: u32)
+        ensures same { self.new ≡ self.old }
+    {}
 
-    fn bytes(&self, _addr: u64, _len: usize) -> Option<&[u8]> {
+    fn bytes(&self, _addr: u64, _len: usize) -> Option<&[u8]>
+        ensures nothing { IsNone result }
+    {
         None
     }
 
