@@ -29,9 +29,9 @@ use Rattle.hm_class.specs.declared.next_slab.NextSlab.TheVariants as next
 use Rattle.hm_class.specs.declared.outcome.Canary.{Canary}
 use Rattle.hm_class.specs.declared.outcome.Event.{Event}
 use Rattle.hm_class.specs.Slabs.{Slabs}
-use Rattle.hm_class.specs.Uses.{Numbers, numbers_of, Uses, lives, slab_in, opened_slab, fresh_slab, kind_at, live_count, with_open, taken_uses, still_shut}
+use Rattle.hm_class.specs.Uses.{Numbers, numbers_of, Uses, slab_in, opened_slab, fresh_slab, kind_at, live_count, with_open, taken_uses, still_shut}
 use Rattle.hm_model.specs.Calls.{no_choices, entry_of, no_words, one_word}
-use Rattle.hm_class.specs.Finds.{Finds, Serves, KeepsRuns, CanOpen, made_runs, drawn_canary, canary_stream}
+use Rattle.hm_class.specs.Finds.{Finds, Serves, KeepsRuns, made_runs, drawn_canary, canary_stream}
 use Rattle.hm_class.specs.Outcomes.{reply_of, canary_value, chose_opened, start_draws}
 use Rattle.hm_class.specs.Slabs.{SameSlabs}
 use Rattle.hm_class.specs.Sources.{unopened_below, new_of, front_of}
@@ -46,7 +46,7 @@ use Rattle.hm_class.proofs.Listed.{next_undrawn, stepped_undrawn, same_cells}
 use Rattle.hm_class.proofs.Paged.{holds_made}
 use Rattle.hm_class.proofs.Permitted.{IsServing, allowed_of, open_place}
 use Rattle.hm_class.proofs.Shown.{kind_is, kind_shut}
-use Rattle.hm_class.proofs.Used.{some_slab, count_changed, count_with_slab, none_new, slab_old, slab_beside}
+use Rattle.hm_class.proofs.Used.{some_slab, live_opened, slab_old, slab_beside}
 use Rattle.hm_class.proofs.Served.{unopened_is, then_items, can_open, is_new, serving, serving_open, opened_shows, opened_serves, opened_open}
 use Rattle.hm_class.proofs.Entries.{pushed, stands_now, loose_now, sound_now, allows_now, no_draws_are}
 
@@ -80,15 +80,6 @@ opened_live p (Some n) canary s = new_live p s.shut s
 kind_off : (p : Shape) (s : State) (n : ℕ) → IsShape p → is_open s n ≡ false → kind p s n ≡ Neither
 kind_off p s n shape off = kind_shut p s n shape off
 
-live_taken : (q : Numbers) (l : List ℕ) (all : Uses) → live_count (taken_uses q l all) ≡ live_count all
-live_taken q [] all = omega (arith, count_with_slab q.guard_interval all (fresh_slab q.slots) lives, none_new lives q.slots refl)
-live_taken q (m ∷ ms) all = refl
-
-live_opened : (q : Numbers) (l : List ℕ) (all : Uses) (n canary : ℕ) → is_some (slab_in (taken_uses q l all) n) ≡ true → live_count (with_open (taken_uses q l all) n canary) ≡ live_count all
-live_opened q l all n canary there =
-    let b = some_slab (slab_in (taken_uses q l all) n) there in
-    omega (arith, count_changed (taken_uses q l all) n (opened_slab canary) b.0 b.1 lives, live_taken q l all)
-
 -- the slabs beside the one that was opened
 fresh_is : (limit next n : ℕ) → unopened_below limit [] next ≡ Some n → n ≡ next
 fresh_is limit next n e = of (nat_lt next limit) e
@@ -110,19 +101,10 @@ opened_beside q l all n canary m is there ne =
 first_is_shut : (limit next n : ℕ) (l : List ℕ) → unopened_below limit l next ≡ Some n → (m : ℕ) (ms : List ℕ) → l ≡ m ∷ ms → m ≡ n
 first_is_shut limit next n l is m ms e = same_Some m n (ap (λ (l : List ℕ). unopened_below limit l next) (sym e) ∙ is)
 
--- how many are live once a slab was found
-pub found_counted : {P : Type 0} (meaning : pages.Ghosts P) (p : Shape) (k k₁ : Slabs) (begun mid : P) (stream stream₁ : Words) → ((n : ℕ) → new_of k ≡ Some n → CanOpen p k n) → k.live ≡ live_count k.slabs
-    → (n : NextSlab) → Finds meaning p k k₁ begun mid stream stream₁ n → k₁.live ≡ live_count k₁.slabs
-found_counted meaning p k k₁ begun mid stream stream₁ opens counted (next.Open n) f = f.1.0.live ∙ counted ∙ ap live_count (sym f.1.0.slabs)
-found_counted meaning p k k₁ begun mid stream stream₁ opens counted (next.New n canary) f = f.1.live ∙ counted ∙ sym (ap live_count f.1.slabs ∙ live_opened k.numbers k.lists.retired k.slabs n (unwrap_or (canary_value canary) 0) (opens n f.0.1).there)
-found_counted meaning p k k₁ begun mid stream stream₁ opens counted next.Exhausted f = f.1.0.live ∙ counted ∙ ap live_count (sym f.1.0.slabs)
-found_counted meaning p k k₁ begun mid stream stream₁ opens counted next.PagesFailed f = f.2.live ∙ counted ∙ ap live_count (sym f.2.slabs)
-
 -- slabs that are as before
 pub same_slabs : {P : Type 0} (meaning : pages.Ghosts P) (k k₁ : Slabs) (begun mid : P) (stream stream₁ : Words) → KeepsRuns meaning k k₁ begun mid stream stream₁ → SameSlabs k k₁
 same_slabs meaning k k₁ begun mid stream stream₁ q = record {
   slabs = q.slabs;
-  live = q.live;
   rest = q.lists;
 }
 
@@ -130,7 +112,7 @@ module _ (told : Bool) (runs : PageRuns) (faults : ℕ) (c : Config) (number are
     (kept : IsKept told runs faults c number arena p es k stream quarantine parking)
     {P : Type 0} (meaning : pages.Ghosts P) (begun mid now : P) (k₁ k' : Slabs) (stream₁ stream' : Words) (who : Who) (asked : ℕ)
     (told_begun : meaning.told begun ≡ told) (told_mid : meaning.told mid ≡ meaning.told begun) (runs_begun : meaning.runs begun ≡ runs) (is : meaning.faults begun ≡ faults) (same : meaning.faults now ≡ meaning.faults mid)
-    (asks : raised asked ≤ class_size_of p) (live : k'.live ≡ live_count k'.slabs) where
+    (asks : raised asked ≤ class_size_of p) where
   abbrev first : State
   first = state (terms_of told c p) es
 
@@ -143,9 +125,9 @@ module _ (told : Bool) (runs : PageRuns) (faults : ℕ) (c : Config) (number are
   -- no slab was found: an entry that draws nothing
   unserved : (answer : Reply) → event_of (Allot asked 1) answer ≡ Undrawn → Allows (terms_of told c p) first (meaning.faults begun) (meaning.faults now) no_choices (Allot asked 1) answer → meaning.faults begun ≤ meaning.faults now
       → step p first (entry_of who (Allot asked 1) answer no_choices no_words (meaning.faults begun) (meaning.faults now)) ≡ record first { faults = meaning.faults now }
-      → (IsTrue told → meaning.runs now ≡ runs) → k'.slabs ≡ k.slabs → k'.live ≡ k.live → k'.lists ≡ k.lists → k'.numbers ≡ k.numbers → stream' ≡ stream
+      → (IsTrue told → meaning.runs now ≡ runs) → k'.slabs ≡ k.slabs → k'.lists ≡ k.lists → k'.numbers ≡ k.numbers → stream' ≡ stream
       → IsKept told (meaning.runs now) (meaning.faults now) c number arena p (es ++ entry_of who (Allot asked 1) answer no_choices no_words (meaning.faults begun) (meaning.faults now) ∷ []) k' stream' quarantine parking
-  unserved answer undrawn allows later after runs_same items live_same lists numbers stream_same =
+  unserved answer undrawn allows later after runs_same items lists numbers stream_same =
       let t : Terms = terms_of told c p in
       let e : Entry = entry_of who (Allot asked 1) answer no_choices no_words (meaning.faults begun) (meaning.faults now) in
       let s' : State = record first { faults = meaning.faults now } in
@@ -158,8 +140,7 @@ module _ (told : Bool) (runs : PageRuns) (faults : ℕ) (c : Config) (number are
         shut = ap (λ (l : Lists). l.retired) lists ∙ kept.follows.shut ∙ ap (λ (s : State). s.shut) (sym after);
         full = same_full k.slabs k'.slabs k.lists.full k'.lists.full items (ap (λ (l : Lists). l.full) lists) kept.follows.full;
         numbers = numbers ∙ kept.follows.numbers;
-        counted = live;
-        live_all = omega (arith, kept.follows.live_all, live_same, ap (λ (s : State). length s.live) after);
+        live_all = omega (arith, kept.follows.live_all, ap live_count items, ap (λ (s : State). length s.live) after);
       })
       (λ y. subst (λ (s : State). HoldsSlabs p s.opens (meaning.runs now)) (sym after) (subst (λ (r : PageRuns). HoldsSlabs p first.opens r) (sym (runs_same y)) (kept.slabs y)))
       (next_undrawn t first k stream quarantine parking e kept.served.shape undrawn refl kept.follows.shows shows'
@@ -181,13 +162,13 @@ module _ (told : Bool) (runs : PageRuns) (faults : ℕ) (c : Config) (number are
       let w = v.1 in
       subst (λ (x : Event). Ends x) (sym v.0)
       (unserved reply.Exhausted refl (none_serves f.0.0, next_new None f.0.1, refl) (omega (arith, same, f.1.1)) refl
-      (λ y. w.runs_same (tell y) ∙ runs_as mid q.runs_same y) (w.slabs ∙ q.slabs) (w.live ∙ q.live) (w.lists.lists ∙ q.lists.lists) (w.lists.numbers ∙ q.lists.numbers) (w.stream_same ∙ q.stream_same))
+      (λ y. w.runs_same (tell y) ∙ runs_as mid q.runs_same y) (w.slabs ∙ q.slabs) (w.lists.lists ∙ q.lists.lists) (w.lists.numbers ∙ q.lists.numbers) (w.stream_same ∙ q.stream_same))
   kept_allotted next.PagesFailed e f v =
       let q = f.2 in
       let w = v.1 in
       subst (λ (x : Event). Ends x) (sym v.0)
       (unserved reply.PagesFailed refl (none_serves f.1.0, ap (λ (o : Option ℕ). is_some o) (next_new (Some f.0) f.1.1), f.3, omega (arith, same, f.4), refl) (omega (arith, same, f.4)) refl
-      (λ y. w.runs_same (tell y) ∙ runs_as mid q.runs_same y) (w.slabs ∙ q.slabs) (w.live ∙ q.live) (w.lists.lists ∙ q.lists.lists) (w.lists.numbers ∙ q.lists.numbers) (w.stream_same ∙ q.stream_same))
+      (λ y. w.runs_same (tell y) ∙ runs_as mid q.runs_same y) (w.slabs ∙ q.slabs) (w.lists.lists ∙ q.lists.lists) (w.lists.numbers ∙ q.lists.numbers) (w.stream_same ∙ q.stream_same))
   kept_allotted (next.Open n) e f v =
       let t : Terms = terms_of told c p in
       let q = f.1.0 in
@@ -200,7 +181,7 @@ module _ (told : Bool) (runs : PageRuns) (faults : ℕ) (c : Config) (number are
       (subst (λ (u : Uses). IsServing u n) (sym q.slabs) (serving told runs faults c number arena p es k stream quarantine parking kept n f.0)) at.below at.no_guard on
       (subst (λ (u : Uses). Shows p u first) (sym q.slabs) kept.follows.shows)
       (λ y. subst (λ (r : PageRuns). HoldsSlabs p first.opens r) (sym (runs_as mid q.runs_same y)) (kept.slabs y))
-      (q.live ∙ kept.follows.counted ∙ ap live_count (sym q.slabs)) live (omega (arith, kept.follows.live_all, q.live))
+      (omega (arith, kept.follows.live_all, ap live_count q.slabs))
       (ap (λ (l : Lists). l.retired) q.lists.lists ∙ kept.follows.shut) (kind_at k₁.slabs n)
       (subst (λ (l : Lists). Stands l n (kind_at k₁.slabs n)) (sym q.lists.lists) (subst (λ (u : Uses). Stands k.lists n (kind_at u n)) (sym q.slabs)
       (stands_now told runs faults c number arena p es k stream quarantine parking kept n on)))
@@ -226,7 +207,6 @@ module _ (told : Bool) (runs : PageRuns) (faults : ℕ) (c : Config) (number are
       let loose = loose_now told runs faults c number arena p es k stream quarantine parking kept n fresh.off in
       let there : is_some (slab_in (taken_uses k.numbers shut k.slabs) n) ≡ true = (can_open told runs faults c number arena p es k stream quarantine parking kept n f.0.1).there in
       let shows₁ : Shows p uses₁ s₁ = opened_shows told runs faults c number arena p es k stream quarantine parking kept n cv f.0.1 in
-      let live₁ : k₁.live ≡ live_count k₁.slabs = q.live ∙ kept.follows.counted ∙ sym (ap live_count items ∙ live_opened (numbers_of p) first.shut k.slabs n (unwrap_or cv 0) fresh.there) in
       subst (λ (x : Choices). Ends (record { outcome = e.outcome; choices = x; draws = e.draws })) (sym v.1)
       (subst (λ (x : Draws). Ends (record { outcome = e.outcome; choices = chose_opened n canary; draws = x })) (sym v.2)
       (kept_serve told runs faults c number arena p es k stream quarantine parking kept meaning mid now k₁ k' stream₁ stream' n Neither (chose_opened n canary) (start_draws canary (next_word stream₁)) who asked (meaning.faults begun) (meaning.faults now)
@@ -235,7 +215,7 @@ module _ (told : Bool) (runs : PageRuns) (faults : ℕ) (c : Config) (number are
       (opened_open told runs faults c number arena p es k stream quarantine parking kept n cv f.0.1)
       (subst (λ (u : Uses). Shows p u s₁) (sym items) shows₁)
       (λ y. subst (λ (r : PageRuns). HoldsSlabs p s₁.opens r) (sym (q.made (told_begun ∙ y) ∙ ap (λ (r : PageRuns). made_runs p n r) runs_begun)) (holds_made p first.opens n (unwrap_or cv 0) runs kept.served.shape (kept.slabs y)))
-      live₁ live (omega (arith, kept.follows.live_all, q.live, ap (λ (l : List (ℕ × ℕ)). length l) (opened_live p (Some n) cv first)))
+      (omega (arith, kept.follows.live_all, ap live_count items, live_opened (numbers_of p) first.shut k.slabs n (unwrap_or cv 0) fresh.there, ap (λ (l : List (ℕ × ℕ)). length l) (opened_live p (Some n) cv first)))
       (ap (λ (l : Lists). l.retired) q.lists ∙ opened_shut k.lists n loose shut refl (first_is_shut k.numbers.limit (length k.slabs) n shut f.0.1)
       ∙ ap (λ (l : List ℕ). still_shut l) kept.follows.shut ∙ shut_after p first) Empty
       (subst (λ (l : Lists). Stands l n Empty) (sym q.lists) (opened_stands k.lists n loose shut (λ e. e)))

@@ -61,8 +61,7 @@ module _ (told : Bool) (runs : PageRuns) (faults : ℕ) (c : Config) (number are
     (on : is_open (opened p choices.opened choices.canary (state (terms_of told c p) es)) n ≡ true)
     (shows : Shows p k₁.slabs (opened p choices.opened choices.canary (state (terms_of told c p) es)))
     (slabs : IsTrue told → HoldsSlabs p (opened p choices.opened choices.canary (state (terms_of told c p) es)).opens (meaning.runs mid))
-    (live_mid : k₁.live ≡ live_count k₁.slabs) (live_now : k'.live ≡ live_count k'.slabs)
-    (live_all : length (opened p choices.opened choices.canary (state (terms_of told c p) es)).live ≤ k₁.live)
+    (live_all : length (opened p choices.opened choices.canary (state (terms_of told c p) es)).live ≤ live_count k₁.slabs)
     (shut : k₁.lists.retired ≡ (opened p choices.opened choices.canary (state (terms_of told c p) es)).shut)
     (before : Kind) (stands : Stands k₁.lists n before) (full : AreFull k₁.slabs k₁.lists.full) (numbers : k₁.numbers ≡ numbers_of p)
     (partial : (after : Kind) → listed Partial n before after k₁.lists.partial ≡ listed Partial n kind₀ after k.lists.partial)
@@ -96,7 +95,7 @@ module _ (told : Bool) (runs : PageRuns) (faults : ℕ) (c : Config) (number are
         let here : first_free p then n start ≡ Some (place p n i) = picked p k₁.slabs then n start i b shows serves.is_slab serves.on start_lt v.first in
         let untaken : is_taken then (place p n i) ≡ false = taken_is p k₁.slabs then n i shows lt ∙ ap (λ (o : Option SlotUse). option_map_or occupied o false) was ∙ free in
         kept_gives told runs faults c number arena p es k stream quarantine parking kept meaning mid now k₁ k' stream' n i kind₀ b choices draws who asked f f'
-        tell asks is later lt serves.is_slab u was free on shows slabs live_mid live_now live_all (ap (λ (l : Lists). l.retired) v.lists ∙ m.retired ∙ shut)
+        tell asks is later lt serves.is_slab u was free on shows slabs live_all (ap (λ (l : Lists). l.retired) v.lists ∙ m.retired ∙ shut)
         (ap (λ (l : Lists). l.partial) v.lists ∙ m.partial ∙ partial after) (ap (λ (l : Lists). l.empty) v.lists ∙ m.empty ∙ empty after)
         (subst (λ (l : Lists). AreFull k'.slabs l.full) (sym v.lists) (placed_full k₁.slabs k'.slabs k₁.lists n before after stands full
         (given_open meaning p n i k₁ k' mid now o v.gives on₁) refl (given_beside meaning p n i k₁ k' mid now o v.gives on₁)))

@@ -53,7 +53,6 @@ kept_built told runs faults c number arena class p es k stream quarantine valid 
         shut = refl;
         full = λ n e. absurd (true≢false (sym e));
         numbers = refl;
-        counted = refl;
         live_all = omega arith;
       };
       slabs = λ y. holds_nothing p runs (nothing y);

@@ -69,7 +69,7 @@ pub shape_is : {P : Type 0} (meaning : pages.Ghosts P) (r : Region P) (p : Shape
 shape_is meaning r p k stream quarantine parking class kept = kept.served.is ∙ ap (λ c. drawn_shape r.number r.config r.arena c) (sym class)
 
 pub region_of : {P : Type 0} (meaning : pages.Ghosts P) (r : Region P) (p : Shape) (k : Slabs) (stream : Words) (quarantine : Kept) (parking : List (Option ℕ)) → r.class ≡ p.class
-    → IsKept (meaning.told r.pages) (meaning.runs r.pages) (meaning.faults r.pages) r.config r.number r.arena p r.entries k stream quarantine parking → k.live ≤ r.spare → IsRegion meaning r
+    → IsKept (meaning.told r.pages) (meaning.runs r.pages) (meaning.faults r.pages) r.config r.number r.arena p r.entries k stream quarantine parking → live_count k.slabs ≤ r.spare → IsRegion meaning r
 region_of meaning r p k stream quarantine parking class kept room =
     let tells : Bool = meaning.told r.pages in
     let is : p ≡ region_shape r = shape_is meaning r p k stream quarantine parking class kept in
@@ -243,8 +243,7 @@ module _ (told : Bool) (runs : PageRuns) (faults : ℕ) (c : Config) (number are
       shut = ap (λ (l : Lists). l.retired) slabs.rest.lists ∙ kept.follows.shut;
       full = same_full k.slabs k'.slabs k.lists.full k'.lists.full slabs.slabs (ap (λ (l : Lists). l.full) slabs.rest.lists) kept.follows.full;
       numbers = slabs.rest.numbers ∙ kept.follows.numbers;
-      counted = slabs.live ∙ kept.follows.counted ∙ ap live_count (sym slabs.slabs);
-      live_all = omega (arith, kept.follows.live_all, slabs.live);
+      live_all = omega (arith, kept.follows.live_all, ap live_count slabs.slabs);
     };
     slabs = λ y. subst (λ (r : PageRuns). HoldsSlabs p before.opens r) (sym (same y)) (kept.slabs y);
     lists = kept.lists ∙ ap (λ (l : Lists). lists_with l) (sym slabs.rest.lists);
@@ -269,7 +268,6 @@ module _ (told : Bool) (runs : PageRuns) (faults : ℕ) (c : Config) (number are
         full = kept.follows.full;
         numbers = kept.follows.numbers;
         shut = kept.follows.shut ∙ sym shut ∙ ap (λ (s : State). s.shut) (sym after);
-        counted = kept.follows.counted;
         live_all = omega (arith, kept.follows.live_all, ap (λ (l : List (ℕ × ℕ)). length l) live, ap (λ (s : State). length s.live) after);
       })
       (λ y. subst (λ (s : State). HoldsSlabs p s.opens runs') (sym after) (slabs y))

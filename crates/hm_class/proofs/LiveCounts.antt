@@ -1,5 +1,5 @@
 -- How many slots are live, through an allotment.
-use Rattle.std.proofs.Common.{◌≡◌, ℕ, ◌+◌, ◌<◌, ◌≤◌, false, Some, option_map, sym, ◌∙◌, ap, subst, arith}
+use Rattle.std.proofs.Common.{◌≡◌, ℕ, ◌+◌, ◌<◌, ◌≤◌, false, Some, option_map, unwrap_or, sym, ◌∙◌, ap, subst, arith}
 use Rattle.std.proofs.lemmas.Option.{same_Some}
 use Rattle.hm_choice.specs.Stream.{Words, next_word, drawn}
 use Rattle.hm_outside.specs.declared.pages.Pages as pages
@@ -13,20 +13,24 @@ use Rattle.hm_class.specs.declared.outcome.Event.{Event}
 use Rattle.hm_class.specs.declared.outcome.Outcome.{Outcome}
 use Rattle.hm_class.specs.declared.outcome.Outcome.TheVariants as outcome
 use Rattle.hm_slab_meta.specs.Uses.{SlotUse}
-use Rattle.hm_slab_meta.specs.Uses.{Live, Held, Condemned}
+use Rattle.hm_slab_meta.specs.Uses.{Live, Condemned}
 use Rattle.hm_class.specs.Slabs.{Slabs}
-use Rattle.hm_class.specs.Uses.{Uses, with_use, lives, occupied, was_given, passes_at, use_at, live_count}
-use Rattle.hm_class.specs.Finds.{Finds, Serves, Serve, CanPick, CanServe, slot_in}
+use Rattle.hm_class.specs.Uses.{lives, occupied, was_given, passes_at, use_at, live_count}
+use Rattle.hm_class.specs.Finds.{Finds, Serves, Serve, CanOpen, CanPick, CanServe, slot_in}
 use Rattle.hm_class.specs.Gives.{Gives}
+use Rattle.hm_class.specs.Outcomes.{canary_value}
+use Rattle.hm_class.specs.Sources.{new_of}
 use Rattle.hm_class.proofs.Counts.{mapped}
-use Rattle.hm_class.proofs.Used.{counted}
+use Rattle.hm_class.proofs.Used.{counted, live_opened}
 
 module _ {P : Type 0} (meaning : pages.Ghosts P) (p : Shape) (k k₁ k' : Slabs) (begun mid now : P) (stream stream₁ stream' : Words) where
-  pub found_live : (n : NextSlab) → Finds meaning p k k₁ begun mid stream stream₁ n → k₁.live ≡ k.live
-  found_live (next.Open n) f = f.1.0.live
-  found_live (next.New n canary) f = f.1.live
-  found_live next.Exhausted f = f.1.0.live
-  found_live next.PagesFailed f = f.2.live
+  pub found_live : ((n : ℕ) → new_of k ≡ Some n → CanOpen p k n) → (n : NextSlab) → Finds meaning p k k₁ begun mid stream stream₁ n
+      → live_count k₁.slabs ≡ live_count k.slabs
+  found_live opens (next.Open n) f = ap live_count f.1.0.slabs
+  found_live opens (next.New n canary) f =
+      ap live_count f.1.slabs ∙ live_opened k.numbers k.lists.retired k.slabs n (unwrap_or (canary_value canary) 0) (opens n f.0.1).there
+  found_live opens next.Exhausted f = ap live_count f.1.0.slabs
+  found_live opens next.PagesFailed f = ap live_count f.2.slabs
 
   given_more : (o : Outcome) (n i : ℕ) (u : SlotUse) → use_at k₁.slabs n i ≡ Some u → Gives meaning p k₁ k' mid now (slot_in n i) o → live_count k'.slabs ≤ live_count k₁.slabs + 1
   given_more (outcome.Given a size) n i u was g = omega (arith, ap live_count g.slabs, counted lives k₁.slabs n i Live u was)
@@ -42,15 +46,12 @@ module _ {P : Type 0} (meaning : pages.Ghosts P) (p : Shape) (k k₁ k' : Slabs)
       let u = mapped occupied (use_at k₁.slabs n v.index) false free in
       given_more o n v.index u.0 u.1 v.gives
 
-  pub served_live : (n : NextSlab) (e : Event) → IsShape p → CanServe p k₁ n → Serves meaning p k₁ k' mid now stream₁ stream' n e → k₁.live ≡ live_count k₁.slabs → k'.live ≡ live_count k'.slabs → k'.live ≤ k₁.live + 1
-  served_live (next.Open n) e shape can v old new = omega (arith, old, new, more_live n e.outcome shape can v.0)
-  served_live (next.New n canary) e shape can v old new = omega (arith, old, new, more_live n e.outcome shape can v.0)
-  served_live next.Exhausted e shape can v old new = omega (arith, v.1.live)
-  served_live next.PagesFailed e shape can v old new = omega (arith, v.1.live)
-
--- a live slot that is held is one less
-pub one_less : (all all' : Uses) (n i : ℕ) → use_at all n i ≡ Some Live → all' ≡ with_use all n i Held → live_count all' + 1 ≡ live_count all
-one_less all all' n i was items = omega (arith, ap live_count items, counted lives all n i Held Live was)
+  pub served_live : (n : NextSlab) (e : Event) → IsShape p → CanServe p k₁ n → Serves meaning p k₁ k' mid now stream₁ stream' n e
+      → live_count k'.slabs ≤ live_count k₁.slabs + 1
+  served_live (next.Open n) e shape can v = more_live n e.outcome shape can v.0
+  served_live (next.New n canary) e shape can v = more_live n e.outcome shape can v.0
+  served_live next.Exhausted e shape can v = omega (arith, ap live_count v.1.slabs)
+  served_live next.PagesFailed e shape can v = omega (arith, ap live_count v.1.slabs)
 
 -- the parking places stay
 module _ {P : Type 0} (meaning : pages.Ghosts P) (p : Shape) (k k₁ k' : Slabs) (begun mid now : P) (stream stream₁ stream' : Words) where

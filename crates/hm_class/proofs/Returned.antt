@@ -1,5 +1,5 @@
 -- A block was taken back: what is kept follows.
-use Rattle.std.proofs.Common.{◌≡◌, ℕ, zero, suc, ◌+◌, ◌<◌, ◌≤◌, Bool, true, false, IsTrue, IfSome, cond, not, ◌||◌, ◌&&◌, List, [], ◌∷◌, slice_get, slice_set, Option, Some, None, sym, ◌∙◌, ap, subst, refl, arith, true≢false}
+use Rattle.std.proofs.Common.{◌≡◌, ℕ, zero, suc, ◌<◌, ◌≤◌, Bool, true, false, IsTrue, IfSome, cond, not, ◌||◌, ◌&&◌, List, [], ◌∷◌, slice_get, slice_set, Option, Some, None, sym, ◌∙◌, ap, subst, refl, arith, true≢false}
 use Rattle.std.specs.List.{list_any}
 use Rattle.std.specs.Option.{option_map_or}
 use Rattle.std.proofs.lemmas.List.{length-replicate}
@@ -24,18 +24,17 @@ use Rattle.hm_class_rules.proofs.Whole.{whole_write}
 use Rattle.hm_slab_meta.specs.Uses.{SlotUse}
 use Rattle.hm_slab_meta.specs.Uses.{Never, Free, Live, Held, Condemned}
 use Rattle.hm_class.specs.Slabs.{Slabs}
-use Rattle.hm_class.specs.Uses.{Uses, SlabUse, lives, occupied, is_available, has_occupied, has_available, is_held, kind_of, kind_at, slab_in, use_at, passes_at, with_slot, with_use, with_shut, shut_slab, live_count}
+use Rattle.hm_class.specs.Uses.{Uses, SlabUse, lives, occupied, is_available, has_occupied, has_available, is_held, kind_of, kind_at, use_at, passes_at, with_slot, with_use}
 use Rattle.hm_class.specs.Frees.{place_of_word, Clears, CanRelease}
 use Rattle.hm_class.specs.Region.{HoldsSlabs}
 use Rattle.hm_class.specs.Kept.{Shows, IsKept, terms_of}
-use Rattle.hm_class.proofs.Counts.{weight}
 use Rattle.hm_class.proofs.Followed.{shows_held}
 use Rattle.hm_class.proofs.Freed.{place_fits}
 use Rattle.hm_class.proofs.Paged.{holds_write, holds_without, slab_run}
 use Rattle.hm_class.proofs.Permitted.{usable_held, live_open}
 use Rattle.hm_class.proofs.Places.{slab_of_place, slot_of_place}
 use Rattle.hm_class.proofs.Shown.{kind_is}
-use Rattle.hm_class.proofs.Used.{found, counted, each_slab, count_changed}
+use Rattle.hm_class.proofs.Used.{found, each_slab}
 use Rattle.hm_class.proofs.Entries.{sound_now, allows_now}
 
 -- ---- a slot that is held is occupied, as it was
@@ -59,13 +58,6 @@ kind_held all n i u v was same =
     let f = found all n i v was in
     each_slab all n (with_slot i u) f.slab f.is_slab (λ m o. option_map_or kind_of o Neither ≡ kind_at all m)
     (kind_set f.slab i u v f.is_use same ∙ ap (λ (o : Option SlabUse). option_map_or kind_of o Neither) (sym f.is_slab)) (λ m ne. refl)
-
--- ---- how many are live
-same_live : (all all' : Uses) (n i : ℕ) (u v : SlotUse) → use_at all n i ≡ Some v → all' ≡ with_use all n i u → live_count all' + weight lives v ≡ live_count all + weight lives u
-same_live all all' n i u v was items = omega (arith, ap live_count items, counted lives all n i u v was)
-
-shut_live : (all : Uses) (n : ℕ) (b : SlabUse) → slab_in all n ≡ Some b → live_count (with_shut all n) ≡ live_count all
-shut_live all n b is = omega (arith, count_changed all n shut_slab b is lives)
 
 -- ---- the slot is held
 module _ (told : Bool) (runs : PageRuns) (faults : ℕ) (c : Config) (number arena : ℕ) (p : Shape) (es : List Entry) (k : Slabs) (stream : Words) (quarantine : Kept) (parking : List (Option ℕ))

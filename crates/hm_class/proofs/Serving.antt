@@ -1,5 +1,5 @@
 -- A slot that was picked, given or condemned, after which its slab went to the list of its kind.
-use Rattle.std.proofs.Common.{◌≡◌, ◌≢◌, ℕ, true, Some, sym, ◌∙◌, ap, refl, arith}
+use Rattle.std.proofs.Common.{◌≡◌, ◌≢◌, ℕ, true, Some, sym, ◌∙◌, ap, refl}
 use Rattle.hm_choice.specs.Stream.{Words, next_word, after_word, drawn}
 use Rattle.hm_outside.specs.declared.pages.Pages as pages
 use Rattle.hm_sizes.specs.declared.shape.Shape.{Shape}
@@ -8,8 +8,8 @@ use Rattle.hm_class.specs.declared.outcome.Outcome.{Outcome}
 use Rattle.hm_class.specs.declared.outcome.Outcome.TheVariants as outcome
 use Rattle.hm_class.specs.Slabs.{Slabs, SameLists, SameSlots, list_of}
 use Rattle.hm_slab_meta.specs.Uses.{SlotUse, Live, Condemned}
-use Rattle.hm_class.specs.Uses.{Uses, lives, was_given, passes_at, kind_at, slab_in, open_at, first_at, with_slot, with_use, with_shut, shut_slab, live_count}
-use Rattle.hm_class.proofs.Used.{count_changed, open_changed, open_there, slab_beside}
+use Rattle.hm_class.specs.Uses.{Uses, was_given, passes_at, kind_at, slab_in, open_at, first_at, with_slot, with_use}
+use Rattle.hm_class.proofs.Used.{open_changed, open_there, slab_beside}
 use Rattle.hm_class.specs.Gives.{Gives}
 use Rattle.hm_class.specs.Finds.{Serve, slot_in}
 
@@ -47,12 +47,6 @@ given_open meaning p n i old new before now o g on = of o g
     of (outcome.Given a size) g = here Live g.slabs
     of (outcome.Overwritten a at found) g = here (Condemned (passes_at was_given old.slabs n i)) g.slabs
     of other g = absurd g
-
--- a slab that is shut has as many live slots as before
-pub shut_live : (uses : Uses) (n : ℕ) → open_at uses n ≡ true → live_count (with_shut uses n) ≡ live_count uses
-shut_live uses n on =
-    let b = open_there uses n on in
-    omega (arith, count_changed uses n shut_slab b.0 b.1 lives)
 
 -- the other slabs stay as they are
 pub given_beside : {P : Type 0} (meaning : pages.Ghosts P) (p : Shape) (n i : ℕ) (old new : Slabs) (before now : P) (o : Outcome) → Gives meaning p old new before now (slot_in n i) o

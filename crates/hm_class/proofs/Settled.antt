@@ -102,7 +102,7 @@ module _ (told : Bool) (runs : PageRuns) (faults : ℕ) (c : Config) (number are
     (kept : IsKept told runs faults c number arena p es k stream quarantine k.parking)
     {P : Type 0} (meaning : pages.Ghosts P) (begun half now : P) (k₁ k' : Slabs) (stream' : Words) (a : ℕ) (slot : Slot) (stated : Option ℕ) (who : Who) (f f' : ℕ)
     (told_is : meaning.told begun ≡ told) (runs_is : meaning.runs begun ≡ runs) (accepts : Accepts meaning p k begun a stated slot)
-    (items : k₁.slabs ≡ with_use k.slabs slot.slab slot.index Held) (cleared : Clears meaning p begun half a) (lists : SameLists k k₁) (live₁ : k₁.live ≡ live_count k₁.slabs) (live' : k'.live ≡ live_count k'.slabs)
+    (items : k₁.slabs ≡ with_use k.slabs slot.slab slot.index Held) (cleared : Clears meaning p begun half a) (lists : SameLists k k₁)
     (is : f ≡ faults) (later : f ≤ f') where
   abbrev t : Terms
   t = terms_of told c p
@@ -132,7 +132,7 @@ module _ (told : Bool) (runs : PageRuns) (faults : ℕ) (c : Config) (number are
       → step p first (entry_freed p stream who a stated released n e f f') ≡ record final { faults = f' }
       → Empties t (releases released taken) f f' (freed_choices released n e) (surplus p (releases released taken) released)
       → IsNextWord stream (p.array == 0) e → IsUnparked t (cells_of first k stream quarantine k.parking) e
-      → Shows p k'.slabs final → k'.lists.retired ≡ final.shut → AreFull k'.slabs k'.lists.full → k'.numbers ≡ numbers_of p → length final.live ≤ k'.live → (IsTrue told → HoldsSlabs p final.opens (meaning.runs now))
+      → Shows p k'.slabs final → k'.lists.retired ≡ final.shut → AreFull k'.slabs k'.lists.full → k'.numbers ≡ numbers_of p → length final.live ≤ live_count k'.slabs → (IsTrue told → HoldsSlabs p final.opens (meaning.runs now))
       → touched p released (Returned a) ≡ m → kind p first m ≡ kb → kind p final m ≡ ka
       → k'.lists.partial ≡ listed Partial m kb ka k.lists.partial → k'.lists.empty ≡ listed Empty m kb ka k.lists.empty
       → stream' ≡ stream_after (array_stream p stream) e → k'.parking ≡ parking_with (parking_place t (freed_draws (array_word p (next_word stream)) e)) (freed_choices released n e).retired k.parking
@@ -157,7 +157,6 @@ module _ (told : Bool) (runs : PageRuns) (faults : ℕ) (c : Config) (number are
         shut = shut ∙ ap (λ (s : State). s.shut) (sym after);
         full = full;
         numbers = numbers;
-        counted = live';
         live_all = omega (arith, live, ap (λ (s : State). length s.live) after);
       })
       (λ y. subst (λ (s : State). HoldsSlabs p s.opens (meaning.runs now)) (sym after) (slabs y))
@@ -178,8 +177,8 @@ module _ (told : Bool) (runs : PageRuns) (faults : ℕ) (c : Config) (number are
   live : is_live first a ≡ true
   live = was_live told runs faults c number arena p es k stream quarantine k.parking kept meaning begun half k₁ a slot.slab slot.index told_is runs_is accepts.judged.0.is accepts.judged.0.slot accepts.judged.1 items cleared
 
-  live_taken : length taken.live ≤ k₁.live
-  live_taken = omega (arith, kept.follows.live_all, kept.follows.counted, live₁, ap live_count items, counted lives k.slabs slot.slab slot.index Held Live accepts.judged.1, length_taken a first.live live)
+  live_taken : length taken.live ≤ live_count k₁.slabs
+  live_taken = omega (arith, kept.follows.live_all, ap live_count items, counted lives k.slabs slot.slab slot.index Held Live accepts.judged.1, length_taken a first.live live)
 
   -- what was open is open, and slabs are what they were
   open₁ : (m : ℕ) → is_open taken m ≡ is_open first m
@@ -197,9 +196,9 @@ module _ (told : Bool) (runs : PageRuns) (faults : ℕ) (c : Config) (number are
   Ends released n e = IsKept told (meaning.runs now) f' c number arena p (es ++ entry_freed p stream who a stated released n e f f' ∷ []) k' stream' (kept_with quarantine a (place_of_word p (next_word stream))) k'.parking
 
   -- nothing left the quarantine
-  pub kept_held : (e : Emptied) → None ≡ let_go quarantine a (place_of_word p (next_word stream)) → e ≡ emptied.Kept → k'.slabs ≡ k₁.slabs → SameLists k₁ k' → k'.live ≡ k₁.live → (IsTrue told → meaning.runs now ≡ meaning.runs half) → stream' ≡ array_stream p stream → k'.parking ≡ k.parking
+  pub kept_held : (e : Emptied) → None ≡ let_go quarantine a (place_of_word p (next_word stream)) → e ≡ emptied.Kept → k'.slabs ≡ k₁.slabs → SameLists k₁ k' → (IsTrue told → meaning.runs now ≡ meaning.runs half) → stream' ≡ array_stream p stream → k'.parking ≡ k.parking
       → Ends None 0 e
-  kept_held e none e_is same same_lists same_live same_runs words places =
+  kept_held e none e_is same same_lists same_runs words places =
       let m : ℕ = slab_of p a in
       let ka : Kind = kind p first m in
       let all_lists : k'.lists ≡ k.lists = same_lists.lists ∙ lists.lists in
@@ -207,7 +206,7 @@ module _ (told : Bool) (runs : PageRuns) (faults : ℕ) (c : Config) (number are
       (finish None 0 m emptied.Kept taken ka ka none refl (refl, refl, refl) tt tt
       (subst (λ (u : Uses). Shows p u taken) (sym same) shows₁) (ap (λ (l : Lists). l.retired) all_lists ∙ kept.follows.shut)
       (same_full k₁.slabs k'.slabs k.lists.full k'.lists.full same (ap (λ (l : Lists). l.full) all_lists) full₁) (same_lists.numbers ∙ lists.numbers ∙ kept.follows.numbers)
-      (omega (arith, live_taken, same_live))
+      (omega (arith, live_taken, ap live_count same))
       (λ y. subst (λ (r : PageRuns). HoldsSlabs p taken.opens r) (sym (same_runs y)) (slabs₁ y))
       refl refl (kind_is p k₁.slabs taken m kept.served.shape shows₁ ∙ sym (kind₁ m))
       (ap (λ (l : Lists). l.partial) all_lists ∙ sym (listed_same Partial ka m k.lists.partial))
@@ -353,7 +352,7 @@ module _ (told : Bool) (runs : PageRuns) (faults : ℕ) (c : Config) (number are
             (subst (λ (o : Option ℕ). Empties t freed f f' (freed_choices (Some b) m emptied.Kept) o) (sym (surplus_when false (surplus_by false w.0))) (refl, refl, refl)) tt tt
             (subst (λ (u : Uses). Shows p u freed) (sym (slabs_are mid v.slabs v.lists ka j refl)) shows₂) (joined_shut mid v.slabs v.lists ka j refl)
             (joined_full mid v.slabs v.lists ka j refl) (joined_numbers mid v.slabs v.lists ka j refl)
-            (omega (arith, live_taken, live₁, live', ap live_count (slabs_are mid v.slabs v.lists ka j refl), free_live))
+            (omega (arith, live_taken, ap live_count (slabs_are mid v.slabs v.lists ka j refl), free_live))
             (λ y. subst (λ (r : PageRuns). HoldsSlabs p taken.opens r) (sym (q.runs_same (told_half ∙ y))) (slabs₁ y))
             refl (kind₁ m) (kind_is p uses₂ freed m kept.served.shape shows₂)
             (joined_partial mid v.slabs v.lists ka j refl) (joined_empty mid v.slabs v.lists ka j refl)
@@ -380,7 +379,7 @@ module _ (told : Bool) (runs : PageRuns) (faults : ℕ) (c : Config) (number are
             (subst (λ (x : Uses). Shows p x (retires (Some m) s₃)) (sym slabs) (shows_retired p uses₂ s₃ m g.slab g.is_slab shows₃))
             (parked_shut mid v.slabs v.lists w u j.parks j.unparked_is ∙ shut_with u freed)
             (parked_full mid v.slabs v.lists w u j.parks j.unparked_is) (parked_numbers mid v.slabs v.lists w u j.parks j.unparked_is)
-            (omega (arith, live_taken, live₁, live', ap live_count slabs, shut_live uses₂ m g.slab g.is_slab, free_live, ap (λ (l : List (ℕ × ℕ)). length l) (unparked_live u freed)))
+            (omega (arith, live_taken, ap live_count slabs, shut_live uses₂ m g.slab g.is_slab, free_live, ap (λ (l : List (ℕ × ℕ)). length l) (unparked_live u freed)))
             (λ y. subst (λ (r : PageRuns). HoldsSlabs p (retires (Some m) s₃).opens r) (sym (j.dropped.0 (told_half ∙ y)))
             (subst (λ (l : List (ℕ × Slab)). HoldsSlabs p (removed m l) (cond (has_bytes p) (map.remove (meaning.runs half) (slab_at p m)) (meaning.runs half))) (sym (unparked_opens u freed)) (holds_retired p taken.opens m (meaning.runs half) kept.served.shape (slabs₁ y))))
             refl (kind₁ m) (kind_shut p (retires (Some m) s₃) m kept.served.shape (has_removed_same m s₃.opens))
@@ -401,7 +400,7 @@ module _ (told : Bool) (runs : PageRuns) (faults : ℕ) (c : Config) (number are
             (subst (λ (o : Option ℕ). Empties t freed f f' (freed_choices (Some b) m emptied.Purged) o) (sym (surplus_when true (surplus_by true w.0))) (inr (refl, refl, refl, q.dropped.0, rose))) tt tt
             (subst (λ (x : Uses). Shows p x final) (sym (slabs_are mid v.slabs v.lists Empty j is)) shows₃) (joined_shut mid v.slabs v.lists Empty j is)
             (joined_full mid v.slabs v.lists Empty j is) (joined_numbers mid v.slabs v.lists Empty j is)
-            (omega (arith, live_taken, live₁, live', ap live_count (slabs_are mid v.slabs v.lists Empty j is), free_live))
+            (omega (arith, live_taken, ap live_count (slabs_are mid v.slabs v.lists Empty j is), free_live))
             (λ y. subst (λ (r : PageRuns). HoldsSlabs p final.opens r) (sym (q.dropped.1 (told_half ∙ y))) (holds_purged p taken.opens m (meaning.runs half) kept.served.shape q.dropped.0 place_b.open_slab (slabs₁ y)))
             refl (kind₁ m) (kind_is p uses₂ final m kept.served.shape shows₃ ∙ is)
             (joined_partial mid v.slabs v.lists Empty j is) (joined_empty mid v.slabs v.lists Empty j is)
@@ -410,7 +409,7 @@ module _ (told : Bool) (runs : PageRuns) (faults : ℕ) (c : Config) (number are
   -- what was released, if anything, and its slab
   pub kept_ended : (released : Option ℕ) (e : Emptied) → released ≡ let_go quarantine a (place_of_word p (next_word stream)) → Settles meaning p k₁ k' half now (array_stream p stream) stream' released e
       → meaning.told half ≡ told → f ≡ meaning.faults half → f' ≡ meaning.faults now → Ends released (released_slab p released) e
-  kept_ended None e let_is v told_half half_is now_is = kept_held e let_is v.0 v.1 v.2 (live' ∙ ap live_count v.1 ∙ sym live₁) (λ y. v.3.runs_same (told_half ∙ y)) v.3.stream_is (v.3.parking_is ∙ lists.parking)
+  kept_ended None e let_is v told_half half_is now_is = kept_held e let_is v.0 v.1 v.2 (λ y. v.3.runs_same (told_half ∙ y)) v.3.stream_is (v.3.parking_is ∙ lists.parking)
   kept_ended (Some b) e let_is v told_half half_is now_is = kept_released b let_is e v told_half half_is now_is
 
   -- what is released was not live, and no fault is taken back

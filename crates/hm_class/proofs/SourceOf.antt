@@ -51,7 +51,7 @@ source_is partial empty retired limit next place is =
     subst (λ (p : Place). Says partial empty retired limit next p) (sym is) (source_says partial empty retired limit next)
 
 -- ---- a slab that is to be opened
-module _ (t : Table) (live n : ℕ) (k : Slabs) (view : slabs_of t live ≡ k) (none : front_of k ≡ None) (opens : new_of k ≡ Some n) where
+module _ (t : Table) (n : ℕ) (k : Slabs) (view : slabs_of t ≡ k) (none : front_of k ≡ None) (opens : new_of k ≡ Some n) where
   abbrev pub Opens : Place → Type 0
   Opens (Partial m) = ⊥
   Opens (Empty m) = ⊥

@@ -233,8 +233,8 @@ module _ (t : Table) (n : ℕ) (filed : IsFiled t) where
   slots_some slab is = omega (arith, filed.whole n slab is, filed.some)
 
 -- an open slab, as the layers above see it
-pub open_now : (t : Table) (live n : ℕ) (k : Slabs) → IsFiled t → slabs_of t live ≡ k → open_at k.slabs n ≡ true → is_open n t ≡ true
-open_now t live n k filed view on = sym (open_is t n filed) ∙ ap (λ (k : Slabs). open_at k.slabs n) view ∙ on
+pub open_now : (t : Table) (n : ℕ) (k : Slabs) → IsFiled t → slabs_of t ≡ k → open_at k.slabs n ≡ true → is_open n t ≡ true
+open_now t n k filed view on = sym (open_is t n filed) ∙ ap (λ (k : Slabs). open_at k.slabs n) view ∙ on
 
 -- a slab that is there
 pub meta_there : (t : Table) (n : ℕ) → IsFiled t → is_some (slab_in (uses_of t) n) ≡ true → (slab : meta.SlabUse) × (finite.get t.metas n ≡ Some slab)

@@ -103,8 +103,7 @@ module _ (told : Bool) (runs : PageRuns) (faults : ℕ) (c : Config) (number are
     (on : is_open (opened p choices.opened choices.canary (state (terms_of told c p) es)) n ≡ true)
     (shows : Shows p k₁.slabs (opened p choices.opened choices.canary (state (terms_of told c p) es)))
     (slabs : IsTrue told → HoldsSlabs p (opened p choices.opened choices.canary (state (terms_of told c p) es)).opens (meaning.runs mid))
-    (live_mid : k₁.live ≡ live_count k₁.slabs) (live_now : k'.live ≡ live_count k'.slabs)
-    (live_all : length (opened p choices.opened choices.canary (state (terms_of told c p) es)).live ≤ k₁.live)
+    (live_all : length (opened p choices.opened choices.canary (state (terms_of told c p) es)).live ≤ live_count k₁.slabs)
     (shut : k'.lists.retired ≡ (opened p choices.opened choices.canary (state (terms_of told c p) es)).shut)
     (partial : k'.lists.partial ≡ listed Partial n kind₀ (kind_at k'.slabs n) k.lists.partial)
     (empty : k'.lists.empty ≡ listed Empty n kind₀ (kind_at k'.slabs n) k.lists.empty)
@@ -137,8 +136,7 @@ module _ (told : Bool) (runs : PageRuns) (faults : ℕ) (c : Config) (number are
           shut = shut;
           full = full;
           numbers = numbers;
-          counted = live_now;
-          live_all = omega (arith, live_all, live_mid, live_now, more_live k₁.slabs k'.slabs n i Live v was g.slabs, dead, length_removed q then.live);
+          live_all = omega (arith, live_all, more_live k₁.slabs k'.slabs n i Live v was g.slabs, dead, length_removed q then.live);
         })
         (given_slabs meaning p k₁.slabs then n i mid now told tell kept.served.shape on lt shows slabs a asked g.addr_is g.written)
         (next_picked t (state t es) k k' stream stream' quarantine parking e q n kind₀ kept.served.shape refl (slab_of_place p n i kept.served.shape lt) was_kind shows' taken partial empty))
@@ -162,8 +160,7 @@ module _ (told : Bool) (runs : PageRuns) (faults : ℕ) (c : Config) (number are
           shut = shut;
           full = full;
           numbers = numbers;
-          counted = live_now;
-          live_all = omega (arith, live_all, live_mid, live_now, more_live k₁.slabs k'.slabs n i (Condemned (was_given v)) v was items, dead);
+          live_all = omega (arith, live_all, more_live k₁.slabs k'.slabs n i (Condemned (was_given v)) v was items, dead);
         })
         (λ y. subst (λ (r : PageRuns). HoldsSlabs p then.opens r) (sym (g.same (tell y))) (slabs y))
         (next_picked t (state t es) k k' stream stream' quarantine parking e q n kind₀ kept.served.shape refl (slab_of_place p n i kept.served.shape lt) was_kind shows' taken partial empty))

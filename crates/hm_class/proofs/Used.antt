@@ -8,7 +8,7 @@ use Rattle.std.proofs.lemmas.Option.{slice_get_within, get_or_from_slice_get, sl
 use Rattle.hm_slab_lists.specs.Numbers.{is_guard, after}
 use Rattle.hm_slab_meta.specs.Uses.{SlotUse}
 use Rattle.hm_slab_meta.specs.Uses.{Never, Free, Live, Held, Condemned}
-use Rattle.hm_class.specs.Uses.{Uses, SlabUse, lives, occupied, live_count, slab_in, open_at, use_at, changed, with_slot, with_use, with_slab, count_in}
+use Rattle.hm_class.specs.Uses.{Uses, SlabUse, Numbers, lives, occupied, live_count, slab_in, open_at, use_at, changed, with_slot, with_use, with_slab, with_canary, with_canary_at, with_open, opened_slab, fresh_slab, taken_uses, count_in}
 use Rattle.hm_class.proofs.Counts.{mapped, weight, count_set}
 use Rattle.hm_class.proofs.Found.{slab_there}
 
@@ -217,6 +217,24 @@ pub new_slot : (n i : ℕ) → i < n → slice_get (replicate n Never) i ≡ Som
 new_slot zero i lt = absurd (omega arith)
 new_slot (suc n) zero lt = refl
 new_slot (suc n) (suc i) lt = new_slot n i (omega arith)
+
+-- a slab that gets a canary, or is opened, has as many live slots as before
+pub live_sealed : (uses : Uses) (n canary : ℕ) → live_count (with_canary_at uses n canary) ≡ live_count uses
+live_sealed uses n canary = of (slab_in uses n) refl
+  where
+    of : (o : Option SlabUse) → slab_in uses n ≡ o → live_count (with_canary_at uses n canary) ≡ live_count uses
+    of None is = ap live_count (changed_none uses n (with_canary canary) is)
+    of (Some b) is = omega (arith, count_changed uses n (with_canary canary) b is lives)
+
+live_taken : (q : Numbers) (l : List ℕ) (all : Uses) → live_count (taken_uses q l all) ≡ live_count all
+live_taken q [] all = omega (arith, count_with_slab q.guard_interval all (fresh_slab q.slots) lives, none_new lives q.slots refl)
+live_taken q (m ∷ ms) all = refl
+
+pub live_opened : (q : Numbers) (l : List ℕ) (all : Uses) (n canary : ℕ) → is_some (slab_in (taken_uses q l all) n) ≡ true
+    → live_count (with_open (taken_uses q l all) n canary) ≡ live_count all
+live_opened q l all n canary there =
+    let b = some_slab (slab_in (taken_uses q l all) n) there in
+    omega (arith, count_changed (taken_uses q l all) n (opened_slab canary) b.0 b.1 lives, live_taken q l all)
 
 -- a number from the end on is no slab's
 pub slab_past : (uses : Uses) (n : ℕ) → length uses ≤ n → slab_in uses n ≡ None

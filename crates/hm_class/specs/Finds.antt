@@ -47,7 +47,6 @@ module _ {P : Type 0} (meaning : pages.Ghosts P) where
   -- the slabs, the meaning.runs and the stream are as before
   pub record KeepsRuns (old new : Slabs) (before now : P) (stream stream' : Words) : Type 0 where
     pub slabs : new.slabs ≡ old.slabs
-    pub live : new.live ≡ old.live
     pub lists : SameLists old new
     pub runs_same : IsTrue (meaning.told before) → meaning.runs now ≡ meaning.runs before
     pub stream_same : stream' ≡ stream
@@ -61,7 +60,6 @@ module _ {P : Type 0} (meaning : pages.Ghosts P) where
   pub record Opens (p : Shape) (n : ℕ) (canary : Option Canary) (old new : Slabs) (before now : P)
       (stream stream' : Words) : Type 0 where
     pub slabs : new.slabs ≡ with_open (taken_of old) n (unwrap_or (canary_value canary) 0)
-    pub live : new.live ≡ old.live
     pub lists : new.lists ≡ opened_lists n old.lists
     pub parking : new.parking ≡ old.parking
     pub numbers : new.numbers ≡ old.numbers

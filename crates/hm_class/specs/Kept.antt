@@ -41,14 +41,13 @@ IsFull uses n = (open_at uses n ≡ true) × (kind_at uses n ≡ Neither)
 abbrev pub AreFull : Uses → List ℕ → Type 0
 AreFull uses full = (n : ℕ) → among n full ≡ true → IsFull uses n
 
--- the slots, the count of those that are live, and the lists that no cell has
+-- the slots, and the lists that no cell has
 pub record Follows (p : Shape) (s : State) (k : Slabs) : Type 0 where
   pub shows : Shows p k.slabs s
   pub shut : k.lists.retired ≡ s.shut
   pub full : AreFull k.slabs k.lists.full
   pub numbers : k.numbers ≡ numbers_of p
-  pub counted : k.live ≡ live_count k.slabs
-  pub live_all : length s.live ≤ k.live
+  pub live_all : length s.live ≤ live_count k.slabs
 
 -- what is kept, as cells
 abbrev pub cells_of : State → Slabs → Words → Kept → List (Option ℕ) → Cells

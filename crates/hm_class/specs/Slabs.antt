@@ -11,9 +11,8 @@ use Rattle.hm_slab_meta.specs.Uses as meta
 use Rattle.hm_class.specs.Uses.{Uses, SlabUse, Numbers, with_shut, taken_uses}
 
 pub record Slabs : Type 0 where
-  -- how the slots of each slab are used, and how many of them are live
+  -- how the slots of each slab are used
   pub slabs : Uses
-  pub live : ℕ
   -- the lists of slab numbers, each with its front first, and the parking places
   pub lists : Lists
   pub parking : List (Option ℕ)
@@ -25,7 +24,6 @@ pub record Slabs : Type 0 where
 abbrev pub no_slabs : Numbers → ℕ → Slabs
 no_slabs numbers park_length = record {
   slabs = [];
-  live = 0;
   lists = no_lists;
   parking = replicate park_length None;
   spare = 0;
@@ -63,14 +61,12 @@ pub record SameLists (old new : Slabs) : Type 0 where
 -- the slots are as before
 pub record SameSlots (old new : Slabs) : Type 0 where
   pub slabs : new.slabs ≡ old.slabs
-  pub live : new.live ≡ old.live
   pub parking : new.parking ≡ old.parking
   pub numbers : new.numbers ≡ old.numbers
 
 -- slab n was shut, and stands in a parking place; what stood there ends the list of those that are shut
 pub record Parks (n park : ℕ) (old new : Slabs) : Type 0 where
   pub slabs : new.slabs ≡ with_shut old.slabs n
-  pub live : new.live ≡ old.live
   pub lists : new.lists ≡ unparked (slice_index_or old.parking park None) (gone n old.lists)
   pub parking : new.parking ≡ slice_set old.parking park (Some n)
   pub numbers : new.numbers ≡ old.numbers
@@ -78,7 +74,6 @@ pub record Parks (n park : ℕ) (old new : Slabs) : Type 0 where
 -- all is as before, but for room
 pub record SameSlabs (old new : Slabs) : Type 0 where
   pub slabs : new.slabs ≡ old.slabs
-  pub live : new.live ≡ old.live
   pub rest : SameLists old new
 
 -- ---- the slabs of a table
@@ -95,10 +90,9 @@ uses_of t = map (slab_in_table t) (range_with_len 0 t.next)
 abbrev pub numbers_in : Table → Numbers
 numbers_in t = record { limit = t.limit; guard_interval = t.guard_interval; slots = t.slots }
 
-abbrev pub slabs_of : Table → ℕ → Slabs
-slabs_of t live = record {
+abbrev pub slabs_of : Table → Slabs
+slabs_of t = record {
   slabs = uses_of t;
-  live = live;
   lists = t.lists;
   parking = t.parking;
   spare = t.spare;

@@ -51,12 +51,10 @@ pub fn give<P: Pages>(slabs: &mut Slabs, pages: &mut P, shape: &Shape, slot: Slo
     requires slab { slot.slab < shape.now.limit }
     requires index { slot.index < shape.now.slots }
     requires available { IsAvailable slabs.old.slabs slot }
-    requires counted { slabs.old.live ≡ live_count slabs.old.slabs }
-    requires few { slabs.old.live < 2 ^ 63 }
+    requires few { live_count slabs.old.slabs < 2 ^ 63 }
     ensures told { P.told pages.new ≡ P.told pages.old }
     ensures count { P.faults pages.new ≡ P.faults pages.old }
     ensures lists { SameLists slabs.old slabs.new }
-    ensures counted { slabs.new.live ≡ live_count slabs.new.slabs }
     ensures replies { IsSlotReply (usable shape.now) (reply_of result) }
     ensures given { Gives P.Pages shape.now slabs.old slabs.new pages.old pages.new slot result }
 {
@@ -87,11 +85,9 @@ fn serve_from<P: Pages>(
 ) -> (Outcome, u32)
     requires shape { IsShape shape.now }
     requires ready { CanPick shape.now slabs.old slab }
-    requires counted { slabs.old.live ≡ live_count slabs.old.slabs }
-    requires few { slabs.old.live < 2 ^ 63 }
+    requires few { live_count slabs.old.slabs < 2 ^ 63 }
     ensures told { P.told pages.new ≡ P.told pages.old }
     ensures count { P.faults pages.new ≡ P.faults pages.old }
-    ensures counted { slabs.new.live ≡ live_count slabs.new.slabs }
     ensures replies { IsSlotReply (usable shape.now) (reply_of result.0) }
     ensures word { result.1 ≡ next_word stream.old }
     ensures served { Serve P.Pages shape.now slab slabs.old slabs.new pages.old pages.new stream.old stream.new result.0 }
@@ -115,11 +111,9 @@ pub fn serve<P: Pages>(
 ) -> Event
     requires shape { IsShape shape.now }
     requires ready { CanServe shape.now slabs.old next }
-    requires counted { slabs.old.live ≡ live_count slabs.old.slabs }
-    requires few { slabs.old.live < 2 ^ 63 }
+    requires few { live_count slabs.old.slabs < 2 ^ 63 }
     ensures told { P.told pages.new ≡ P.told pages.old }
     ensures count { P.faults pages.new ≡ P.faults pages.old }
-    ensures counted { slabs.new.live ≡ live_count slabs.new.slabs }
     ensures replies { IsSlotReply (usable shape.now) (reply_of result.outcome) }
     ensures served { Serves P.Pages shape.now slabs.old slabs.new pages.old pages.new stream.old stream.new next result }
 {

@@ -48,6 +48,7 @@ impl<P: Pages> Model for ClassHeap<P> {
     ghost use Rattle.hm_model.specs.Runs.{expand};
     ghost use Rattle.hm_class.specs.Region.{Region};
     ghost use Rattle.hm_class.specs.Kept.{IsKept};
+    ghost use Rattle.hm_class.specs.Uses.{live_count};
 
     ghost Value = { Region P };
 
@@ -63,7 +64,7 @@ impl<P: Pages> Model for ClassHeap<P> {
 
     ghost invariant = { λ h. IsKept (P.told h.pages) (P.runs h.pages) (P.faults h.pages) h.config h.number h.arena
         h.shape h.entries.items h.slabs h.stream h.quarantine h.slabs.parking
-        × (h.slabs.live ≤ h.entries.cap - h.entries.len) };
+        × (live_count h.slabs.slabs ≤ h.entries.cap - h.entries.len) };
 }
 
 impl<P: Pages> Counted for ClassHeap<P> {

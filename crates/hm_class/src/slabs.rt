@@ -57,13 +57,15 @@ pub struct Slabs {
 }
 
 impl Model for Slabs {
-    ghost use Rattle.hm_class.specs.Slabs.{Slabs, slabs_of, IsFiled};
+    ghost use Rattle.std.specs.Prelude.{◌≡◌};
+    ghost use Rattle.hm_class.specs.Slabs.{Slabs, slabs_of, uses_of, IsFiled};
+    ghost use Rattle.hm_class.specs.Uses.{live_count};
 
     ghost Value = { Slabs };
 
-    ghost view = { λ s. slabs_of s.lists s.live };
+    ghost view = { λ s. slabs_of s.lists };
 
-    ghost invariant = { λ s. IsFiled s.lists };
+    ghost invariant = { λ s. IsFiled s.lists × (s.live ≡ live_count (uses_of s.lists)) };
 }
 
 /// The address of a slot.
@@ -110,7 +112,7 @@ impl Slabs {
 
     /// How many slots are live.
     pub fn live(&self) -> usize
-        ensures { result ≡ self.now.live }
+        ensures { result ≡ live_count self.now.slabs }
     {
         self.live
     }
@@ -225,7 +227,6 @@ impl Slabs {
     // Sets the canary of a slab that was opened once.
     fn set_canary(&mut self, slab: u64, canary: u64)
         ensures slabs { self.new.slabs ≡ with_canary_at self.old.slabs slab canary }
-        ensures live { self.new.live ≡ self.old.live }
         ensures lists { SameLists self.old self.new }
     {
         if let Some(meta) = self.lists.meta_mut(slab) {
@@ -239,7 +240,6 @@ impl Slabs {
         requires there { is_some (slab_in (taken_of self.old) slab) ≡ true }
         requires room { 1 ≤ self.old.spare }
         ensures slabs { self.new.slabs ≡ with_open (taken_of self.old) slab (canary_at self.old.slabs slab) }
-        ensures live { self.new.live ≡ self.old.live }
         ensures lists { self.new.lists ≡ opened_lists slab self.old.lists }
         ensures parking { self.new.parking ≡ self.old.parking }
         ensures numbers { self.new.numbers ≡ self.old.numbers }
@@ -259,7 +259,6 @@ impl Slabs {
         requires there { is_some (slab_in (taken_of self.old) slab) ≡ true }
         requires room { 1 ≤ self.old.spare }
         ensures slabs { self.new.slabs ≡ with_open (taken_of self.old) slab canary }
-        ensures live { self.new.live ≡ self.old.live }
         ensures lists { self.new.lists ≡ opened_lists slab self.old.lists }
         ensures parking { self.new.parking ≡ self.old.parking }
         ensures numbers { self.new.numbers ≡ self.old.numbers }
@@ -271,11 +270,9 @@ impl Slabs {
     /// An available slot becomes live.
     pub fn give(&mut self, slot: Slot)
         requires available { IsAvailable self.old.slabs slot }
-        requires counted { self.old.live ≡ live_count self.old.slabs }
-        requires few { self.old.live < 2 ^ 63 }
+        requires few { live_count self.old.slabs < 2 ^ 63 }
         ensures slabs { self.new.slabs ≡ with_use self.old.slabs slot.slab slot.index Live }
         ensures lists { SameLists self.old self.new }
-        ensures counted { self.new.live ≡ live_count self.new.slabs }
     {
         self.live += 1;
         if let Some(meta) = self.lists.meta_mut(slot.slab) {
@@ -286,10 +283,8 @@ impl Slabs {
     /// An available slot is never given again.
     pub fn condemn(&mut self, slot: Slot)
         requires available { IsAvailable self.old.slabs slot }
-        requires counted { self.old.live ≡ live_count self.old.slabs }
         ensures slabs { self.new.slabs ≡ with_condemned self.old.slabs slot.slab slot.index }
         ensures lists { SameLists self.old self.new }
-        ensures counted { self.new.live ≡ live_count self.new.slabs }
     {
         if let Some(meta) = self.lists.meta_mut(slot.slab) {
             meta.condemn(slot.index);
@@ -299,10 +294,8 @@ impl Slabs {
     /// A live slot goes into quarantine.
     pub fn hold(&mut self, slot: Slot)
         requires live { use_at self.old.slabs slot.slab slot.index ≡ Some Live }
-        requires counted { self.old.live ≡ live_count self.old.slabs }
         ensures slabs { self.new.slabs ≡ with_use self.old.slabs slot.slab slot.index Held }
         ensures lists { SameLists self.old self.new }
-        ensures counted { self.new.live ≡ live_count self.new.slabs }
     {
         self.live -= 1;
         if let Some(meta) = self.lists.meta_mut(slot.slab) {
@@ -313,10 +306,8 @@ impl Slabs {
     /// A slot in quarantine is available again.
     pub fn release(&mut self, slot: Slot)
         requires held { use_at self.old.slabs slot.slab slot.index ≡ Some Held }
-        requires counted { self.old.live ≡ live_count self.old.slabs }
         ensures slabs { self.new.slabs ≡ with_use self.old.slabs slot.slab slot.index Free }
         ensures lists { SameLists self.old self.new }
-        ensures counted { self.new.live ≡ live_count self.new.slabs }
     {
         if let Some(meta) = self.lists.meta_mut(slot.slab) {
             meta.release(slot.index);

@@ -7,7 +7,7 @@ ghost use Rattle.hm_quarantine.specs.Quarantine.{let_go, kept_with};
 ghost use Rattle.hm_sizes.specs.Shapes.{IsShape, has_bytes, slab_at};
 ghost use Rattle.hm_class.specs.Frees.{Drops, array_word, place_of_word, array_stream, Clears, Retires, Releases, Settles, CanRelease, is_surplus, released_slab};
 ghost use Rattle.hm_class.specs.Slabs.{SameLists};
-ghost use Rattle.hm_class.specs.Uses.{live_count, use_at, open_at, with_use};
+ghost use Rattle.hm_class.specs.Uses.{use_at, open_at, with_use};
 ghost use Rattle.hm_slab_meta.specs.Uses.{Live, Held};
 
 use crate::next_slab::{slab_address, slab_pages};
@@ -67,13 +67,11 @@ pub fn hold<P: Pages>(
     requires shape { IsShape shape.now }
     requires array { length quarantine.old.array ≡ shape.now.array }
     requires live { use_at slabs.old.slabs slot.slab slot.index ≡ Some Live }
-    requires counted { slabs.old.live ≡ live_count slabs.old.slabs }
     ensures told { P.told pages.new ≡ P.told pages.old }
     ensures count { P.faults pages.new ≡ P.faults pages.old }
     ensures cleared { Clears P.Pages shape.now pages.old pages.new addr }
     ensures slabs { slabs.new.slabs ≡ with_use slabs.old.slabs slot.slab slot.index Held }
     ensures lists { SameLists slabs.old slabs.new }
-    ensures counted { slabs.new.live ≡ live_count slabs.new.slabs }
     ensures released { result.0 ≡ let_go quarantine.old addr (place_of_word shape.now (next_word stream.old)) }
     ensures word { result.1 ≡ array_word shape.now (next_word stream.old) }
     ensures kept { quarantine.new ≡ kept_with quarantine.old addr (place_of_word shape.now (next_word stream.old)) }
@@ -123,9 +121,7 @@ fn retire<P: Pages>(
     requires parking { length slabs.old.parking ≡ park_length }
     requires run { has_bytes shape.now ≡ true → IsTrue (P.told pages.old)
         → IsRun (P.runs pages.old) (slab_at shape.now slab) shape.now.slab }
-    requires counted { slabs.old.live ≡ live_count slabs.old.slabs }
     ensures told { P.told pages.new ≡ P.told pages.old }
-    ensures counted { slabs.new.live ≡ live_count slabs.new.slabs }
     ensures retired { Retires P.Pages shape.now slab slabs.old slabs.new pages.old pages.new stream.old stream.new
         result }
 {
@@ -157,11 +153,9 @@ fn release<P: Pages>(
 ) -> Emptied
     requires shape { IsShape shape.now }
     requires can { CanRelease P.Pages shape.now slabs.old pages.old addr }
-    requires counted { slabs.old.live ≡ live_count slabs.old.slabs }
     requires parking_some { 1 ≤ park_length }
     requires parking { length slabs.old.parking ≡ park_length }
     ensures told { P.told pages.new ≡ P.told pages.old }
-    ensures counted { slabs.new.live ≡ live_count slabs.new.slabs }
     ensures released { Releases P.Pages shape.now addr slabs.old slabs.new pages.old pages.new stream.old stream.new
         result }
 {
@@ -185,11 +179,9 @@ pub fn settle<P: Pages>(
 ) -> Emptied
     requires shape { IsShape shape.now }
     requires can { IfSome released (λ addr. CanRelease P.Pages shape.now slabs.old pages.old addr) }
-    requires counted { slabs.old.live ≡ live_count slabs.old.slabs }
     requires parking_some { 1 ≤ park_length }
     requires parking { length slabs.old.parking ≡ park_length }
     ensures told { P.told pages.new ≡ P.told pages.old }
-    ensures counted { slabs.new.live ≡ live_count slabs.new.slabs }
     ensures settled { Settles P.Pages shape.now slabs.old slabs.new pages.old pages.new stream.old stream.new released
         result }
 {

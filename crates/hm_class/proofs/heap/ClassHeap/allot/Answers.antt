@@ -1,4 +1,4 @@
-use Rattle.std.proofs.Common.{◌≡◌, ◌∙◌, ℕ, ◌+◌, ◌≤◌, Bool, Option, List, [], ◌∷◌, ◌++◌, ap, refl, subst, sym, arith}
+use Rattle.std.proofs.Common.{◌≡◌, ◌∙◌, ℕ, ◌≤◌, Bool, Option, List, [], ◌∷◌, ◌++◌, ap, refl, subst, sym, arith}
 use Rattle.hm_model.specs.declared.entry.Call.TheVariants as call
 use Rattle.hm_model.specs.declared.entry.Entry.{Entry}
 use Rattle.hm_model.specs.declared.entry.Reply.{Reply}
@@ -6,11 +6,12 @@ use Rattle.hm_model.specs.Calls.{entry_of}
 use Rattle.hm_class.specs.Kept.{IsKept}
 use Rattle.hm_class.specs.Outcomes.{reply_of}
 use Rattle.hm_class.specs.Region.{Region}
+use Rattle.hm_class.specs.Uses.{live_count}
 use Rattle.hm_sizes.specs.Classes.{class_size}
 use Rattle.hm_sizes.specs.Shapes.{class_size_of}
 use Rattle.hm_sizes.specs.Sizes.{raised}
 use Rattle.hm_choice.specs.Stream.{Words}
-use Rattle.hm_class.proofs.Allots.{kept_allotted, found_counted, same_slabs}
+use Rattle.hm_class.proofs.Allots.{kept_allotted, same_slabs}
 use Rattle.hm_class.proofs.Entries.{kept_moved, asks_of, added_of, appended, region_of, reply_of_region}
 use Rattle.hm_class.proofs.LiveCounts.{found_live, served_live, found_parking, served_parking}
 use Rattle.hm_class.proofs.Served.{can_open, new_apart, can_serve}
@@ -33,6 +34,14 @@ serve-event-requires-clause-ready g c κs within =
     let h = c.self.inside in
     let kept₀ = c.self.invariant.0 in
     can_serve (g.P.Pages.told h.pages) (g.P.Pages.runs h.pages) (g.P.Pages.faults h.pages) h.config h.number h.arena h.shape h.entries.items h.slabs h.stream h.quarantine h.slabs.parking kept₀ g.P.Pages h.pages c.find_slab.new.pages c.find_slab.new.slabs c.find_slab.new.stream c.in_ok-next.next c.in_ok-next.ensures.found
+
+pub serve-event-requires-clause-few : goal.serve-event-requires-clause-few
+serve-event-requires-clause-few g c κs within =
+    let h = c.self.inside in
+    let k₁ = c.find_slab.new.slabs in
+    let mid = c.find_slab.new.pages in
+    let stream₁ = c.find_slab.new.stream in
+    omega (arith, found_live g.P.Pages h.shape h.slabs k₁ k₁ h.pages mid mid h.stream stream₁ stream₁ (can_open (g.P.Pages.told h.pages) (g.P.Pages.runs h.pages) (g.P.Pages.faults h.pages) h.config h.number h.arena h.shape h.entries.items h.slabs h.stream h.quarantine h.slabs.parking c.self.invariant.0) c.in_ok-next.next c.in_ok-next.ensures.found, c.live.ensures, c.in_ok-reserve.ensures.ok, c.self.invariant.1)
 
 pub invariant_of-self-2 : goal.invariant_of-self-2
 invariant_of-self-2 g c =
@@ -58,18 +67,17 @@ invariant_of-self-2 g c =
     ∙ ap (λ (m : ℕ). entry_of c.args.who (call.Allot c.args.asked 1) (reply_of event.outcome) event.choices event.draws (faults h.pages) m) c.faults-now.ensures) in
     let asks : raised c.args.asked ≤ class_size_of h.shape = asks_of h.config h.number h.arena h.shape (raised c.args.asked) c.self.invariant.0.served (subst (λ (r : Region _). raised c.args.asked ≤ class_size r.class.0) (sym c.self.view_is) c.requires) in
     let can = can_serve (g.P.Pages.told h.pages) (g.P.Pages.runs h.pages) (g.P.Pages.faults h.pages) h.config h.number h.arena h.shape h.entries.items h.slabs h.stream h.quarantine h.slabs.parking kept₀ g.P.Pages h.pages mid k₁ stream₁ n found in
-    let live₁ = found_live g.P.Pages h.shape h.slabs k₁ k' h.pages mid now h.stream stream₁ stream' n found in
-    let more = served_live g.P.Pages h.shape h.slabs k₁ k' h.pages mid now h.stream stream₁ stream' n event kept₀.served.shape can c.serve-event.ensures.served (found_counted g.P.Pages h.shape h.slabs c.find_slab.new.slabs h.pages c.find_slab.new.pages h.stream c.find_slab.new.stream (can_open (g.P.Pages.told h.pages) (g.P.Pages.runs h.pages) (g.P.Pages.faults h.pages) h.config h.number h.arena h.shape h.entries.items h.slabs h.stream h.quarantine h.slabs.parking kept₀) kept₀.follows.counted c.in_ok-next.next c.in_ok-next.ensures.found) c.serve-event.ensures.counted in
-    let at_most : k'.live ≤ h.slabs.live + 1 = omega (arith, more, live₁) in
+    let same = found_live g.P.Pages h.shape h.slabs k₁ k' h.pages mid now h.stream stream₁ stream' (can_open (g.P.Pages.told h.pages) (g.P.Pages.runs h.pages) (g.P.Pages.faults h.pages) h.config h.number h.arena h.shape h.entries.items h.slabs h.stream h.quarantine h.slabs.parking kept₀) n found in
+    let more = served_live g.P.Pages h.shape h.slabs k₁ k' h.pages mid now h.stream stream₁ stream' n event kept₀.served.shape can c.serve-event.ensures.served in
     let places : k'.parking ≡ h.slabs.parking =
     served_parking g.P.Pages h.shape h.slabs k₁ k' h.pages mid now h.stream stream₁ stream' n event c.serve-event.ensures.served
     ∙ found_parking g.P.Pages h.shape h.slabs k₁ k' h.pages mid now h.stream stream₁ stream' n found in (
       subst (λ (l : List (Option ℕ)). IsKept (told now) (runs now) (faults now) h.config h.number h.arena h.shape c.push_reserved.new.self.items k' stream' h.quarantine l) (sym places)
           (subst (λ (b : Bool). IsKept b (runs now) (faults now) h.config h.number h.arena h.shape c.push_reserved.new.self.items k' stream' h.quarantine h.slabs.parking) (sym (c.serve-event.ensures.told ∙ c.find_slab.ensures.told))
           (subst (λ (l : List Entry). IsKept (told h.pages) (runs now) (faults now) h.config h.number h.arena h.shape l k' stream' h.quarantine h.slabs.parking) (sym all)
-          (kept_allotted (g.P.Pages.told h.pages) (g.P.Pages.runs h.pages) (g.P.Pages.faults h.pages) h.config h.number h.arena h.shape h.entries.items h.slabs h.stream h.quarantine h.slabs.parking kept₀ g.P.Pages h.pages mid now k₁ k' stream₁ stream' c.args.who c.args.asked refl c.find_slab.ensures.told refl refl c.serve-event.ensures.count asks c.serve-event.ensures.counted
+          (kept_allotted (g.P.Pages.told h.pages) (g.P.Pages.runs h.pages) (g.P.Pages.faults h.pages) h.config h.number h.arena h.shape h.entries.items h.slabs h.stream h.quarantine h.slabs.parking kept₀ g.P.Pages h.pages mid now k₁ k' stream₁ stream' c.args.who c.args.asked refl c.find_slab.ensures.told refl refl c.serve-event.ensures.count asks
           n event found c.serve-event.ensures.served))),
-      omega (arith, at_most, c.in_ok-reserve.ensures.ok, c.reserve.ensures.len, c.push_reserved.ensures.len, c.push_reserved.ensures.capacity),
+      omega (arith, same, more, c.in_ok-reserve.ensures.ok, c.reserve.ensures.len, c.push_reserved.ensures.len, c.push_reserved.ensures.capacity),
     )
 
 pub returns-clause-added : goal.returns-clause-added
@@ -92,12 +100,6 @@ returns-in_err-reserve-clause-region g c = region_of g.P.Pages _ c.self.inside.s
     (let h = c.self.inside in subst (λ (l : List Entry). IsKept (g.P.Pages.told h.pages) (g.P.Pages.runs h.pages) (g.P.Pages.faults h.pages) h.config h.number h.arena h.shape l h.slabs h.stream h.quarantine h.slabs.parking) (sym c.reserve.ensures.items) c.self.invariant.0)
     (omega (arith, c.self.invariant.1, c.reserve.ensures.len, c.reserve.ensures.capacity))
 
-pub serve-event-requires-clause-counted : goal.serve-event-requires-clause-counted
-serve-event-requires-clause-counted g c κs within =
-    let h = c.self.inside in
-    let kept₀ = c.self.invariant.0 in
-    found_counted g.P.Pages h.shape h.slabs c.find_slab.new.slabs h.pages c.find_slab.new.pages h.stream c.find_slab.new.stream (can_open (g.P.Pages.told h.pages) (g.P.Pages.runs h.pages) (g.P.Pages.faults h.pages) h.config h.number h.arena h.shape h.entries.items h.slabs h.stream h.quarantine h.slabs.parking kept₀) kept₀.follows.counted c.in_ok-next.next c.in_ok-next.ensures.found
-
 pub returns-in_err-next-clause-region : goal.returns-in_err-next-clause-region
 returns-in_err-next-clause-region g c =
     let h = c.self.inside in
@@ -110,7 +112,7 @@ returns-in_err-next-clause-region g c =
     region_of g.P.Pages _ h.shape k₁ c.find_slab.new.stream h.quarantine h.slabs.parking refl
     (subst (λ (l : List Entry). IsKept (g.P.Pages.told mid) (g.P.Pages.runs mid) (g.P.Pages.faults mid) h.config h.number h.arena h.shape l k₁ c.find_slab.new.stream h.quarantine h.slabs.parking) (sym c.reserve.ensures.items)
     (subst (λ (x : Words). IsKept (g.P.Pages.told mid) (g.P.Pages.runs mid) (g.P.Pages.faults mid) h.config h.number h.arena h.shape h.entries.items k₁ x h.quarantine h.slabs.parking) (sym q.0.stream_same) kept₁))
-    (omega (arith, c.self.invariant.1, c.reserve.ensures.len, c.reserve.ensures.capacity, q.0.live))
+    (omega (arith, c.self.invariant.1, c.reserve.ensures.len, c.reserve.ensures.capacity, ap live_count q.0.slabs))
 
 pub returns-clause-replies : goal.returns-clause-replies
 returns-clause-replies g c =

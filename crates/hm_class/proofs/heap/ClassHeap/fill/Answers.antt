@@ -22,8 +22,8 @@ invariant_of-self-2 g c =
     let all : c.push_reserved.new.self.items ≡ h.entries.items ++ e ∷ [] =
     appended _ _ _ _ _ c.push_reserved.ensures.items c.reserve.ensures.items
     (c.plain.ensures ∙ ap (λ (y : Reply). entry_of c.args.who (call.Fill c.args.addr c.in_ok-runs.runs) y no_choices no_words f f) c.reply-reply.ensures
-    ∙ ap (λ (x : List (ℕ × ℕ)). entry_of c.args.who (call.Fill c.args.addr x) (reply_of o) no_choices no_words f f) c.in_ok-runs.ensures) in
-    let bytes : c.deref.result.now ≡ expand rs = c.deref.ensures.value ∙ c.in_ok-bytes.ensures ∙ ap (λ (x : List (ℕ × ℕ)). expand x) c.in_ok-runs.ensures in (
+    ∙ ap (λ (x : List (ℕ × ℕ)). entry_of c.args.who (call.Fill c.args.addr x) (reply_of o) no_choices no_words f f) c.in_ok-runs.ensures.value) in
+    let bytes : c.deref.result.now ≡ expand rs = c.deref.ensures.value ∙ c.in_ok-bytes.ensures ∙ ap (λ (x : List (ℕ × ℕ)). expand x) c.in_ok-runs.ensures.value in (
       subst (λ (b : Bool). IsKept b (g.P.Pages.runs pages) (g.P.Pages.faults pages) h.config h.number h.arena h.shape c.push_reserved.new.self.items h.slabs h.stream h.quarantine h.slabs.parking) (sym c.fill-outcome.ensures.told)
           (subst (λ (l : List Entry). IsKept (g.P.Pages.told h.pages) (g.P.Pages.runs pages) (g.P.Pages.faults pages) h.config h.number h.arena h.shape l h.slabs h.stream h.quarantine h.slabs.parking) (sym all)
           (subst (λ (n : ℕ). IsKept (g.P.Pages.told h.pages) (g.P.Pages.runs pages) n h.config h.number h.arena h.shape (h.entries.items ++ e ∷ []) h.slabs h.stream h.quarantine h.slabs.parking) (sym c.fill-outcome.ensures.count)
@@ -41,7 +41,7 @@ returns-clause-added g c =
     let all : c.push_reserved.new.self.items ≡ h.entries.items ++ entry_of c.args.who (call.Fill c.args.addr rs) c.reply.result no_choices no_words f f ∷ [] =
     appended _ _ _ _ _ c.push_reserved.ensures.items c.reserve.ensures.items
     (c.plain.ensures ∙ ap (λ (y : Reply). entry_of c.args.who (call.Fill c.args.addr c.in_ok-runs.runs) y no_choices no_words f f) answer
-    ∙ ap (λ (x : List (ℕ × ℕ)). entry_of c.args.who (call.Fill c.args.addr x) c.reply.result no_choices no_words f f) c.in_ok-runs.ensures) in
+    ∙ ap (λ (x : List (ℕ × ℕ)). entry_of c.args.who (call.Fill c.args.addr x) c.reply.result no_choices no_words f f) c.in_ok-runs.ensures.value) in
     added_of g.P.Pages c.args.self.now _ _ _ c.args.who (call.Fill c.args.addr rs) c.reply.result no_choices no_words f f c.self.view_is all c.faults-faults.ensures (c.faults-faults.ensures ∙ sym c.fill-outcome.ensures.count)
 
 pub returns-clause-region : goal.returns-clause-region
@@ -68,7 +68,7 @@ pub returns-clause-trap : goal.returns-clause-trap
 returns-clause-trap g c =
     let h = c.self.inside in
     let rs : List (ℕ × ℕ) = c.args.runs.now in
-    let bytes : c.deref.result.now ≡ expand rs = c.deref.ensures.value ∙ c.in_ok-bytes.ensures ∙ ap (λ (x : List (ℕ × ℕ)). expand x) c.in_ok-runs.ensures in
+    let bytes : c.deref.result.now ≡ expand rs = c.deref.ensures.value ∙ c.in_ok-bytes.ensures ∙ ap (λ (x : List (ℕ × ℕ)). expand x) c.in_ok-runs.ensures.value in
     subst (λ (r : Reply). TrapsIn g.P.Pages.told c.args.self.now c.args.addr (length (expand rs)) r) (sym c.reply.ensures)
     (subst (λ (o : Option ℕ). ReplyTraps o c.args.addr (reply_of c.fill-outcome.result))
     (ap (λ (l : List ℕ). trap_in h.shape h.slabs.slabs c.args.addr (length l)) bytes

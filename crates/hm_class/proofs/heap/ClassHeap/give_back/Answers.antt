@@ -1,4 +1,4 @@
-use Rattle.std.proofs.Common.{◌≡◌, ◌∙◌, ℕ, ◌+◌, ◌≤◌, Bool, Option, List, [], ◌∷◌, ◌++◌, length, ap, refl, subst, sym, arith}
+use Rattle.std.proofs.Common.{◌≡◌, ◌∙◌, ℕ, ◌≤◌, Bool, Option, List, [], ◌∷◌, ◌++◌, length, ap, refl, subst, sym, arith}
 use Rattle.hm_model.specs.declared.entry.Call.TheVariants as call
 use Rattle.hm_model.specs.declared.entry.Entry.{Entry}
 use Rattle.hm_model.specs.declared.entry.Reply.{Reply}
@@ -13,7 +13,8 @@ use Rattle.hm_quarantine.specs.Quarantine.{Kept}
 use Rattle.hm_class.specs.declared.outcome.Event.{Event}
 use Rattle.hm_class.specs.Frees.{Settles, array_stream, released_slab}
 use Rattle.hm_class.specs.Outcomes.{freed_choices, freed_draws}
-use Rattle.hm_class.proofs.LiveCounts.{one_less}
+use Rattle.hm_class.proofs.Used.{live_held}
+use Rattle.hm_class.specs.Uses.{live_count}
 use Rattle.hm_class.proofs.Settled.{kept_ended, live_ended, settled_later, entry_freed}
 use Rattle.hm_class.proofs.Entries.{kept_now, kept_refused, never_refused, added_of, appended, region_of}
 use Rattle.hm_class.proofs.heap.ClassHeap.give_back.Goals as goal
@@ -66,7 +67,7 @@ slab_of-slab-requires-clause-from g c =
 pub push_reserved-requires-in-Accepted : goal.push_reserved-requires-in-Accepted
 push_reserved-requires-in-Accepted g c =
     let h = c.self.inside in
-    omega (arith, c.self.invariant.1, c.self.invariant.0.follows.counted, one_less h.slabs.slabs c.hold-released.new.slabs.slabs c.in-Accepted.slot.slab c.in-Accepted.slot.index c.in-Accepted.ensures.judged.judged.1 c.hold-released.ensures.slabs)
+    omega (arith, c.self.invariant.1, ap live_count c.hold-released.ensures.slabs, live_held h.slabs.slabs c.in-Accepted.slot.slab c.in-Accepted.slot.index c.in-Accepted.ensures.judged.judged.1)
 
 pub returns-in_ok-reserve-in-Refused-clause-region : goal.returns-in_ok-reserve-in-Refused-clause-region
 returns-in_ok-reserve-in-Refused-clause-region g c =
@@ -103,14 +104,13 @@ invariant_of-self-in-Accepted g c =
     (c.entry.ensures ∙ ap (λ (ev : Event). entry_of c.args.who (call.GiveBack c.args.addr c.args.stated) reply.Freed ev.choices ev.draws f f') c.freed-event.ensures
     ∙ ap (λ (n : ℕ). entry_of c.args.who (call.GiveBack c.args.addr c.args.stated) reply.Freed (freed_choices released n emptied) (freed_draws c.hold-released.result.1 emptied) f f') c.slab_of-slab.ensures
     ∙ ap (λ (w : Option ℕ). entry_of c.args.who (call.GiveBack c.args.addr c.args.stated) reply.Freed (freed_choices released (released_slab h.shape released) emptied) (freed_draws w emptied) f f') c.hold-released.ensures.word) in
-    let less = live_ended (g.P.Pages.told h.pages) (g.P.Pages.runs h.pages) (g.P.Pages.faults h.pages) h.config h.number h.arena h.shape h.entries.items h.slabs h.stream h.quarantine c.self.invariant.0 g.P.Pages h.pages c.hold-released.new.pages c.settle-emptied.new.pages c.hold-released.new.slabs c.settle-emptied.new.slabs c.settle-emptied.new.stream c.args.addr c.in-Accepted.slot c.args.stated c.args.who c.faults-before.result c.faults-now.result refl refl c.in-Accepted.ensures.judged c.hold-released.ensures.slabs c.hold-released.ensures.cleared c.hold-released.ensures.lists c.hold-released.ensures.counted c.settle-emptied.ensures.counted c.faults-before.ensures later released emptied c.hold-released.ensures.released settled in
-    let fewer : k'.live + 1 ≡ h.slabs.live = omega (arith, less, c.settle-emptied.ensures.counted, c.self.invariant.0.follows.counted) in (
+    let less = live_ended (g.P.Pages.told h.pages) (g.P.Pages.runs h.pages) (g.P.Pages.faults h.pages) h.config h.number h.arena h.shape h.entries.items h.slabs h.stream h.quarantine c.self.invariant.0 g.P.Pages h.pages c.hold-released.new.pages c.settle-emptied.new.pages c.hold-released.new.slabs c.settle-emptied.new.slabs c.settle-emptied.new.stream c.args.addr c.in-Accepted.slot c.args.stated c.args.who c.faults-before.result c.faults-now.result refl refl c.in-Accepted.ensures.judged c.hold-released.ensures.slabs c.hold-released.ensures.cleared c.hold-released.ensures.lists c.faults-before.ensures later released emptied c.hold-released.ensures.released settled in (
       subst (λ (b : Bool). IsKept b (g.P.Pages.runs now) (g.P.Pages.faults now) h.config h.number h.arena h.shape c.push_reserved-in-Accepted.new.self.items k' stream' c.hold-released.new.quarantine k'.parking) (sym (c.settle-emptied.ensures.told ∙ c.hold-released.ensures.told))
           (subst (λ (l : List Entry). IsKept (g.P.Pages.told h.pages) (g.P.Pages.runs now) (g.P.Pages.faults now) h.config h.number h.arena h.shape l k' stream' c.hold-released.new.quarantine k'.parking) (sym all)
           (subst (λ (n : ℕ). IsKept (g.P.Pages.told h.pages) (g.P.Pages.runs now) n h.config h.number h.arena h.shape (h.entries.items ++ x ∷ []) k' stream' c.hold-released.new.quarantine k'.parking) c.faults-now.ensures
           (subst (λ (q : Kept). IsKept (g.P.Pages.told h.pages) (g.P.Pages.runs now) f' h.config h.number h.arena h.shape (h.entries.items ++ x ∷ []) k' stream' q k'.parking) (sym c.hold-released.ensures.kept)
-          (kept_ended (g.P.Pages.told h.pages) (g.P.Pages.runs h.pages) (g.P.Pages.faults h.pages) h.config h.number h.arena h.shape h.entries.items h.slabs h.stream h.quarantine c.self.invariant.0 g.P.Pages h.pages c.hold-released.new.pages c.settle-emptied.new.pages c.hold-released.new.slabs c.settle-emptied.new.slabs c.settle-emptied.new.stream c.args.addr c.in-Accepted.slot c.args.stated c.args.who c.faults-before.result c.faults-now.result refl refl c.in-Accepted.ensures.judged c.hold-released.ensures.slabs c.hold-released.ensures.cleared c.hold-released.ensures.lists c.hold-released.ensures.counted c.settle-emptied.ensures.counted c.faults-before.ensures later released emptied c.hold-released.ensures.released settled c.hold-released.ensures.told half_is c.faults-now.ensures)))),
-      omega (arith, c.self.invariant.1, fewer, c.push_reserved-in-Accepted.ensures.len, c.push_reserved-in-Accepted.ensures.capacity),
+          (kept_ended (g.P.Pages.told h.pages) (g.P.Pages.runs h.pages) (g.P.Pages.faults h.pages) h.config h.number h.arena h.shape h.entries.items h.slabs h.stream h.quarantine c.self.invariant.0 g.P.Pages h.pages c.hold-released.new.pages c.settle-emptied.new.pages c.hold-released.new.slabs c.settle-emptied.new.slabs c.settle-emptied.new.stream c.args.addr c.in-Accepted.slot c.args.stated c.args.who c.faults-before.result c.faults-now.result refl refl c.in-Accepted.ensures.judged c.hold-released.ensures.slabs c.hold-released.ensures.cleared c.hold-released.ensures.lists c.faults-before.ensures later released emptied c.hold-released.ensures.released settled c.hold-released.ensures.told half_is c.faults-now.ensures)))),
+      omega (arith, c.self.invariant.1, less, c.push_reserved-in-Accepted.ensures.len, c.push_reserved-in-Accepted.ensures.capacity),
     )
 
 pub returns-in-Accepted-clause-region : goal.returns-in-Accepted-clause-region

@@ -22,7 +22,7 @@ read_entries : (g : Over) (c : goal.After-push_reserved g) → c.push_reserved.n
 read_entries g c =
     let e = λ (r : List (ℕ × ℕ)) (n : ℕ). entry_of c.args.who (call.Fetch c.args.addr c.args.len) (reply.Bytes r) no_choices no_words n n in
     appended _ _ _ _ _ c.push_reserved.ensures.items c.reserve.ensures.items
-    (c.plain.ensures ∙ (ap (λ (r : List (ℕ × ℕ)). e r c.faults-faults.result) c.in_ok-copy-in-Some.ensures ∙ ap (λ (n : ℕ). e c.in-Some.runs n) c.faults-faults.ensures))
+    (c.plain.ensures ∙ (ap (λ (r : List (ℕ × ℕ)). e r c.faults-faults.result) c.in_ok-copy-in-Some.ensures.value ∙ ap (λ (n : ℕ). e c.in-Some.runs n) c.faults-faults.ensures))
 
 trap_entries : (g : Over) (c : goal.After-push_reserved-in-None g) → c.push_reserved-in-None.new.self.items
     ≡ c.self.inside.entries.items ++ entry_of c.args.who (call.Fetch c.args.addr c.args.len) (reply.Trap c.trap_from-trap.result) no_choices no_words (g.P.Pages.faults c.self.inside.pages) (g.P.Pages.faults c.self.inside.pages) ∷ []

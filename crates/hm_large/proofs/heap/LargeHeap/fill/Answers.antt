@@ -22,14 +22,14 @@ filled_entries : (g : Over) (c : goal.After-push_reserved g) → c.push_reserved
 filled_entries g c =
     let e = λ (r : List (ℕ × ℕ)) (n : ℕ). entry_of c.args.who (call.Fill c.args.addr r) reply.Filled no_choices no_words n n in
     appended _ _ _ _ _ c.push_reserved.ensures.items c.reserve.ensures.items
-    (c.plain.ensures ∙ (ap (λ (r : List (ℕ × ℕ)). e r c.faults-faults.result) c.in_ok-copy.ensures ∙ ap (λ (n : ℕ). e c.args.runs.now n) c.faults-faults.ensures))
+    (c.plain.ensures ∙ (ap (λ (r : List (ℕ × ℕ)). e r c.faults-faults.result) c.in_ok-copy.ensures.value ∙ ap (λ (n : ℕ). e c.args.runs.now n) c.faults-faults.ensures))
 
 trap_entries : (g : Over) (c : goal.After-push_reserved-else-write g) → c.push_reserved-else-write.new.self.items
     ≡ c.self.inside.entries.items ++ entry_of c.args.who (call.Fill c.args.addr c.args.runs.now) (reply.Trap c.trap_from-trap.result) no_choices no_words (g.P.Pages.faults c.self.inside.pages) (g.P.Pages.faults c.self.inside.pages) ∷ []
 trap_entries g c =
     let e = λ (r : List (ℕ × ℕ)) (n : ℕ). entry_of c.args.who (call.Fill c.args.addr r) (reply.Trap c.trap_from-trap.result) no_choices no_words n n in
     appended _ _ _ _ _ c.push_reserved-else-write.ensures.items c.reserve.ensures.items
-    (c.plain-else-write.ensures ∙ (ap (λ (r : List (ℕ × ℕ)). e r c.faults-faults.result) c.in_ok-copy.ensures ∙ ap (λ (n : ℕ). e c.args.runs.now n) c.faults-faults.ensures))
+    (c.plain-else-write.ensures ∙ (ap (λ (r : List (ℕ × ℕ)). e r c.faults-faults.result) c.in_ok-copy.ensures.value ∙ ap (λ (n : ℕ). e c.args.runs.now n) c.faults-faults.ensures))
 
 pub invariant_of-self-then-write : goal.invariant_of-self-then-write
 invariant_of-self-then-write g c =
