@@ -1,9 +1,7 @@
 pub mod Apart
 pub mod Crosses
 pub mod Memory
-pub mod Ordered
+pub mod Overwritten
 pub mod Parts
-pub mod Places
-pub mod RunEdits
 pub mod Sharing
 pub mod Zeros
