@@ -1,5 +1,5 @@
 -- The slabs of a table once a slab went to another list, was opened, or was retired.
-use Rattle.std.proofs.Common.{◌≡◌, ◌≢◌, ⊎_elim, ℕ, ◌+◌, ◌<◌, ◌≤◌, Bool, true, false, cond, ◌||◌, [], ◌∷◌, ◌++◌, length, slice_set, slice_index_or, Option, Some, None, is_some, option_map, sym, ◌∙◌, ap, refl, arith, true≢false}
+use Rattle.std.proofs.Common.{◌≡◌, ◌≢◌, ⊎_elim, ℕ, ◌+◌, ◌<◌, ◌≤◌, Bool, true, false, cond, ◌||◌, [], ◌∷◌, ◌++◌, length, slice_set, slice_index_or, Option, Some, None, is_some, option_map, sym, ◌∙◌, ap, subst, refl, arith, true≢false}
 use Rattle.std.specs.FinMap as finite
 use Rattle.std.proofs.lemmas.Bool.{cases_eq, cases_Bool, cond-true, cond-false}
 use Rattle.std.proofs.lemmas.List.{length-replicate}
@@ -14,10 +14,10 @@ use Rattle.hm_slab_lists.proofs.Members.{among_head, among-without_same}
 use Rattle.hm_slab_lists.proofs.Tables.{Stays, gone_stays, headed_stays, both_stay, placed_stays}
 use Rattle.hm_slab_meta.specs.Uses as meta
 use Rattle.hm_slab_meta.specs.Uses.{Never}
-use Rattle.hm_class.specs.Slabs.{shown, slab_in_table, uses_of, list_of, IsFiled}
-use Rattle.hm_class.specs.Uses.{Uses, SlabUse, kind_at, kind_of, canary_at, changed, fresh_slab, opened_slab, with_slab, with_open}
+use Rattle.hm_class.specs.Slabs.{Slabs, shown, slab_in_table, uses_of, slabs_of, numbers_in, list_of, IsFiled, SameSlots}
+use Rattle.hm_class.specs.Uses.{Uses, SlabUse, open_at, kind_at, kind_of, canary_at, changed, fresh_slab, opened_slab, with_slab, with_open}
 use Rattle.hm_class.proofs.KindsOf.{named_is}
-use Rattle.hm_class.proofs.Tables.{length_uses, slab_by, kind_shown, slots_some, canary_is, written_here, written_beside, uses_same, uses_set, uses_grown}
+use Rattle.hm_class.proofs.Tables.{open_now, length_uses, slab_by, kind_shown, slots_some, canary_is, written_here, written_beside, uses_same, uses_set, uses_grown}
 use Rattle.hm_class.proofs.Used.{changed_is, slab_new}
 
 -- ---- whether a slab is open, once one went to another list
@@ -92,6 +92,30 @@ module _ (t : Table) (n : ℕ) (filed : IsFiled t) (on : is_open n t ≡ true) w
 
     pub filed_placed : IsFiled after_placed
     filed_placed = record { below = filed.below; there = λ m e. filed.there m (sym (open_same m) ∙ e); whole = filed.whole; some = filed.some }
+
+-- what is seen of a table once a slab that is open went to the list of its kind
+module _ (t t' : Table) (n : ℕ) (k : Slabs) (filed : IsFiled t) (view : slabs_of t ≡ k) (opened : open_at k.slabs n ≡ true) (is : t' ≡ settled n t) where
+  on : is_open n t ≡ true
+  on = open_now t n k filed view opened
+
+  placed_is : t' ≡ with_lists (placed (list_of (kind_at (uses_of t) n)) n t.lists) t
+  placed_is = is ∙ settled_is t n filed on
+
+  pub settled_uses : uses_of t' ≡ uses_of t
+  settled_uses = ap uses_of placed_is ∙ uses_placed t n filed on (kind_at (uses_of t) n)
+
+  pub settled_filed : IsFiled t'
+  settled_filed = subst IsFiled (sym placed_is) (filed_placed t n filed on (kind_at (uses_of t) n))
+
+  pub settled_slots : SameSlots k (slabs_of t')
+  settled_slots = record {
+    slabs = settled_uses ∙ ap (λ (k : Slabs). k.slabs) view;
+    parking = ap (λ (t : Table). t.parking) placed_is ∙ ap (λ (k : Slabs). k.parking) view;
+    numbers = ap (λ (t : Table). numbers_in t) placed_is ∙ ap (λ (k : Slabs). k.numbers) view;
+  }
+
+  pub settled_lists : t'.lists ≡ placed (list_of (kind_at k.slabs n)) n k.lists
+  settled_lists = ap (λ (t : Table). t.lists) placed_is ∙ ap (λ (k : Slabs). placed (list_of (kind_at k.slabs n)) n k.lists) view
 
 -- ---- a slab is retired
 abbrev pub shuts : SlabUse → SlabUse
