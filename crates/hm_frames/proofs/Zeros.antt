@@ -7,7 +7,7 @@ use Rattle.std.proofs.Common.{length-append}
 use Rattle.hm_outside.specs.PageRuns.{zeros}
 use Rattle.hm_frames.specs.Part.{with_part}
 use Rattle.hm_frames.specs.Cleared.{IsZeroFrom}
-use Rattle.hm_frames.proofs.Parts.{with_part_length}
+use Rattle.hm_frames.specs.FrameLaws.{with_part_length}
 
 -- what lies past the part that is written over stays
 pub drop-with_part : (xs : List ℕ) (from len d : ℕ) (w : List ℕ) → from + len ≤ length xs → from + len ≤ d → drop d (with_part xs from len w) ≡ drop d xs

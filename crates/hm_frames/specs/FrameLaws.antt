@@ -1,17 +1,18 @@
 -- A write to pages in raw memory changes the bytes that were lent, and nothing else.
-use Rattle.std.specs.Prelude.{◌≡◌, ℕ, ◌+◌, ◌-◌, List, ◌++◌, length, take, drop, true, refl}
-use Rattle.std.proofs.Common.{sym, ap, ◌∙◌}
-use Rattle.std.proofs.lemmas.List.{append_assoc, take_at}
-use Rattle.std.specs.FinMap as map
+use Rattle.std.specs.Prelude.{◌≡◌, ℕ, ◌+◌, ◌≤◌, List, ◌++◌, length, take, drop, true, refl}
+use Rattle.std.proofs.Common.{sym, ap, ◌∙◌, arith}
+use Rattle.std.proofs.lemmas.List.{append_assoc, take_at, length-take, length-drop, length-append}
+use Rattle.std.specs.List.{refill, length_refill}
 use Rattle.hm_outside.specs.PageRuns.{PageRuns, written}
 use Rattle.hm_outside.specs.Lends.{EndsWritten}
-use Rattle.hm_outside.specs.PlainRuns.{CanWrite}
-use Rattle.hm_outside.specs.PlainLaws.{written_run}
+use Rattle.hm_outside.specs.RunLists.{CanWrite, IsPut}
+use Rattle.hm_outside.specs.RunLaws.{written_by}
+use Rattle.hm_frames.specs.Cleared.{PlacedRun}
 use Rattle.hm_frames.specs.Part.{with_part}
-use Rattle.hm_frames.specs.Frames.{with_run_over, with_range}
+use Rattle.hm_frames.specs.Frames.{with_range}
 
 -- w of the right length is written as it is
-pub part_exact : (b : List ℕ) (i : ℕ) (w : List ℕ) → with_part b i (length w) w ≡ written b i w
+part_exact : (b : List ℕ) (i : ℕ) (w : List ℕ) → with_part b i (length w) w ≡ written b i w
 part_exact b i w =
     ap (λ (l : List ℕ). take i b ++ (l ++ drop (i + length w) b))
     (take_at w (drop (length w) (take (length w) (drop i b))) (length w) refl)
@@ -20,17 +21,20 @@ part_exact b i w =
 -- the law of writing, as pages ask it
 pub range_written : (runs : PageRuns) (addr : ℕ) (w : List ℕ) → CanWrite runs addr (length w)
     → EndsWritten {S = PageRuns} (λ p. true) (λ p. p) (λ p. 0) runs addr w (with_range runs addr (length w) w)
-range_written runs addr w can =
-    let run = can.0 in
-    record {
-      same_telling = refl;
-      same_count = refl;
-      over = λ t. record {
-        first = run.0;
-        bytes = run.1;
-        is_run = written_run runs addr (length w) can;
-        lies = can.2;
-        value = ap (with_run_over runs addr (length w) w) can.1
-            ∙ ap (map.insert runs run.0) (part_exact run.1 (addr - run.0) w);
-      };
-    }
+range_written = written_by with_part (λ b i w fits. part_exact b i w)
+
+-- bytes that are written over are as many as before
+pub with_part_length : (xs : List ℕ) (from len : ℕ) (w : List ℕ) → from + len ≤ length xs → length (with_part xs from len w) ≡ length xs
+with_part_length xs from len w within =
+    let old = take len (drop from xs) in let after = drop (from + len) xs in
+    let cut = length-take len (drop from xs) in let cut' = length-drop from xs in
+    let old_len : len ≡ length old = omega arith in
+    let new_len = length_refill len old w old_len in
+    let front = length-take from xs in let back = length-drop (from + len) xs in
+    let whole = length-append (take from xs) (refill len old w ++ after) in let rest = length-append (refill len old w) after in
+    omega arith
+
+-- a frame that was written over
+pub frame_put : (frame : PlacedRun) (from len : ℕ) (w : List ℕ) → from + len ≤ length frame.run
+    → IsPut (frame.first, frame.run) (with_part frame.run from len w) (frame.first, with_part frame.run from len w)
+frame_put frame from len w within = record { first = refl; bytes = refl; long = with_part_length frame.run from len w within }

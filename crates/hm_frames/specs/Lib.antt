@@ -5,5 +5,4 @@ pub mod ContentsLends
 pub mod Run
 pub mod RunLends
 pub mod Frames
-pub mod FrameLends
 pub mod FrameLaws

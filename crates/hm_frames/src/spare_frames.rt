@@ -4,7 +4,7 @@ ghost use Rattle.hm_outside.specs.PageRuns.{zeros};
 ghost use Rattle.hm_frames.specs.declared.spare_frames.TheConstants.{MOST_KEPT, LONGEST_KEPT};
 
 use crate::frame::Frame;
-use hm_outside::NoMemory;
+use hm_outside::{HasRun, NoMemory};
 use std::alloc::Global;
 
 /// No more runs are kept.
@@ -31,7 +31,7 @@ impl SpareFrames {
 
     /// Keeps the run, or drops it: where enough are kept, where it is long, and where there is no memory.
     pub(crate) fn keep(&mut self, frame: Frame) {
-        if self.frames.len() < MOST_KEPT && frame.len() <= LONGEST_KEPT {
+        if self.frames.len() < MOST_KEPT && frame.bytes().len() <= LONGEST_KEPT {
             let _ = self.frames.push(frame);
         }
     }
@@ -41,7 +41,7 @@ impl SpareFrames {
         ensures { IfSome result (λ r. length r.run ≡ len) }
     {
         for i in 0..self.frames.len() {
-            if self.frames[i].len() == len {
+            if self.frames[i].bytes().len() == len {
                 return Some(self.frames.swap_remove(i));
             }
         }

@@ -33,6 +33,14 @@ impl<T: Drop> From<AllocFailed<T>> for PageRefusal {
     }
 }
 
+impl From<crate::NoMemory> for PageRefusal {
+    ghost from_gives = { λ _ e. e ≡ NoMemory };
+
+    fn from(_: crate::NoMemory) -> Self {
+        PageRefusal::NoMemory
+    }
+}
+
 /// The contents of pages could not be dropped.
 #[derive(Clone, Copy, Debug, PartialEq, Eq)]
 pub struct PageFault;

@@ -40,7 +40,8 @@ impl Pages for SilentPages {
     ghost use Rattle.std.specs.Prelude.{◌≡◌, false, refl};
     ghost use Rattle.std.specs.FinMap as map;
     ghost use Rattle.std.proofs.lemmas.Bool.{false≢true};
-    ghost use Rattle.hm_outside.specs.PlainRuns.{CanWrite, with_range};
+    ghost use Rattle.hm_outside.specs.RunLists.{CanWrite};
+    ghost use Rattle.hm_outside.specs.PlainRuns.{with_range};
 
     ghost told = { λ p. false };
 

@@ -1,5 +1,5 @@
 use Rattle.std.proofs.Common.{◌+◌, ◌≤◌, length, sym, subst, ◌∙◌, List, ℕ}
-use Rattle.hm_frames.proofs.Parts.{with_part_length}
+use Rattle.hm_frames.specs.FrameLaws.{with_part_length}
 use Rattle.hm_frames.proofs.page_run.PageRun.part_mut.Goals as goal
 
 pub invariant_of-self-lent : goal.invariant_of-self-lent
