@@ -6,6 +6,7 @@ use Rattle.hm_model.specs.declared.entry.Entry.{Entry}
 use Rattle.hm_sizes.specs.declared.class.ClassId.{ClassId}
 use Rattle.hm_sizes.specs.Classes.{class_count}
 use Rattle.hm_sizes.specs.Configs.{IsValid}
+use Rattle.hm_sizes.specs.Homes.{large_start}
 use Rattle.hm_sizes.specs.Origins.{Origin, large_region_number}
 use Rattle.hm_class_rules.specs.Draws.{drawn_shape}
 use Rattle.hm_class_rules.specs.Drawn as class_draws
@@ -57,7 +58,7 @@ pub record IsLawful (o : Origin) (history : List Entry) : Type 0 where
 -- ---- what is kept after a history
 -- the address at which the first slab or the large space begins
 abbrev pub first_address : Origin → ℕ
-first_address o = if nat_lt o.region large_region_number then (class_terms o).shape.first else 2 ^ 46
+first_address o = if nat_lt o.region large_region_number then (class_terms o).shape.first else large_start
 
 -- how often a page has failed
 abbrev pub fault_count : Origin → List Entry → ℕ

@@ -17,10 +17,8 @@ use hm_class::ClassHeap;
 use hm_large::LargeHeap;
 use hm_model::{Counted, Entry, Reply, Who};
 use hm_outside::{NoMemory, Pages};
+use hm_sizes::LARGE_START;
 use hm_turn::Kept;
-
-/// Where the large space begins.
-const LARGE_START: u64 = 1 << 46;
 
 impl<P: Pages> Kept for Region<P> {
     ghost entries = { λ r. entries_of r };

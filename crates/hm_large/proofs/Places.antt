@@ -6,21 +6,22 @@ use Rattle.hm_space.specs.Ranges.{IsWithin}
 use Rattle.hm_space.specs.Space.{FreeSpace, IsFree, IsFit, IsLowestFit}
 use Rattle.hm_large.specs.Blocks.{spans}
 use Rattle.hm_large.specs.State.{State}
-use Rattle.hm_large.specs.Rules.{in_space, space_start, IsCandidate, IsLeastCandidate}
+use Rattle.hm_sizes.specs.Homes.{large_start}
+use Rattle.hm_large.specs.Rules.{in_space, IsCandidate, IsLeastCandidate}
 use Rattle.hm_large.specs.Kept.{IsOpen}
 
 -- the free addresses are those that are open
 abbrev pub FreeIsOpen : Config → State → FreeSpace → Type 0
 FreeIsOpen c s space = (q : ℕ) → IsFree space q ↔ IsOpen c s q
 
-space_low : (c : Config) (q : ℕ) → in_space c q ≡ true → space_start ≤ q
-space_low c q e = leb-true space_start q (and_parts (nat_le space_start q) (nat_lt q (space_start + c.large_space)) e).0
+space_low : (c : Config) (q : ℕ) → in_space c q ≡ true → large_start ≤ q
+space_low c q e = leb-true large_start q (and_parts (nat_le large_start q) (nat_lt q (large_start + c.large_space)) e).0
 
-space_high : (c : Config) (q : ℕ) → in_space c q ≡ true → q < space_start + c.large_space
-space_high c q e = ltb-true q (space_start + c.large_space) (and_parts (nat_le space_start q) (nat_lt q (space_start + c.large_space)) e).1
+space_high : (c : Config) (q : ℕ) → in_space c q ≡ true → q < large_start + c.large_space
+space_high c q e = ltb-true q (large_start + c.large_space) (and_parts (nat_le large_start q) (nat_lt q (large_start + c.large_space)) e).1
 
-pub in_space_from : (c : Config) (q : ℕ) → space_start ≤ q → q < space_start + c.large_space → in_space c q ≡ true
-in_space_from c q low high = and_from (nat_le space_start q) (nat_lt q (space_start + c.large_space)) (le-leb space_start q low) (lt-ltb q (space_start + c.large_space) high)
+pub in_space_from : (c : Config) (q : ℕ) → large_start ≤ q → q < large_start + c.large_space → in_space c q ≡ true
+in_space_from c q low high = and_from (nat_le large_start q) (nat_lt q (large_start + c.large_space)) (le-leb large_start q low) (lt-ltb q (large_start + c.large_space) high)
 
 spans_low : (a size guard q : ℕ) → spans a size guard q ≡ true → a ≤ q + 4096 * guard
 spans_low a size guard q e = leb-true a (q + 4096 * guard) (and_parts (nat_le a (q + 4096 * guard)) (nat_lt q (a + size + 4096 * guard)) e).0

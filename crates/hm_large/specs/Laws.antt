@@ -4,10 +4,11 @@ use Rattle.hm_model.specs.declared.entry.Entry.{Entry}
 use Rattle.hm_model.specs.declared.entry.Call.TheVariants.{Allot, GiveBack}
 use Rattle.hm_model.specs.declared.entry.Reply.TheVariants.{Given, Freed}
 use Rattle.hm_model.specs.Maps.{at}
+use Rattle.hm_sizes.specs.Homes.{large_start}
 use Rattle.hm_sizes.specs.declared.config.Config.{Config}
 use Rattle.hm_large.specs.Blocks.{Block, Blocks, new_block, is_quarantined, covers}
 use Rattle.hm_large.specs.State.{State}
-use Rattle.hm_large.specs.Rules.{Terms, Allowed, IsLegal, state, taken, space_start}
+use Rattle.hm_large.specs.Rules.{Terms, Allowed, IsLegal, state, taken}
 
 -- ---- prefixes
 abbrev pub Prefixes : Type 0
@@ -22,8 +23,8 @@ OneLess = (t : Terms) (es : List Entry) (e : Entry) → IsLegal t (es ++ e ∷ [
 -- ---- where blocks lie
 -- the block is whole pages, has all its bytes, and lies with its guards in the large space
 pub record IsPlaced (c : Config) (e : ℕ × Block) : Type 0 where
-  pub from : space_start + 4096 * e.1.guard ≤ e.0
-  pub to : e.0 + e.1.size + 4096 * e.1.guard ≤ space_start + c.large_space
+  pub from : large_start + 4096 * e.1.guard ≤ e.0
+  pub to : e.0 + e.1.size + 4096 * e.1.guard ≤ large_start + c.large_space
   pub aligned : e.0 % 4096 ≡ 0
   pub some : 1 ≤ e.1.size
   pub pages : e.1.size % 4096 ≡ 0

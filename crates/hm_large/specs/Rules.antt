@@ -13,6 +13,7 @@ use Rattle.hm_model.specs.Machine.{run, Legal}
 use Rattle.hm_model.specs.Maps.{at, has, among, removed}
 use Rattle.hm_model.specs.Runs.{expand}
 use Rattle.hm_quarantine.specs.Delay.{delay, slots_of}
+use Rattle.hm_sizes.specs.Homes.{large_start}
 use Rattle.hm_sizes.specs.Sizes.{block_size}
 use Rattle.hm_sizes.specs.declared.config.Config.{Config}
 use Rattle.hm_large.specs.Blocks.{Block, size_for, is_quarantined, spans, covered, first_trap, bytes_read}
@@ -40,11 +41,8 @@ chose_guard guard = chose None (Some guard)
 
 -- ---- allotting
 -- the large space
-abbrev pub space_start : ℕ
-space_start = 2 ^ 46
-
 abbrev pub in_space : Config → ℕ → Bool
-in_space c q = nat_le space_start q && nat_lt q (space_start + c.large_space)
+in_space c q = nat_le large_start q && nat_lt q (large_start + c.large_space)
 
 -- how many live blocks and blocks in quarantine, with their guards, have the address q
 abbrev pub taken : State → ℕ → ℕ
@@ -53,8 +51,8 @@ taken s q = covered q s.live + covered q s.held
 -- a block of this size with this guard may stand at a
 pub record IsCandidate (c : Config) (s : State) (align size guard a : ℕ) : Type 0 where
   pub aligned : a % max align 4096 ≡ 0
-  pub from : space_start + 4096 * guard ≤ a
-  pub to : a + size + 4096 * guard ≤ space_start + c.large_space
+  pub from : large_start + 4096 * guard ≤ a
+  pub to : a + size + 4096 * guard ≤ large_start + c.large_space
   pub free : (q : ℕ) → spans a size guard q ≡ true → taken s q ≡ 0
 
 -- a is the lowest candidate

@@ -6,7 +6,7 @@ ghost use Rattle.hm_model.specs.Runs.{expand};
 use crate::LargeHeap;
 use hm_model::{Reply, Runs, Who};
 use hm_outside::{FailingPages, NoMemory, Pages, PlainPages, SilentPages};
-use hm_sizes::Config;
+use hm_sizes::{Config, LARGE_START};
 use std::alloc::Global;
 use std::test::Fail;
 
@@ -17,9 +17,6 @@ const WHO: Who = Who {
     step: 1,
     part: 1,
 };
-
-/// Where the large space begins.
-const SPACE_START: u64 = 1 << 46;
 
 /// The last address that a call may name.
 const LAST: u64 = (1 << 47) - 1;
@@ -86,7 +83,7 @@ fn size_of_a_block(rt: HostRuntime) -> Result<(), Fail> {
     let (addr, usable) = given(allot(&mut region, 200_000)?);
     assert_eq!(rt; usable, 229_376);
     assert_eq!(rt; addr % 4096, 0);
-    assert!(rt; addr > SPACE_START);
+    assert!(rt; addr > LARGE_START);
     assert!(rt; matches!(region.measure(WHO, addr)?, Reply::Usable(229_376)));
     Ok(())
 }

@@ -11,15 +11,12 @@ use crate::block_table::BlockTable;
 use hm_choice::Stream;
 use hm_outside::NoMemory;
 use hm_quarantine::Quarantine;
-use hm_sizes::Config;
+use hm_sizes::{Config, LARGE_START};
 use hm_space::Space;
 use std::alloc::Global;
 
 /// The bytes of a page.
 pub const PAGE: u64 = 4096;
-
-// Where the large space begins.
-const SPACE_START: u64 = 1 << 46;
 
 // The number of the region's stream.
 const STREAM: u64 = 196;
@@ -56,7 +53,7 @@ impl Store {
         ensures { IfOk result (Shows config.now seed start) }
     {
         let blocks = BlockTable::build(alloc)?;
-        let space = Space::build(alloc, SPACE_START, config.large_space)?;
+        let space = Space::build(alloc, LARGE_START, config.large_space)?;
         let quarantine = Quarantine::build(alloc, ARRAY_LENGTH, RING_LENGTH)?;
         Ok(Store {
             blocks,

@@ -17,10 +17,14 @@ pub record IsInRegion (c : Config) (region a : ℕ) : Type 0 where
   pub from_start : reserved_start c region ≤ a
   pub to_end : a < reserved_start c region + 2 * c.class_region
 
+-- where the large space begins
+abbrev pub large_start : ℕ
+large_start = 2 ^ 46
+
 -- the address lies in the large space
 pub record IsInLargeSpace (c : Config) (a : ℕ) : Type 0 where
-  pub from_start : 2 ^ 46 ≤ a
-  pub to_end : a < 2 ^ 46 + c.large_space
+  pub from_start : large_start ≤ a
+  pub to_end : a < large_start + c.large_space
 
 -- the address lies in none of them
 pub record IsOutside (c : Config) (a : ℕ) : Type 0 where
@@ -36,5 +40,5 @@ abbrev pub home_of : Config → ℕ → Home
 home_of c a =
     if nat_le (2 ^ 40) a && nat_lt a (reserved_start c (region_count c))
     then Class (record { 0 = (a - 2 ^ 40) / (2 * c.class_region) })
-    else if nat_le (2 ^ 46) a && nat_lt a (2 ^ 46 + c.large_space) then Large
+    else if nat_le large_start a && nat_lt a (large_start + c.large_space) then Large
     else Outside

@@ -10,7 +10,7 @@ use crate::table::CLASSES;
 use hm_outside::RegionId;
 
 /// Where the large space begins.
-const LARGE_START: u64 = 1 << 46;
+pub const LARGE_START: u64 = 1 << 46;
 
 /// The region to which an address belongs.
 #[derive(Clone, Copy, Debug, PartialEq, Eq, Drop)]

@@ -14,7 +14,7 @@ mod table;
 pub use aligned::class_aligned;
 pub use class::{ClassId, Kind, block_size, class_of, raised};
 pub use config::Config;
-pub use home::{Home, home_of};
+pub use home::{Home, LARGE_START, home_of};
 pub use large::large_size;
 pub use laws::{
     aligned_laws, guard_law, home_laws, large_laws, place_laws, region_laws, size_laws,
