@@ -12,8 +12,8 @@ use Rattle.hm_frames.specs.Part.{with_part}
 use Rattle.hm_frames.specs.Frames.{with_range}
 
 -- w of the right length is written as it is
-part_exact : (b : List ℕ) (i : ℕ) (w : List ℕ) → with_part b i (length w) w ≡ written b i w
-part_exact b i w =
+pub part_exact : (b : List ℕ) (i : ℕ) (w : List ℕ) → i + length w ≤ length b → with_part b i (length w) w ≡ written b i w
+part_exact b i w fits =
     ap (λ (l : List ℕ). take i b ++ (l ++ drop (i + length w) b))
     (take_at w (drop (length w) (take (length w) (drop i b))) (length w) refl)
     ∙ sym (append_assoc (take i b) w (drop (i + length w) b))
@@ -21,7 +21,7 @@ part_exact b i w =
 -- the law of writing, as pages ask it
 pub range_written : (runs : PageRuns) (addr : ℕ) (w : List ℕ) → CanWrite runs addr (length w)
     → EndsWritten {S = PageRuns} (λ p. true) (λ p. p) (λ p. 0) runs addr w (with_range runs addr (length w) w)
-range_written = written_by with_part (λ b i w fits. part_exact b i w)
+range_written = written_by with_part part_exact
 
 -- bytes that are written over are as many as before
 pub with_part_length : (xs : List ℕ) (from len : ℕ) (w : List ℕ) → from + len ≤ length xs → length (with_part xs from len w) ≡ length xs
