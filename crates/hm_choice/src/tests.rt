@@ -1,3 +1,5 @@
+//! Published words of the cipher, those of a seed, what is drawn from published words, and streams that start alike.
+
 use crate::Stream;
 
 // The published vectors of ChaCha with 8 rounds: at a key and a nonce of zeros, at a key whose first bit

@@ -20,8 +20,9 @@ use Rattle.hm_class.specs.Access.{is_accessible, trap_in}
 use Rattle.hm_class.specs.Kept.{Shows}
 use Rattle.hm_class.specs.Region.{HoldsSlabs}
 use Rattle.hm_class.specs.Uses.{Uses, open_at}
+use Rattle.hm_class_rules.proofs.Zeroed.{opens_some, byte_in, bytes_in, slab_is}
 use Rattle.hm_class.proofs.Entered.{has_overlaid}
-use Rattle.hm_class.proofs.Paged.{on_some, all_bytes, held_in, byte_in, bytes_in, slab_is, reads_bytes, holds_write}
+use Rattle.hm_class.proofs.Paged.{all_bytes, held_in, reads_bytes, holds_write}
 use Rattle.hm_class.proofs.Places.{slab_some}
 
 -- ---- the slab of an address
@@ -238,10 +239,7 @@ read_append p s a (suc j) k =
 
 drop_next : (bs : List ℕ) (r : ℕ) (x : ℕ) → slice_get bs r ≡ Some x → drop r bs ≡ x ∷ drop (suc r) bs
 drop_next [] r x e = absurd (none-some x e)
-drop_next (b ∷ bs) zero x e = ap (λ (y : ℕ). y ∷ bs) (same b x e)
-  where
-    same : (b x : ℕ) → Some b ≡ Some x → b ≡ x
-    same b x e = cc
+drop_next (b ∷ bs) zero x e = ap (λ (y : ℕ). y ∷ bs) (same_Some b x e)
 drop_next (b ∷ bs) (suc r) x e = drop_next bs r x e
 
 -- within a slab the bytes read are those that stand there
@@ -262,7 +260,7 @@ read_within p s n r a (suc k) b is fits len on =
 -- one piece more was read
 pub piece_read : (p : Shape) (s : State) (runs : PageRuns) (a q next : ℕ) (old slice : List ℕ) → HoldsSlabs p s.opens runs → a ≤ q → q ≤ next → IsPiece p s q (next - q) → Reads runs q (next - q) slice → old ≡ bytes_read p s a (q - a) → old ++ slice ≡ bytes_read p s a (next - a)
 piece_read p s runs a q next old slice h later le piece reads is =
-    let b = on_some s.opens (slab_of p q) piece.byte.open_slab in
+    let b = opens_some s.opens (slab_of p q) piece.byte.open_slab in
     let len : length b.0.bytes ≡ p.slab = all_bytes p s.opens runs h piece.byte.own (slab_of p q) b.0 b.1 in
     let read : slice ≡ bytes_read p s q (next - q) =
     reads_bytes p s q (next - q) runs slice h reads

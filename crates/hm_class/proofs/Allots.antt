@@ -14,10 +14,10 @@ use Rattle.hm_model.specs.declared.entry.Choices.{Choices}
 use Rattle.hm_model.specs.declared.entry.Draws.{Draws}
 use Rattle.hm_sizes.specs.declared.config.Config.{Config}
 use Rattle.hm_sizes.specs.declared.shape.Shape.{Shape}
-use Rattle.hm_sizes.specs.Shapes.{IsShape, has_bytes, class_size_of}
+use Rattle.hm_sizes.specs.Shapes.{has_bytes, class_size_of}
 use Rattle.hm_sizes.specs.Sizes.{raised}
-use Rattle.hm_class_rules.specs.State.{State, is_open, unopened}
-use Rattle.hm_class_rules.specs.Kinds.{Partial, Empty, Neither, kind}
+use Rattle.hm_class_rules.specs.State.{State, unopened}
+use Rattle.hm_class_rules.specs.Kinds.{Partial, Empty, Neither}
 use Rattle.hm_class_rules.specs.Steps.{step, opened, taken_new}
 use Rattle.hm_class_rules.specs.Drawn.{first_free}
 use Rattle.hm_class_rules.specs.Draws.{Undrawn, event_of, after_words}
@@ -44,6 +44,7 @@ use Rattle.hm_class.proofs.Followed.{shows_count}
 use Rattle.std.proofs.lemmas.Option.{none-some, same_Some}
 use Rattle.hm_class.proofs.Listed.{next_undrawn, stepped_undrawn, same_cells}
 use Rattle.hm_class.proofs.Paged.{holds_made}
+use Rattle.hm_class_rules.proofs.Changes.{opened_live}
 use Rattle.hm_class.proofs.Permitted.{IsServing, allowed_of, open_place}
 use Rattle.hm_class.proofs.Shown.{kind_is, kind_shut}
 use Rattle.hm_class.proofs.Used.{some_slab, live_opened, slab_old, slab_beside}
@@ -68,17 +69,6 @@ new_shut p (m ∷ ms) s e = refl
 
 shut_after : (p : Shape) (s : State) → still_shut s.shut ≡ (taken_new p s.shut s).shut
 shut_after p s = new_shut p s.shut s refl
-
-new_live : (p : Shape) (l : List ℕ) (s : State) → (taken_new p l s).live ≡ s.live
-new_live p [] s = refl
-new_live p (m ∷ ms) s = refl
-
-opened_live : (p : Shape) (o canary : Option ℕ) (s : State) → (opened p o canary s).live ≡ s.live
-opened_live p None canary s = refl
-opened_live p (Some n) canary s = new_live p s.shut s
-
-kind_off : (p : Shape) (s : State) (n : ℕ) → IsShape p → is_open s n ≡ false → kind p s n ≡ Neither
-kind_off p s n shape off = kind_shut p s n shape off
 
 -- the slabs beside the one that was opened
 fresh_is : (limit next n : ℕ) → unopened_below limit [] next ≡ Some n → n ≡ next
@@ -226,7 +216,7 @@ module _ (told : Bool) (runs : PageRuns) (faults : ℕ) (c : Config) (number are
       ∙ opened_then_partial n after k.lists.partial)
       (λ after. ap (λ (l : Lists). listed Empty n Empty after l.empty) q.lists ∙ ap (λ (l : List ℕ). listed Empty n Empty after l) (opened_empty k.lists n loose shut)
       ∙ opened_then_empty n after k.lists.empty loose.empty)
-      (kind_off p first n kept.served.shape fresh.off)
+      (kind_shut p first n kept.served.shape fresh.off)
       (subst (λ (x : Option Canary). AreDraws (start_draws x (next_word stream₁))) (sym q.canary_is) (new_draws_are p stream (next_word stream₁)))
       (subst (λ (x : Words). after_words stream (start_draws canary (next_word x)).used ≡ after_word x) (sym q.stream_is)
       (subst (λ (x : Option Canary). after_words stream (start_draws x (next_word (canary_stream p stream))).used ≡ after_word (canary_stream p stream)) (sym q.canary_is) (after_new p stream)))

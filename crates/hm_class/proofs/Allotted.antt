@@ -1,5 +1,5 @@
 -- An allotment: what is kept follows, whatever it comes to.
-use Rattle.std.proofs.Common.{◌≡◌, ℕ, ◌<◌, ◌≤◌, Bool, true, false, IsTrue, not, ◌&&◌, List, [], ◌∷◌, ◌++◌, length, get_or, slice_get, Option, Some, None, is_some, sym, ◌∙◌, ap, subst, refl, arith}
+use Rattle.std.proofs.Common.{◌≡◌, ℕ, ◌<◌, ◌≤◌, Bool, true, false, IsTrue, ◌&&◌, List, [], ◌∷◌, ◌++◌, length, get_or, slice_get, Option, Some, None, is_some, sym, ◌∙◌, ap, subst, refl, arith}
 use Rattle.std.specs.Option.{option_and_then, option_map_or}
 use Rattle.std.proofs.lemmas.Option.{slice_get-get_or}
 use Rattle.hm_choice.specs.Stream.{Words, next_word, after_word, drawn}
@@ -27,10 +27,9 @@ use Rattle.hm_class_rules.specs.Stepped.{IsSteppedEntry, listed}
 use Rattle.hm_class_rules.proofs.Alike.{drawn_below}
 use Rattle.hm_class_rules.proofs.Streams.{next_below}
 use Rattle.hm_class.specs.declared.outcome.Outcome.{Outcome}
-use Rattle.hm_slab_meta.specs.Uses.{SlotUse}
-use Rattle.hm_slab_meta.specs.Uses.{Never}
+use Rattle.hm_slab_meta.specs.Uses.{SlotUse, Never, first_from}
 use Rattle.hm_class.specs.Slabs.{Slabs}
-use Rattle.hm_class.specs.Uses.{numbers_of, open_at, SlabUse, occupied, is_available, use_at, first_from, kind_at, live_count}
+use Rattle.hm_class.specs.Uses.{numbers_of, open_at, SlabUse, occupied, use_at, kind_at, live_count}
 use Rattle.hm_model.specs.Calls.{entry_of}
 use Rattle.hm_class.specs.Outcomes.{reply_of}
 use Rattle.hm_class.specs.Finds.{Serve}
@@ -40,17 +39,10 @@ use Rattle.hm_slab_lists.specs.Lists.{Lists}
 use Rattle.hm_class.proofs.Filing.{Stands, placed_moved, placed_full}
 use Rattle.hm_class.proofs.Permitted.{IsServing}
 use Rattle.hm_class.proofs.Serving.{given_open, given_beside}
-use Rattle.hm_class.proofs.Picked.{picked, is_first}
+use Rattle.hm_class.proofs.Picked.{picked, is_first, not_occupied}
 use Rattle.hm_class.proofs.Places.{place_test, slab_of_place}
 use Rattle.hm_class.proofs.Shown.{taken_is}
 use Rattle.hm_class.proofs.Taken.{kept_gives}
-
-not_occupied : (u : SlotUse) → is_available u ≡ true → occupied u ≡ false
-not_occupied u e = turned (occupied u) e
-  where
-    turned : (b : Bool) → not b ≡ true → b ≡ false
-    turned true e = sym e
-    turned false e = refl
 
 -- slab n, which serves, was served from
 module _ (told : Bool) (runs : PageRuns) (faults : ℕ) (c : Config) (number arena : ℕ) (p : Shape) (es : List Entry) (k : Slabs) (stream : Words) (quarantine : Kept) (parking : List (Option ℕ))

@@ -6,18 +6,11 @@ use Rattle.hm_model.specs.Overlaid.{overlaid}
 use Rattle.hm_sizes.specs.Shapes.{slab_at}
 use Rattle.hm_class_rules.specs.State.{Slab}
 use Rattle.hm_class_rules.specs.Bytes.{overlaid_slabs}
+use Rattle.hm_class_rules.proofs.Whole.{at_removed}
 use Rattle.hm_model.proofs.Lists.{same_eq, other_eq, eq_same}
 use Rattle.hm_sizes.specs.declared.shape.Shape.{Shape}
 
 module _ {X : Type 0} where
-  pub at_removed : (n k : ℕ) (m : List (ℕ × X)) → n ≢ k → at k (removed n m) ≡ at k m
-  at_removed n k [] ne = refl
-  at_removed n k (e ∷ m) ne =
-      elim (e.0 == n) as (λ t. (e.0 == n) ≡ t → at k (cond (not t) (e ∷ removed n m) (removed n m)) ≡ at k (e ∷ m)) [
-        | true ↦ λ is. at_removed n k m ne ∙ sym (ap (λ (t : Bool). cond t (Some e.1) (at k m)) (other_eq e.0 k (λ s. ne (sym (eq_same e.0 n is) ∙ s))))
-        | false ↦ λ is. ap (λ (o : Option X). cond (e.0 == k) (Some e.1) o) (at_removed n k m ne)
-      ] refl
-
   pub at_put_same : (n k : ℕ) (x : X) (m : List (ℕ × X)) → n ≡ k → at k (put n x m) ≡ Some x
   at_put_same n k x m e = ap (λ (t : Bool). cond t (Some x) (at k (removed n m))) (same_eq n k e)
 
@@ -64,15 +57,6 @@ module _ {X : Type 0} where
         | false ↦ λ there. omega (arith, length_taken k m there)
       ] h
 
-  -- a key that is not there leaves all
-  pub removed_none : (k : ℕ) (m : List (ℕ × X)) → has k m ≡ false → removed k m ≡ m
-  removed_none k [] e = refl
-  removed_none k (e ∷ m) h =
-      elim (e.0 == k) as (λ b. is_some (cond b (Some e.1) (at k m)) ≡ false → cond (not b) (e ∷ removed k m) (removed k m) ≡ e ∷ m) [
-        | true ↦ λ here. absurd (true≢false here)
-        | false ↦ λ there. ap (λ (l : List (ℕ × X)). e ∷ l) (removed_none k m there)
-      ] h
-
 -- what is written over slabs leaves their numbers
 pub has_overlaid : (p : Shape) (a : ℕ) (w : List ℕ) (n : ℕ) (m : List (ℕ × Slab)) → has n (overlaid_slabs p a w m) ≡ has n m
 has_overlaid p a w n [] = refl
@@ -81,10 +65,6 @@ has_overlaid p a w n (e ∷ m) = below _ e.1 (e.0 == n) (at n (overlaid_slabs p 
     below : (x y : Slab) (b : Bool) (o o' : Option Slab) → is_some o ≡ is_some o' → is_some (cond b (Some x) o) ≡ is_some (cond b (Some y) o')
     below x y true o o' s = refl
     below x y false o o' s = s
-
-pub length_overlaid : (p : Shape) (a : ℕ) (w : List ℕ) (m : List (ℕ × Slab)) → length (overlaid_slabs p a w m) ≡ length m
-length_overlaid p a w [] = refl
-length_overlaid p a w (e ∷ m) = omega (arith, length_overlaid p a w m)
 
 -- and their canaries
 pub canary_overlaid : (p : Shape) (a : ℕ) (w : List ℕ) (n : ℕ) (m : List (ℕ × Slab)) → option_map_or (λ (b : Slab). b.canary) (at n (overlaid_slabs p a w m)) 0 ≡ option_map_or (λ (b : Slab). b.canary) (at n m) 0

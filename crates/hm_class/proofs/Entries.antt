@@ -57,7 +57,7 @@ use Rattle.hm_model.proofs.Lists.{among_times, among_none}
 use Rattle.hm_class_rules.proofs.Sound.{has_times}
 use Rattle.hm_class.proofs.Accessed.{trap_whole}
 use Rattle.hm_class.proofs.Filing.{Stands, IsLoose, same_full}
-use Rattle.hm_class.proofs.Shown.{kind_is, kind_shut}
+use Rattle.hm_class.proofs.Shown.{kind_is, kind_shut, by_false}
 use Rattle.hm_class.proofs.Followed.{shows_count, shows_written}
 use Rattle.hm_class.proofs.Listed.{next_undrawn, stepped_undrawn, partial_kind, empty_kind}
 use Rattle.hm_class.proofs.Permitted.{allowed_of, no_slot, unused, double_free, live_block, live_open, canary_found, told_pair}
@@ -207,13 +207,9 @@ module _ (told : Bool) (runs : PageRuns) (faults : ℕ) (c : Config) (number are
       record {
         partial = as_partial n ∙ ap (λ (x : Kind). same_kind x Partial) is;
         empty = as_empty n ∙ ap (λ (x : Kind). same_kind x Empty) is;
-        full = never (among n k.lists.full) (λ e. true≢false (sym (kept.follows.full n e).0 ∙ sym (kept.follows.shows.opens n) ∙ off));
+        full = by_false (among n k.lists.full) (λ e. true≢false (sym (kept.follows.full n e).0 ∙ sym (kept.follows.shows.opens n) ∙ off));
         once = omega (arith, retired_times n, sound_now.slab_once n);
       }
-    where
-      never : (b : Bool) → (b ≡ true → ⊥) → b ≡ false
-      never true h = absurd (h refl)
-      never false h = refl
 
   pub pushed : (runs' : PageRuns) (faults' : ℕ) (k' : Slabs) (stream' : Words) (quarantine' : Kept) (parking' : List (Option ℕ)) (e : Entry) → Allowed (terms_of told c p) before e → IsSteppedEntry (terms_of told c p) held e → faults' ≡ e.faults_after
       → Follows p (step p before e) k' → (IsTrue told → HoldsSlabs p (step p before e).opens runs') → next (terms_of told c p) held e ≡ cells_of (step p before e) k' stream' quarantine' parking'

@@ -14,12 +14,15 @@ use Rattle.hm_model.proofs.Lists.{same_eq, other_eq}
 use Rattle.hm_class_rules.specs.State.{State, Slab, is_open, is_live}
 use Rattle.hm_class_rules.specs.Steps.{new_slab, taken_new, gives, condemns, takes_back, releases, retires, unparks}
 use Rattle.hm_class_rules.specs.Bytes.{kept_canary, write}
+use Rattle.hm_class_rules.proofs.Changes.{among_apart}
+use Rattle.hm_class_rules.proofs.Delay.{among_here}
 use Rattle.hm_class_rules.proofs.Fronts.{among_filter}
+use Rattle.hm_class_rules.proofs.Whole.{at_removed}
 use Rattle.hm_slab_meta.specs.Uses.{SlotUse}
 use Rattle.hm_slab_meta.specs.Uses.{Never, Free, Live, Held, Condemned}
 use Rattle.hm_class.specs.Uses.{numbers_of, Uses, SlabUse, lives, is_condemned, is_held, was_given, occupied, slab_in, use_at, passes_at, changed, with_use, with_open, with_shut, with_slab, with_slot, opened_slab, shut_slab, fresh_slab, taken_uses}
 use Rattle.hm_class.specs.Kept.{Shows}
-use Rattle.hm_class.proofs.Entered.{has_removed_same, has_removed_other, has_put_same, has_put_other, at_put_same, at_put_other, at_removed, has_overlaid, canary_overlaid}
+use Rattle.hm_class.proofs.Entered.{has_removed_same, has_removed_other, has_put_same, has_put_other, at_put_same, at_put_other, has_overlaid, canary_overlaid}
 use Rattle.hm_class.proofs.Places.{place_same}
 use Rattle.hm_class.proofs.Used.{use_here, use_there, use_beside, length_changed, each_slab, slab_new, slab_old, length_with_slab, new_slot, slab_past}
 
@@ -120,12 +123,6 @@ shows_changed p uses s s' n i u b shape is lt h c =
     }
 
 -- ---- the slot of an address
-among_new : (a : ℕ) (xs : List ℕ) → among a (a ∷ xs) ≡ true
-among_new a xs = ap (λ (b : Bool). b || among a xs) (same_eq a a refl)
-
-among_old : (a q : ℕ) (xs : List ℕ) → a ≢ q → among q (a ∷ xs) ≡ among q xs
-among_old a q xs ne = ap (λ (b : Bool). b || among q xs) (other_eq a q ne)
-
 pub available_is : (u : SlotUse) → occupied u ≡ false → (lives u ≡ false) × (is_held u ≡ false) × (is_condemned u ≡ false)
 available_is Never e = (refl, refl, refl)
 available_is Free e = (refl, refl, refl)
@@ -147,8 +144,8 @@ gives_changed p s a asked held condemned = record {
   held_there = λ q ne. refl;
   condemned_here = condemned;
   condemned_there = λ q ne. refl;
-  given_here = among_new a s.given;
-  given_there = λ q ne. among_old a q s.given ne;
+  given_here = among_here a s.given;
+  given_there = λ q ne. among_apart a q s.given ne;
   next = refl;
   parked = refl;
   shut = refl;
@@ -162,8 +159,8 @@ condemns_changed s a given live held was = record {
   live_there = λ q ne. refl;
   held_here = held;
   held_there = λ q ne. refl;
-  condemned_here = among_new a s.condemned;
-  condemned_there = λ q ne. among_old a q s.condemned ne;
+  condemned_here = among_here a s.condemned;
+  condemned_there = λ q ne. among_apart a q s.condemned ne;
   given_here = was;
   given_there = λ q ne. refl;
   next = refl;
@@ -177,8 +174,8 @@ holds_changed p s a condemned given = record {
   canary = λ n. canary_overlaid p a (zeros (usable p)) n s.opens;
   live_here = has_removed_same a s.live;
   live_there = λ q ne. has_removed_other q a s.live ne;
-  held_here = among_new a s.held;
-  held_there = λ q ne. among_old a q s.held ne;
+  held_here = among_here a s.held;
+  held_there = λ q ne. among_apart a q s.held ne;
   condemned_here = condemned;
   condemned_there = λ q ne. refl;
   given_here = given;
@@ -297,18 +294,18 @@ shows_retired p uses s n b is h =
       given = h'.given;
       parked = λ m e. ⊎_elim
           (λ (same : n ≡ m). subst (λ (k : ℕ). is_some (slab_in (with_shut uses n) k) ≡ true) same (some_changed uses n shut_slab b is n ∙ ap (λ (o : Option SlabUse). is_some o) is))
-          (λ (ne : n ≢ m). h'.parked m (sym (among_old n m s.parked ne) ∙ e))
+          (λ (ne : n ≢ m). h'.parked m (sym (among_apart n m s.parked ne) ∙ e))
           (cases_eq n m);
       shut = h'.shut;
       next = h'.next;
     }
 
 or_among : (m u : ℕ) (xs : List ℕ) → among m (xs ++ u ∷ []) ≡ true → (among m xs ≡ true) ⊎ (u ≡ m)
-or_among m u [] e = ⊎_elim (λ (same : u ≡ m). inr same) (λ (ne : u ≢ m). absurd (true≢false (sym e ∙ among_old u m [] ne))) (cases_eq u m)
+or_among m u [] e = ⊎_elim (λ (same : u ≡ m). inr same) (λ (ne : u ≢ m). absurd (true≢false (sym e ∙ among_apart u m [] ne))) (cases_eq u m)
 or_among m u (x ∷ xs) e =
     ⊎_elim
     (λ (same : x ≡ m). inl (ap (λ (b : Bool). b || among m xs) (same_eq x m same)))
-    (λ (ne : x ≢ m). ⊎_elim (λ (there : among m xs ≡ true). inl (among_old x m xs ne ∙ there)) (λ (is : u ≡ m). inr is) (or_among m u xs (sym (among_old x m (xs ++ u ∷ []) ne) ∙ e)))
+    (λ (ne : x ≢ m). ⊎_elim (λ (there : among m xs ≡ true). inl (among_apart x m xs ne ∙ there)) (λ (is : u ≡ m). inr is) (or_among m u xs (sym (among_apart x m (xs ++ u ∷ []) ne) ∙ e)))
     (cases_eq x m)
 
 pub shows_unparked : (p : Shape) (uses : Uses) (s : State) (u : Option ℕ) → ((m : ℕ) → u ≡ Some m → among m s.parked ≡ true) → Shows p uses s → Shows p uses (unparks u s)

@@ -23,8 +23,8 @@ use Rattle.hm_class.specs.Outcomes.{freed_choices, freed_draws}
 -- the words of a retirement: its own is the next after the array's
 abbrev pub IsNextWord : Words → Bool → Emptied → Type 0
 IsNextWord stream none emptied.Kept = Unit {0}
-IsNextWord stream none (emptied.Retired word unparked) = word ≡ next_word (cond none stream (after_word stream))
-IsNextWord stream none emptied.Purged = Unit {0}
+IsNextWord stream none (emptied.Retired slab word unparked) = word ≡ next_word (cond none stream (after_word stream))
+IsNextWord stream none (emptied.Purged d) = Unit {0}
 
 abbrev word_by : Words → Bool → Option ℕ
 word_by stream none = cond none None (Some (next_word stream))
@@ -32,43 +32,43 @@ word_by stream none = cond none None (Some (next_word stream))
 -- the stream after them
 abbrev pub stream_after : Words → Emptied → Words
 stream_after stream emptied.Kept = stream
-stream_after stream (emptied.Retired word unparked) = after_word stream
-stream_after stream emptied.Purged = stream
+stream_after stream (emptied.Retired slab word unparked) = after_word stream
+stream_after stream (emptied.Purged d) = stream
 
 freed_are : (word : Option ℕ) (e : Emptied) → AreDraws (freed_draws word e)
 freed_are None emptied.Kept = record { first = λ lt. refl; second = λ lt. refl; third = λ lt. refl }
-freed_are None (emptied.Retired w u) = record { first = λ lt. absurd (omega (arith, lt)); second = λ lt. refl; third = λ lt. refl }
-freed_are None emptied.Purged = record { first = λ lt. refl; second = λ lt. refl; third = λ lt. refl }
+freed_are None (emptied.Retired d w u) = record { first = λ lt. absurd (omega (arith, lt)); second = λ lt. refl; third = λ lt. refl }
+freed_are None (emptied.Purged d) = record { first = λ lt. refl; second = λ lt. refl; third = λ lt. refl }
 freed_are (Some a) emptied.Kept = record { first = λ lt. absurd (omega (arith, lt)); second = λ lt. refl; third = λ lt. refl }
-freed_are (Some a) (emptied.Retired w u) = record { first = λ lt. absurd (omega (arith, lt)); second = λ lt. absurd (omega (arith, lt)); third = λ lt. refl }
-freed_are (Some a) emptied.Purged = record { first = λ lt. absurd (omega (arith, lt)); second = λ lt. refl; third = λ lt. refl }
+freed_are (Some a) (emptied.Retired d w u) = record { first = λ lt. absurd (omega (arith, lt)); second = λ lt. absurd (omega (arith, lt)); third = λ lt. refl }
+freed_are (Some a) (emptied.Purged d) = record { first = λ lt. absurd (omega (arith, lt)); second = λ lt. refl; third = λ lt. refl }
 
 pub draws_are : (p : Shape) (stream : Words) (e : Emptied) → AreDraws (freed_draws (array_word p (next_word stream)) e)
 draws_are p stream e = freed_are (array_word p (next_word stream)) e
 
-count_by : (stream : Words) (none : Bool) (released : Option ℕ) (n : ℕ) (e : Emptied) → (freed_draws (word_by stream none) e).used ≡ cond none 0 1 + parking_words (freed_choices released n e)
-count_by stream true released n emptied.Kept = refl
-count_by stream true released n (emptied.Retired w u) = refl
-count_by stream true released n emptied.Purged = refl
-count_by stream false released n emptied.Kept = refl
-count_by stream false released n (emptied.Retired w u) = refl
-count_by stream false released n emptied.Purged = refl
+count_by : (stream : Words) (none : Bool) (released : Option ℕ) (e : Emptied) → (freed_draws (word_by stream none) e).used ≡ cond none 0 1 + parking_words (freed_choices released e)
+count_by stream true released emptied.Kept = refl
+count_by stream true released (emptied.Retired d w u) = refl
+count_by stream true released (emptied.Purged d) = refl
+count_by stream false released emptied.Kept = refl
+count_by stream false released (emptied.Retired d w u) = refl
+count_by stream false released (emptied.Purged d) = refl
 
 words_by : (stream : Words) (none : Bool) (e : Emptied) → IsNextWord stream none e → words_of (freed_draws (word_by stream none) e) ≡ words_from stream (freed_draws (word_by stream none) e).used
 words_by stream true emptied.Kept is = refl
-words_by stream true (emptied.Retired w u) is = ap (λ (x : ℕ). x ∷ []) is
-words_by stream true emptied.Purged is = refl
+words_by stream true (emptied.Retired d w u) is = ap (λ (x : ℕ). x ∷ []) is
+words_by stream true (emptied.Purged d) is = refl
 words_by stream false emptied.Kept is = refl
-words_by stream false (emptied.Retired w u) is = ap (λ (x : ℕ). next_word stream ∷ x ∷ []) is
-words_by stream false emptied.Purged is = refl
+words_by stream false (emptied.Retired d w u) is = ap (λ (x : ℕ). next_word stream ∷ x ∷ []) is
+words_by stream false (emptied.Purged d) is = refl
 
 after_by : (stream : Words) (none : Bool) (e : Emptied) → after_words stream (freed_draws (word_by stream none) e).used ≡ stream_after (cond none stream (after_word stream)) e
 after_by stream true emptied.Kept = refl
-after_by stream true (emptied.Retired w u) = refl
-after_by stream true emptied.Purged = refl
+after_by stream true (emptied.Retired d w u) = refl
+after_by stream true (emptied.Purged d) = refl
 after_by stream false emptied.Kept = refl
-after_by stream false (emptied.Retired w u) = refl
-after_by stream false emptied.Purged = refl
+after_by stream false (emptied.Retired d w u) = refl
+after_by stream false (emptied.Purged d) = refl
 
 pub after_freed : (p : Shape) (stream : Words) (e : Emptied) → after_words stream (freed_draws (array_word p (next_word stream)) e).used ≡ stream_after (array_stream p stream) e
 after_freed p stream e = after_by stream (p.array == 0) e
@@ -89,8 +89,8 @@ place_drawn p stream e = of (p.array == 0) refl e
     of : (none : Bool) → (p.array == 0) ≡ none → (e : Emptied) → array_place p (freed_draws (word_by stream none) e) ≡ cond none 0 (drawn p.array (next_word stream))
     of true is e = drawn_none p.array _ (is_zero p.array is)
     of false is emptied.Kept = refl
-    of false is (emptied.Retired w u) = refl
-    of false is emptied.Purged = refl
+    of false is (emptied.Retired d w u) = refl
+    of false is (emptied.Purged d) = refl
 
 pub place_fits : (p : Shape) (stream : Words) → IsArrayPlace p.array (place_of_word p (next_word stream))
 place_fits p stream = of p.array
@@ -103,37 +103,37 @@ place_fits p stream = of p.array
         not_zero n = grind (arith, nat_tests)
 
 -- the parking place of a retired slab
-pub parking_drawn : (t : Terms) (stream : Words) (w : ℕ) (u : Option ℕ) → parking_place t (freed_draws (array_word t.shape (next_word stream)) (emptied.Retired w u)) ≡ drawn t.config.park_length w
-parking_drawn t stream w u = of (t.shape.array == 0)
+pub parking_drawn : (t : Terms) (stream : Words) (d w : ℕ) (u : Option ℕ) → parking_place t (freed_draws (array_word t.shape (next_word stream)) (emptied.Retired d w u)) ≡ drawn t.config.park_length w
+parking_drawn t stream d w u = of (t.shape.array == 0)
   where
-    of : (none : Bool) → drawn t.config.park_length (word_after (cond none 0 1) (freed_draws (word_by stream none) (emptied.Retired w u))) ≡ drawn t.config.park_length w
+    of : (none : Bool) → drawn t.config.park_length (word_after (cond none 0 1) (freed_draws (word_by stream none) (emptied.Retired d w u))) ≡ drawn t.config.park_length w
     of true = refl
     of false = refl
 
 -- what was unparked stood at that place
 abbrev pub IsUnparked : Terms → Cells → Emptied → Type 0
 IsUnparked t c emptied.Kept = Unit {0}
-IsUnparked t c (emptied.Retired word unparked) = unparked ≡ slice_index_or c.parking (drawn t.config.park_length word) None
-IsUnparked t c emptied.Purged = Unit {0}
+IsUnparked t c (emptied.Retired slab word unparked) = unparked ≡ slice_index_or c.parking (drawn t.config.park_length word) None
+IsUnparked t c (emptied.Purged d) = Unit {0}
 
-unparked_is : (t : Terms) (c : Cells) (released : Option ℕ) (n : ℕ) (e : Emptied) → IsUnparked t c e
-    → (freed_choices released n e).unparked ≡ unparked_by (freed_choices released n e).retired (slice_index_or c.parking (parking_place t (freed_draws (array_word t.shape (next_word c.stream)) e)) None)
-unparked_is t c released n emptied.Kept is = refl
-unparked_is t c released n (emptied.Retired w u) is = is ∙ ap (λ (i : ℕ). slice_index_or c.parking i None) (sym (parking_drawn t c.stream w u))
-unparked_is t c released n emptied.Purged is = refl
+unparked_is : (t : Terms) (c : Cells) (released : Option ℕ) (e : Emptied) → IsUnparked t c e
+    → (freed_choices released e).unparked ≡ unparked_by (freed_choices released e).retired (slice_index_or c.parking (parking_place t (freed_draws (array_word t.shape (next_word c.stream)) e)) None)
+unparked_is t c released emptied.Kept is = refl
+unparked_is t c released (emptied.Retired d w u) is = is ∙ ap (λ (i : ℕ). slice_index_or c.parking i None) (sym (parking_drawn t c.stream d w u))
+unparked_is t c released (emptied.Purged d) is = refl
 
-released_is : (released : Option ℕ) (n : ℕ) (e : Emptied) → (freed_choices released n e).released ≡ released
-released_is released n emptied.Kept = refl
-released_is released n (emptied.Retired w u) = refl
-released_is released n emptied.Purged = refl
+pub released_is : (released : Option ℕ) (e : Emptied) → (freed_choices released e).released ≡ released
+released_is released emptied.Kept = refl
+released_is released (emptied.Retired d w u) = refl
+released_is released (emptied.Purged d) = refl
 
-pub stepped_freed : (t : Terms) (c : Cells) (who : Who) (a f f' n : ℕ) (stated released : Option ℕ) (e : Emptied) → IsNextWord c.stream (t.shape.array == 0) e → IsUnparked t c e → released ≡ let_go c.quarantine a (place_of_word t.shape (next_word c.stream))
-    → IsSteppedEntry t c (entry_of who (GiveBack a stated) reply.Freed (freed_choices released n e) (freed_draws (array_word t.shape (next_word c.stream)) e) f f')
-stepped_freed t c who a f f' n stated released e next unparked is = record {
-  count = count_by c.stream (t.shape.array == 0) released n e;
+pub stepped_freed : (t : Terms) (c : Cells) (who : Who) (a f f' : ℕ) (stated released : Option ℕ) (e : Emptied) → IsNextWord c.stream (t.shape.array == 0) e → IsUnparked t c e → released ≡ let_go c.quarantine a (place_of_word t.shape (next_word c.stream))
+    → IsSteppedEntry t c (entry_of who (GiveBack a stated) reply.Freed (freed_choices released e) (freed_draws (array_word t.shape (next_word c.stream)) e) f f')
+stepped_freed t c who a f f' stated released e next unparked is = record {
+  count = count_by c.stream (t.shape.array == 0) released e;
   words = words_by c.stream (t.shape.array == 0) e next;
   choices = record {
-    released = released_is released n e ∙ is ∙ ap (λ (i : ℕ). let_go c.quarantine a i) (sym (place_drawn t.shape c.stream e));
-    unparked = unparked_is t c released n e unparked;
+    released = released_is released e ∙ is ∙ ap (λ (i : ℕ). let_go c.quarantine a i) (sym (place_drawn t.shape c.stream e));
+    unparked = unparked_is t c released e unparked;
   };
 }

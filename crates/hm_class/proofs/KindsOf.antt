@@ -1,6 +1,6 @@
 -- What a slab is, by what is kept of its slots.
-use Rattle.std.proofs.Common.{◌≡◌, ℕ, ◌≤◌, Bool, true, false, cond, not, ◌&&◌, List, length, drop, take, Option, Some, None, option_map, sym, ◌∙◌, ap, refl, true≢false}
-use Rattle.std.specs.List.{list_all, list_any, position}
+use Rattle.std.proofs.Common.{◌≡◌, ◌≤◌, Bool, true, false, cond, not, ◌&&◌, length, Option, Some, None, option_map, sym, ◌∙◌, ap, refl, true≢false}
+use Rattle.std.specs.List.{list_all, list_any}
 use Rattle.std.specs.Option.{option_map_or}
 use Rattle.std.proofs.lemmas.Option.{none-some, same_Some}
 use Rattle.hm_class_rules.specs.Kinds.{Kind, Partial, Empty, Neither, same_kind}
@@ -11,23 +11,10 @@ use Rattle.hm_slab_meta.specs.declared.slab_meta.SlotState.TheVariants as state
 use Rattle.hm_slab_meta.specs.Uses as meta
 use Rattle.hm_slab_meta.specs.Uses.{SlotUse, Never, Free, Live, Held, Condemned, state_of}
 use Rattle.hm_class.specs.Slabs.{shown, list_of}
-use Rattle.hm_class.specs.Uses.{lives, was_given, is_available, has_occupied, has_available, or_else, first_from, kind_of}
+use Rattle.hm_class.specs.Uses.{lives, was_given, has_occupied, has_available, kind_of}
 use Rattle.hm_class.proofs.Shown.{all_available, unused_is}
 
 -- ---- one slot
-available_same : (u : SlotUse) → meta.is_available u ≡ is_available u
-available_same Never = refl
-available_same Free = refl
-available_same Live = refl
-available_same Held = refl
-available_same (Condemned given) = refl
-
-tests_same : meta.is_available ≡ is_available
-tests_same = λ i u. available_same u i
-
-pub first_is : (i : ℕ) (slots : List SlotUse) → meta.first_from i slots ≡ first_from i slots
-first_is i slots = ap (λ (f : SlotUse → Bool). or_else i (position f (drop i slots)) (position f (take i slots))) tests_same
-
 abbrev pub is_live_state : SlotState → Bool
 is_live_state state.Never = false
 is_live_state state.Free = false
@@ -75,7 +62,7 @@ named_by false false e = absurd (true≢false e)
 
 module _ (slab : meta.SlabUse) (some : 1 ≤ length slab.slots) where
   all_free : list_all meta.is_available slab.slots ≡ not (has_occupied slab.slots)
-  all_free = ap (λ (f : SlotUse → Bool). list_all f slab.slots) tests_same ∙ all_available slab.slots
+  all_free = all_available slab.slots
 
   pub empty_kind_is : list_all meta.is_available slab.slots ≡ same_kind (kind_of (shown true slab)) Empty
   empty_kind_is = all_free ∙ unused_is slab.slots some ∙ sym (empty_by (has_occupied slab.slots) (has_available slab.slots))
@@ -83,5 +70,4 @@ module _ (slab : meta.SlabUse) (some : 1 ≤ length slab.slots) where
   pub named_is : list_named slab ≡ list_of (kind_of (shown true slab))
   named_is =
       ap (λ (b : Bool). cond b name.Empty (cond (list_any meta.is_available slab.slots) name.Partial name.Full)) all_free
-      ∙ ap (λ (f : SlotUse → Bool). cond (not (has_occupied slab.slots)) name.Empty (cond (list_any f slab.slots) name.Partial name.Full)) tests_same
       ∙ named_by (has_occupied slab.slots) (has_available slab.slots) (unused_is slab.slots some)

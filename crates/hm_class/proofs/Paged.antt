@@ -1,30 +1,30 @@
 -- The runs of the pages are the open slabs, and stay so where slabs are opened and bytes are written.
-use Rattle.std.proofs.Common.{◌≡◌, ◌≢◌, inl, inr, ⊎_elim, ℕ, zero, suc, subst, ◌+◌, ◌-◌, ◌*◌, ◌/◌, ◌%◌, ◌<◌, ◌≤◌, ◌==◌, Bool, true, false, cond, nat_lt, List, [], ◌∷◌, length, take, drop, ◌++◌, Option, Some, None, is_some, slice_get, sym, ◌∙◌, ap, refl, arith, true≢false}
+use Rattle.std.proofs.Common.{◌≡◌, ◌≢◌, inl, inr, ⊎_elim, ℕ, zero, suc, subst, ◌+◌, ◌-◌, ◌<◌, ◌≤◌, Bool, true, false, cond, List, [], ◌∷◌, length, take, drop, ◌++◌, Option, Some, None, is_some, sym, ◌∙◌, ap, refl, arith, true≢false, append-nil}
 use Rattle.std.specs.FinMap as map
 use Rattle.std.specs.FinMap.{FinMap, get-insert, get-remove, get-empty}
-use Rattle.std.specs.Option.{option_and_then, option_map_or}
 use Rattle.std.specs.Ordering.{nat_cmp, eq_by_cmp}
 use Rattle.std.proofs.lemmas.Cmp.{nat_cmp_total}
 use Rattle.std.proofs.lemmas.Bool.{cases_eq, cases_lt}
 use Rattle.std.proofs.lemmas.Bool.Decides.{nat_tests}
 use Rattle.std.proofs.lemmas.List.{length-replicate}
-use Rattle.std.proofs.lemmas.Nat.{div-mul-add, mod-mul-add}
 use Rattle.std.proofs.lemmas.Option.{none-some, same_Some}
 use Rattle.hm_outside.specs.PageRuns.{PageRuns, MeetsNone, IsRun, IsHeld, Reads, Writes, written, zeros}
 use Rattle.hm_sizes.specs.declared.shape.Shape.{Shape}
-use Rattle.hm_sizes.specs.Shapes.{IsShape, slab_at, slab_of, has_bytes}
+use Rattle.hm_sizes.specs.Shapes.{IsShape, slab_at, has_bytes}
 use Rattle.hm_model.specs.Maps.{at, has, put, removed}
 use Rattle.hm_model.specs.Overlaid.{overlaid}
-use Rattle.hm_model.proofs.Lists.{eq_same}
 use Rattle.hm_model.proofs.Overlaid.{overlaid_apart, overlaid_written, length_overlaid}
 use Rattle.hm_class_rules.specs.State.{State, Slab, start, is_open}
-use Rattle.hm_class_rules.specs.Bytes.{overlaid_slabs, byte_at, bytes_from}
+use Rattle.hm_class_rules.specs.Bytes.{overlaid_slabs, bytes_from}
 use Rattle.hm_class_rules.specs.Laws.{AllWhole, bytes_of_slab}
 use Rattle.hm_class_rules.specs.Steps.{new_slab}
+use Rattle.hm_class_rules.proofs.Legal.{slab_row}
+use Rattle.hm_class_rules.proofs.Whole.{over, at_over, over_at, at_removed}
+use Rattle.hm_class_rules.proofs.Zeroed.{opens_some, bytes_in}
 use Rattle.hm_class.specs.Region.{HoldsSlabs}
-use Rattle.hm_class.proofs.Entered.{at_put_same, at_put_other, at_removed, has_removed_same}
+use Rattle.hm_class.proofs.Entered.{at_put_same, at_put_other, has_removed_same}
 use Rattle.hm_class.specs.Finds.{made_runs}
-use Rattle.hm_class.proofs.Places.{slab_row, slab_apart, slab_some}
+use Rattle.hm_class.proofs.Places.{slab_apart, slab_some}
 
 -- ---- finite maps
 module _ {X : Type 0} (m : FinMap nat_cmp X) (k : ℕ) (v : X) (q : ℕ) where
@@ -41,9 +41,6 @@ module _ {X : Type 0} (m : FinMap nat_cmp X) (k : ℕ) (v : X) (q : ℕ) where
       apart q k ne = grind (arith, nat_tests)
 
 -- ---- open slabs
-pub on_some : (m : List (ℕ × Slab)) (n : ℕ) → has n m ≡ true → (b : Slab) × (at n m ≡ Some b)
-on_some m n e = elim (at n m) as (λ o. is_some o ≡ true → (b : Slab) × (o ≡ Some b)) [ None ↦ λ h. absurd (true≢false (sym h)) | Some b ↦ λ h. (b, refl) ] e
-
 -- a slab that is not open is none of the open ones
 not_on : (m : List (ℕ × Slab)) (n k : ℕ) (b : Slab) → has n m ≡ false → at k m ≡ Some b → n ≢ k
 not_on m n k b off is e = true≢false (sym (ap (λ (o : Option Slab). is_some o) (ap (λ (x : ℕ). at x m) e ∙ is)) ∙ off)
@@ -116,25 +113,6 @@ holds_opened p opens n k runs shape own h =
     }
 
 -- ---- bytes are written
-abbrev pub over : Shape → ℕ → List ℕ → ℕ → Slab → Slab
-over p a w n b = record { bytes = overlaid a w (slab_at p n) b.bytes; canary = b.canary }
-
-pub at_over : (p : Shape) (a : ℕ) (w : List ℕ) (n : ℕ) (m : List (ℕ × Slab)) (b : Slab) → at n m ≡ Some b → at n (overlaid_slabs p a w m) ≡ Some (over p a w n b)
-at_over p a w n [] b is = absurd (none-some b is)
-at_over p a w n (e ∷ m) b is =
-    elim (e.0 == n) as (λ t. (e.0 == n) ≡ t → cond t (Some e.1) (at n m) ≡ Some b → cond t (Some (over p a w e.0 e.1)) (at n (overlaid_slabs p a w m)) ≡ Some (over p a w n b)) [
-      | true ↦ λ key h. ap (λ (k : ℕ). Some (over p a w k e.1)) (eq_same e.0 n key) ∙ ap (λ (x : Slab). Some (over p a w n x)) (same_Some e.1 b h)
-      | false ↦ λ key h. at_over p a w n m b h
-    ] refl is
-
-pub over_at : (p : Shape) (a : ℕ) (w : List ℕ) (n : ℕ) (m : List (ℕ × Slab)) (x : Slab) → at n (overlaid_slabs p a w m) ≡ Some x → (b : Slab) × (at n m ≡ Some b)
-over_at p a w n [] x is = absurd (none-some x is)
-over_at p a w n (e ∷ m) x is =
-    elim (e.0 == n) as (λ t. cond t (Some (over p a w e.0 e.1)) (at n (overlaid_slabs p a w m)) ≡ Some x → (b : Slab) × (cond t (Some e.1) (at n m) ≡ Some b)) [
-      | true ↦ λ h. (e.1, refl)
-      | false ↦ λ h. over_at p a w n m x h
-    ] is
-
 pub holds_write : (p : Shape) (opens : List (ℕ × Slab)) (a len : ℕ) (w : List ℕ) (runs after : PageRuns) → IsShape p → length w ≡ len → HoldsSlabs p opens runs → Writes runs a len w after → HoldsSlabs p (overlaid_slabs p a w opens) after
 holds_write p opens a len w runs after shape long h wrote =
     let some : 1 ≤ p.slab = omega (arith, slab_some p shape) in
@@ -184,33 +162,10 @@ holds_write p opens a len w runs after shape long h wrote =
     }
 
 -- ---- bytes are read
-pub slab_is : (p : Shape) (n r a : ℕ) → a ≡ slab_at p n + r → r < p.slab → slab_of p a ≡ n
-slab_is p n r a is lt =
-    let off : a - p.first ≡ n * p.slab + r = omega arith in
-    ap (λ (x : ℕ). x / p.slab) off ∙ div-mul-add n p.slab r lt
-
--- the byte of an address within a slab
-pub byte_in : (p : Shape) (s : State) (n r a : ℕ) (b : Slab) → a ≡ slab_at p n + r → r < p.slab → at n s.opens ≡ Some b → byte_at p s a ≡ slice_get b.bytes r
-byte_in p s n r a b is lt on =
-    let off : a - p.first ≡ n * p.slab + r = omega arith in
-    ap (λ (t : Bool). cond t None (option_and_then (λ (b : Slab). slice_get b.bytes ((a - p.first) % p.slab)) (at (slab_of p a) s.opens))) (above a p.first (omega arith))
-    ∙ ap (λ (m : ℕ). option_and_then (λ (b : Slab). slice_get b.bytes ((a - p.first) % p.slab)) (at m s.opens)) (slab_is p n r a is lt)
-    ∙ ap (λ (o : Option Slab). option_and_then (λ (b : Slab). slice_get b.bytes ((a - p.first) % p.slab)) o) on
-    ∙ ap (λ (x : ℕ). slice_get b.bytes x) (ap (λ (x : ℕ). x % p.slab) off ∙ mod-mul-add n p.slab r lt)
-  where
-    above : (a f : ℕ) → f ≤ a → nat_lt a f ≡ false
-    above a f le = grind (arith, nat_tests)
-
-pub bytes_in : (p : Shape) (s : State) (n r a len : ℕ) (b : Slab) → a ≡ slab_at p n + r → r < p.slab → at n s.opens ≡ Some b → bytes_from p s a len ≡ take len (drop r b.bytes)
-bytes_in p s n r a len b is lt on =
-    ap (λ (m : ℕ). take len (drop (a - slab_at p m) (option_map_or (λ (b : Slab). b.bytes) (at m s.opens) []))) (slab_is p n r a is lt)
-    ∙ ap (λ (o : Option Slab). take len (drop (a - slab_at p n) (option_map_or (λ (b : Slab). b.bytes) o []))) on
-    ∙ ap (λ (x : ℕ). take len (drop x b.bytes)) (omega arith)
-
 -- a range within an open slab can be read and written
 pub held_in : (p : Shape) (s : State) (n r a len : ℕ) (runs : PageRuns) → has_bytes p ≡ true → is_open s n ≡ true → a ≡ slab_at p n + r → r + len ≤ p.slab → 0 < len → HoldsSlabs p s.opens runs → IsHeld runs a len
 held_in p s n r a len runs own on is fits some h =
-    let b = on_some s.opens n on in
+    let b = opens_some s.opens n on in
     let l : length b.0.bytes ≡ p.slab = all_bytes p s.opens runs h own n b.0 b.1 in
     (slab_at p n, b.0.bytes, h.each own n b.0 b.1, record { some = some; from = omega arith; to = omega arith })
 
@@ -266,7 +221,7 @@ module _ {X : Type 0} (m : FinMap nat_cmp X) (k q : ℕ) where
 
 -- the bytes of an open slab are a run
 pub slab_run : (p : Shape) (opens : List (ℕ × Slab)) (n : ℕ) (runs : PageRuns) → has_bytes p ≡ true → has n opens ≡ true → HoldsSlabs p opens runs → IsRun runs (slab_at p n) p.slab
-slab_run p opens n runs own on h = let b = on_some opens n on in (b.0.bytes, h.each own n b.0 b.1, all_bytes p opens runs h own n b.0 b.1)
+slab_run p opens n runs own on h = let b = opens_some opens n on in (b.0.bytes, h.each own n b.0 b.1, all_bytes p opens runs h own n b.0 b.1)
 
 still : (n m : ℕ) (b : Slab) (opens : List (ℕ × Slab)) → at m (removed n opens) ≡ Some b → n ≢ m
 still n m b opens is e = true≢false (sym (ap (λ (o : Option Slab). is_some o) (ap (λ (x : ℕ). at x (removed n opens)) e ∙ is)) ∙ has_removed_same n opens)
@@ -310,18 +265,14 @@ drop_whole (suc n) [] le = refl
 drop_whole zero (x ∷ b) le = absurd (omega arith)
 drop_whole (suc n) (x ∷ b) le = drop_whole n b (omega arith)
 
-append_nil : (b : List ℕ) → b ++ [] ≡ b
-append_nil [] = refl
-append_nil (x ∷ b) = ap (λ (l : List ℕ). x ∷ l) (append_nil b)
-
 -- bytes that are all written over
 all_over : (b w : List ℕ) (i : ℕ) → i ≡ 0 → length b ≡ length w → w ≡ written b i w
-all_over b w i e same = sym (ap (λ (j : ℕ). written b j w) e ∙ ap (λ (l : List ℕ). w ++ l) (drop_whole (0 + length w) b (omega arith)) ∙ append_nil w)
+all_over b w i e same = sym (ap (λ (j : ℕ). written b j w) e ∙ ap (λ (l : List ℕ). w ++ l) (drop_whole (0 + length w) b (omega arith)) ∙ append-nil w)
 
 pub holds_purged : (p : Shape) (opens : List (ℕ × Slab)) (n : ℕ) (runs : PageRuns) → IsShape p → has_bytes p ≡ true → has n opens ≡ true → HoldsSlabs p opens runs
     → HoldsSlabs p (overlaid_slabs p (slab_at p n) (zeros p.slab) opens) (map.insert runs (slab_at p n) (zeros p.slab))
 holds_purged p opens n runs shape own on h =
-    let b = on_some opens n on in
+    let b = opens_some opens n on in
     let z : length (zeros p.slab) ≡ p.slab = length-replicate {A = ℕ} p.slab 0 in
     let len : length b.0.bytes ≡ p.slab = all_bytes p opens runs h own n b.0 b.1 in
     let some : 1 ≤ p.slab = omega (arith, slab_some p shape) in

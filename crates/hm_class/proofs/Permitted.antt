@@ -14,7 +14,7 @@ use Rattle.hm_model.specs.declared.entry.Reply.{Reply}
 use Rattle.hm_model.specs.declared.entry.Choices.{Choices}
 use Rattle.hm_model.specs.declared.entry.Draws.{Draws}
 use Rattle.hm_model.specs.Entries.{AreDraws}
-use Rattle.hm_model.proofs.Lists.{times_among, same_eq}
+use Rattle.hm_model.proofs.Lists.{times_among}
 use Rattle.hm_sizes.proofs.PlaceTest.{place_is}
 use Rattle.hm_sizes.specs.declared.shape.Shape.{Shape}
 use Rattle.hm_sizes.specs.Shapes.{IsShape, IsPlaceOf, IsGuard, place, slab_of, slot_of, has_bytes, usable}
@@ -23,6 +23,7 @@ use Rattle.hm_class_rules.specs.Kinds.{Kind, Partial, Empty, Neither, same_kind}
 use Rattle.hm_class_rules.specs.Bytes.{first_nonzero, usable_bytes, kept_canary, found_canary}
 use Rattle.hm_class_rules.specs.Rules.{Terms, Allows, Allowed, Asks, Source, IsLiveBlock, IsNoSlot, IsUnused, IsDoubleFree, wrong_canary}
 use Rattle.hm_class_rules.specs.Laws.{IsSound, uses}
+use Rattle.hm_class_rules.proofs.Delay.{among_here}
 use Rattle.hm_class_rules.proofs.Sound.{has_times}
 use Rattle.hm_class_rules.proofs.Changes.{kind_partial, kind_empty}
 use Rattle.hm_slab_meta.specs.Uses.{SlotUse}
@@ -38,7 +39,7 @@ use Rattle.hm_class.specs.Region.{HoldsSlabs}
 use Rattle.hm_class.proofs.Paged.{held_in, reads_bytes}
 use Rattle.hm_class.proofs.Places.{slab_of_place, place_test, place_within, place_same, usable_within}
 use Rattle.hm_class.proofs.Used.{found, slab_new}
-use Rattle.hm_class.proofs.Shown.{kind_is, by_false}
+use Rattle.hm_class.proofs.Shown.{kind_is, by_false, available_test}
 
 -- an entry is allowed where its call asks and is answered as the rules say
 pub allowed_of : (t : Terms) (s : State) (who : Who) (call : Call) (answer : Reply) (choices : Choices) (draws : Draws) (before now : ℕ) → AreDraws draws → Asks t.shape call → before ≡ s.faults → before ≤ now → Allows t s before now choices call answer
@@ -131,9 +132,6 @@ fresh_next next limit n e = of (nat_lt next limit) refl e
 closed : (s : State) (n : ℕ) → (is_open s n ≡ true → ⊥) → is_open s n ≡ false
 closed s n no_open = by_false (is_open s n) no_open
 
-among_first : (m : ℕ) (ms : List ℕ) → among m (m ∷ ms) ≡ true
-among_first m ms = ap (λ (b : Bool). b || among m ms) (same_eq m m refl)
-
 pub new_slab_is : (p : Shape) (all : Uses) (s : State) (n : ℕ) → IsSound p s → Shows p all s → unopened p s.shut s.next ≡ Some n → IsNew p all s n
 new_slab_is p all s n sound h e = of s.shut refl e
   where
@@ -148,7 +146,7 @@ new_slab_is p all s n sound h e = of s.shut refl e
         }
     of (m ∷ ms) is e =
         let same : m ≡ n = same_Some m n e in
-        let at_n : among n s.shut ≡ true = ap (λ (l : List ℕ). among n l) is ∙ ap (λ (k : ℕ). among n (k ∷ ms)) same ∙ among_first n ms in
+        let at_n : among n s.shut ≡ true = ap (λ (l : List ℕ). among n l) is ∙ ap (λ (k : ℕ). among n (k ∷ ms)) same ∙ among_here n ms in
         record {
           off = closed s n (λ on. absurd (omega (arith, sound.slab_once n, has_times n s.opens on, times_among n s.shut at_n)));
           below = sound.below_limit n (omega (arith, times_among n s.shut at_n));
@@ -159,7 +157,7 @@ new_slab_is p all s n sound h e = of s.shut refl e
 -- where its first slot is not occupied a slab has an available one
 pub has_one : (slots : List SlotUse) → 1 ≤ length slots → option_map_or occupied (slice_get slots 0) false ≡ false → has_available slots ≡ true
 has_one [] some e = absurd (omega arith)
-has_one (u ∷ us) some e = ap (λ (b : Bool). not b || has_available us) e
+has_one (u ∷ us) some e = ap (λ (b : Bool). b || has_available us) (sym (available_test u) ∙ ap (λ (b : Bool). not b) e)
 
 -- ---- the bytes of a slot
 -- a slot with bytes lies in its slab, its usable bytes and then its canary

@@ -13,13 +13,12 @@ use Rattle.hm_class_rules.specs.State.{State, is_free}
 use Rattle.hm_class_rules.specs.Drawn.{first_free}
 use Rattle.hm_class_rules.specs.DrawnLaws.{ComesBefore}
 use Rattle.hm_class_rules.proofs.FirstFree.{finds_first}
-use Rattle.hm_slab_meta.specs.Uses.{SlotUse}
-use Rattle.hm_slab_meta.specs.Uses.{Never}
-use Rattle.hm_class.specs.Uses.{Uses, SlabUse, occupied, is_available, has_available, or_else, first_from, first_at, slab_in}
+use Rattle.hm_slab_meta.specs.Uses.{SlotUse, Never, is_available, or_else, first_from}
+use Rattle.hm_class.specs.Uses.{Uses, SlabUse, occupied, has_available, first_at, slab_in}
 use Rattle.hm_class.specs.Kept.{Shows}
 use Rattle.hm_class.specs.Finds.{HasFirst}
 use Rattle.hm_class.proofs.Found.{position_none}
-use Rattle.hm_class.proofs.Shown.{free_is, by_false}
+use Rattle.hm_class.proofs.Shown.{free_is, by_false, available_test}
 
 -- slot j is available, and no slot that comes before it from slot i on
 pub record IsFirst (slots : List SlotUse) (i j : ℕ) : Type 0 where
@@ -85,8 +84,8 @@ some_first slots i le has = of (position is_available (drop i slots)) (position 
         ∙ none_passes (drop i slots) (r.0 - i) none (omega (arith, length-drop i slots, ge, r.2))))
         (cases_lt r.0 i))
 
-not_occupied : (u : SlotUse) → is_available u ≡ true → occupied u ≡ false
-not_occupied u e = turned (occupied u) e
+pub not_occupied : (u : SlotUse) → is_available u ≡ true → occupied u ≡ false
+not_occupied u e = turned (occupied u) (available_test u ∙ e)
   where
     turned : (b : Bool) → not b ≡ true → b ≡ false
     turned true e = sym e

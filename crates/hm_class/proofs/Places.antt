@@ -1,16 +1,11 @@
 -- The arithmetic of places.
 use Rattle.std.proofs.Common.{◌≡◌, ⊎_elim, ℕ, ◌+◌, ◌-◌, ◌*◌, ◌/◌, ◌%◌, ◌<◌, ◌≤◌, Bool, true, cond, sym, ◌∙◌, ap, arith}
-use Rattle.std.proofs.lemmas.Nat.{rows, div-mul-add, mod-mul-add, div-add-mod'}
+use Rattle.std.proofs.lemmas.Nat.{div-mul-add, mod-mul-add, div-add-mod'}
 use Rattle.std.proofs.lemmas.Bool.{cases_lt}
-use Rattle.hm_sizes.proofs.PlaceTest.{place_tested, shape_places}
+use Rattle.hm_sizes.proofs.PlaceTest.{place_tested, shape_places, slot_row}
 use Rattle.hm_sizes.specs.declared.shape.Shape.{Shape}
+use Rattle.hm_class_rules.proofs.Legal.{slab_row}
 use Rattle.hm_sizes.specs.Shapes.{IsShape, IsPlaceOf, IsPlace, place, slab_of, slot_of, has_bytes, usable}
-
-slot_row : (slot i n : ℕ) → i < n → i * slot + slot ≤ n * slot
-slot_row slot i n lt = grind (arith, rows)
-
-pub slab_row : (first slab m n : ℕ) → m < n → (first + m * slab) + slab ≤ first + n * slab
-slab_row first slab m n lt = grind (arith, rows)
 
 pub slab_some : (p : Shape) → IsShape p → 16 ≤ p.slab
 slab_some p shape = omega (arith, slot_row p.slot 0 p.slots shape.slots_some, shape.slot_least, shape.slots_fit)

@@ -21,10 +21,9 @@ use Rattle.hm_class_rules.specs.Laws.{IsSound, bytes_of_slab}
 use Rattle.hm_class_rules.specs.Rules.{Releases, state}
 use Rattle.hm_class_rules.proofs.Sound.{sound_takes_back}
 use Rattle.hm_class_rules.proofs.Whole.{whole_write}
-use Rattle.hm_slab_meta.specs.Uses.{SlotUse}
-use Rattle.hm_slab_meta.specs.Uses.{Never, Free, Live, Held, Condemned}
+use Rattle.hm_slab_meta.specs.Uses.{SlotUse, Never, Free, Live, Held, Condemned, is_available}
 use Rattle.hm_class.specs.Slabs.{Slabs}
-use Rattle.hm_class.specs.Uses.{Uses, SlabUse, lives, occupied, is_available, has_occupied, has_available, is_held, kind_of, kind_at, use_at, passes_at, with_slot, with_use}
+use Rattle.hm_class.specs.Uses.{Uses, SlabUse, lives, occupied, has_occupied, has_available, is_held, kind_of, kind_at, use_at, passes_at, with_slot, with_use}
 use Rattle.hm_class.specs.Frees.{place_of_word, Clears, CanRelease}
 use Rattle.hm_class.specs.Region.{HoldsSlabs}
 use Rattle.hm_class.specs.Kept.{Shows, IsKept, terms_of}
@@ -33,7 +32,7 @@ use Rattle.hm_class.proofs.Freed.{place_fits}
 use Rattle.hm_class.proofs.Paged.{holds_write, holds_without, slab_run}
 use Rattle.hm_class.proofs.Permitted.{usable_held, live_open}
 use Rattle.hm_class.proofs.Places.{slab_of_place, slot_of_place}
-use Rattle.hm_class.proofs.Shown.{kind_is}
+use Rattle.hm_class.proofs.Shown.{kind_is, available_test}
 use Rattle.hm_class.proofs.Used.{found, each_slab}
 use Rattle.hm_class.proofs.Entries.{sound_now, allows_now}
 
@@ -50,7 +49,7 @@ kind_parts opened some none = cond (not opened) Neither (cond (some && none) Par
 kind_set : (b : SlabUse) (i : ℕ) (u v : SlotUse) → slice_get b.slots i ≡ Some v → occupied u ≡ occupied v → kind_of (with_slot i u b) ≡ kind_of b
 kind_set b i u v is same =
     let o : has_occupied (slice_set b.slots i u) ≡ has_occupied b.slots = any_set occupied b.slots i u v is same in
-    let a : has_available (slice_set b.slots i u) ≡ has_available b.slots = any_set is_available b.slots i u v is (ap (λ (x : Bool). not x) same) in
+    let a : has_available (slice_set b.slots i u) ≡ has_available b.slots = any_set is_available b.slots i u v is (sym (available_test u) ∙ ap (λ (x : Bool). not x) same ∙ available_test v) in
     ap (λ (x : Bool). kind_parts b.opened x (has_available (slice_set b.slots i u))) o ∙ ap (λ (x : Bool). kind_parts b.opened (has_occupied b.slots) x) a
 
 pub kind_held : (all : Uses) (n i : ℕ) (u v : SlotUse) → use_at all n i ≡ Some v → occupied u ≡ occupied v → (m : ℕ) → kind_at (with_use all n i u) m ≡ kind_at all m
@@ -161,7 +160,3 @@ module _ (told : Bool) (runs : PageRuns) (faults : ℕ) (c : Config) (number are
   pub release_ready : (o : Option ℕ) → o ≡ let_go quarantine a (place_of_word p (next_word stream)) → meaning.told half ≡ told → IfSome o (λ b. CanRelease meaning p k₁ half b)
   release_ready None e told_half = tt
   release_ready (Some b) e told_half = can_release b told_half (at_released (let_go quarantine a (place_of_word p (next_word stream))) b release_now (sym e))
-
-  pub released_from : (o : Option ℕ) → o ≡ let_go quarantine a (place_of_word p (next_word stream)) → IfSome o (λ b. p.first ≤ b)
-  released_from None e = tt
-  released_from (Some b) e = (is_released b (at_released (let_go quarantine a (place_of_word p (next_word stream))) b release_now (sym e))).from

@@ -39,12 +39,12 @@ use Rattle.hm_class.proofs.Filing.{Stands, Moved, placed_moved, placed_full, ret
 use Rattle.hm_model.specs.Calls.{entry_of}
 use Rattle.hm_class.specs.Outcomes.{freed_choices, freed_draws}
 use Rattle.hm_class.specs.Frees as frees
-use Rattle.hm_class.specs.Frees.{array_word, place_of_word, array_stream, Clears, CanRelease, Settles, KeepsPlaces, is_surplus, freed_uses, with_unparked, released_slab}
+use Rattle.hm_class.specs.Frees.{array_word, place_of_word, array_stream, Clears, Settles, is_surplus, freed_uses, with_unparked}
 use Rattle.hm_class.specs.Region.{HoldsSlabs}
 use Rattle.hm_class.specs.Kept.{Shows, AreFull, IsKept, terms_of, cells_of}
 use Rattle.hm_class.proofs.Entered.{length_taken, has_removed_same, has_overlaid}
 use Rattle.hm_class.proofs.Followed.{shows_count, shows_released, shows_retired, shows_unparked, shows_written}
-use Rattle.hm_class.proofs.Freed.{draws_are, stepped_freed, after_freed, stream_after, IsNextWord, IsUnparked, place_drawn, parking_drawn}
+use Rattle.hm_class.proofs.Freed.{released_is, draws_are, stepped_freed, after_freed, stream_after, IsNextWord, IsUnparked, place_drawn, parking_drawn}
 use Rattle.hm_class.proofs.Listed.{next_freed, listed_same, empty_kind}
 use Rattle.hm_class.proofs.Paged.{holds_retired, holds_purged}
 use Rattle.hm_class.proofs.Permitted.{allowed_of, told_pair}
@@ -82,18 +82,13 @@ unparked_opens (Some u) s = refl
 shut_live : (all : Uses) (n : ℕ) (b : SlabUse) → slab_in all n ≡ Some b → live_count (with_shut all n) ≡ live_count all
 shut_live all n b is = omega (arith, count_changed all n shut_slab b is lives)
 
-abbrev pub entry_freed : Shape → Words → Who → ℕ → Option ℕ → Option ℕ → ℕ → Emptied → ℕ → ℕ → Entry
-entry_freed p stream who a stated released n e f f' = entry_of who (GiveBack a stated) reply.Freed (freed_choices released n e) (freed_draws (array_word p (next_word stream)) e) f f'
+abbrev pub entry_freed : Shape → Words → Who → ℕ → Option ℕ → Option ℕ → Emptied → ℕ → ℕ → Entry
+entry_freed p stream who a stated released e f f' = entry_of who (GiveBack a stated) reply.Freed (freed_choices released e) (freed_draws (array_word p (next_word stream)) e) f f'
 
-chosen_is : (released : Option ℕ) (n : ℕ) (e : Emptied) → freed_choices released n e ≡ chose None None (freed_choices released n e).released (freed_choices released n e).retired (freed_choices released n e).purged (freed_choices released n e).unparked
-chosen_is released n emptied.Kept = refl
-chosen_is released n (emptied.Retired w u) = refl
-chosen_is released n emptied.Purged = refl
-
-released_is : (released : Option ℕ) (n : ℕ) (e : Emptied) → (freed_choices released n e).released ≡ released
-released_is released n emptied.Kept = refl
-released_is released n (emptied.Retired w u) = refl
-released_is released n emptied.Purged = refl
+chosen_is : (released : Option ℕ) (e : Emptied) → freed_choices released e ≡ chose None None (freed_choices released e).released (freed_choices released e).retired (freed_choices released e).purged (freed_choices released e).unparked
+chosen_is released emptied.Kept = refl
+chosen_is released (emptied.Retired d w u) = refl
+chosen_is released (emptied.Purged d) = refl
 
 clean_without : (p : Shape) (s : State) (a : ℕ) → has_bytes p ≡ false → wrong_canary p s a ≡ None
 clean_without p s a off = ap (λ (b : Bool). cond (b && not (found_canary p s a == kept_canary p s a)) (told_pair (kept_canary p s a) (found_canary p s a)) None) off
@@ -128,30 +123,30 @@ module _ (told : Bool) (runs : PageRuns) (faults : ℕ) (c : Config) (number are
       of false off = clean_without p first a off
 
   -- once the slabs, the pages and the lists follow
-  finish : (released : Option ℕ) (n m : ℕ) (e : Emptied) (final : State) (kb ka : Kind) → released ≡ let_go quarantine a (place_of_word p (next_word stream))
-      → step p first (entry_freed p stream who a stated released n e f f') ≡ record final { faults = f' }
-      → Empties t (releases released taken) f f' (freed_choices released n e) (surplus p (releases released taken) released)
+  finish : (released : Option ℕ) (m : ℕ) (e : Emptied) (final : State) (kb ka : Kind) → released ≡ let_go quarantine a (place_of_word p (next_word stream))
+      → step p first (entry_freed p stream who a stated released e f f') ≡ record final { faults = f' }
+      → Empties t (releases released taken) f f' (freed_choices released e) (surplus p (releases released taken) released)
       → IsNextWord stream (p.array == 0) e → IsUnparked t (cells_of first k stream quarantine k.parking) e
       → Shows p k'.slabs final → k'.lists.retired ≡ final.shut → AreFull k'.slabs k'.lists.full → k'.numbers ≡ numbers_of p → length final.live ≤ live_count k'.slabs → (IsTrue told → HoldsSlabs p final.opens (meaning.runs now))
       → touched p released (Returned a) ≡ m → kind p first m ≡ kb → kind p final m ≡ ka
       → k'.lists.partial ≡ listed Partial m kb ka k.lists.partial → k'.lists.empty ≡ listed Empty m kb ka k.lists.empty
-      → stream' ≡ stream_after (array_stream p stream) e → k'.parking ≡ parking_with (parking_place t (freed_draws (array_word p (next_word stream)) e)) (freed_choices released n e).retired k.parking
-      → IsKept told (meaning.runs now) f' c number arena p (es ++ entry_freed p stream who a stated released n e f f' ∷ []) k' stream' (kept_with quarantine a (place_of_word p (next_word stream))) k'.parking
-  finish released n m e final kb ka let_is after empties next unparked shows shut full numbers live slabs at was now_is partial empty taken_words places =
-      let x : Entry = entry_freed p stream who a stated released n e f f' in
-      let same : (freed_choices released n e).released ≡ released = released_is released n e in
+      → stream' ≡ stream_after (array_stream p stream) e → k'.parking ≡ parking_with (parking_place t (freed_draws (array_word p (next_word stream)) e)) (freed_choices released e).retired k.parking
+      → IsKept told (meaning.runs now) f' c number arena p (es ++ entry_freed p stream who a stated released e f f' ∷ []) k' stream' (kept_with quarantine a (place_of_word p (next_word stream))) k'.parking
+  finish released m e final kb ka let_is after empties next unparked shows shut full numbers live slabs at was now_is partial empty taken_words places =
+      let x : Entry = entry_freed p stream who a stated released e f f' in
+      let same : (freed_choices released e).released ≡ released = released_is released e in
       let release : Releases p taken released = subst (λ (o : Option ℕ). Releases p taken o) (sym let_is)
       (release_now told runs faults c number arena p es k stream quarantine k.parking kept meaning begun half k₁ a slot.slab slot.index told_is runs_is accepts.judged.0.is accepts.judged.0.slot accepts.judged.1 items cleared) in
       pushed told runs faults c number arena p es k stream quarantine k.parking kept (meaning.runs now) f' k' stream' (kept_with quarantine a (place_of_word p (next_word stream))) k'.parking x
-      (allowed_of t first who (GiveBack a stated) reply.Freed (freed_choices released n e) (freed_draws (array_word p (next_word stream)) e) f f' (draws_are p stream e) tt (is ∙ kept.count) later (record {
+      (allowed_of t first who (GiveBack a stated) reply.Freed (freed_choices released e) (freed_draws (array_word p (next_word stream)) e) f f' (draws_are p stream e) tt (is ∙ kept.count) later (record {
         block = live_block p k.slabs first a kept.served.shape kept.follows.shows slot accepts.judged;
         size = accepts.size;
         canary = clean;
         release = subst (λ (o : Option ℕ). Releases p taken o) (sym same) release;
-        emptied = subst (λ (o : Option ℕ). Empties t (releases o taken) f f' (freed_choices released n e) (surplus p (releases o taken) o)) (sym same) empties;
-        choices = chosen_is released n e;
+        emptied = subst (λ (o : Option ℕ). Empties t (releases o taken) f f' (freed_choices released e) (surplus p (releases o taken) o)) (sym same) empties;
+        choices = chosen_is released e;
       }))
-      (stepped_freed t (cells_of first k stream quarantine k.parking) who a f f' n stated released e next unparked let_is) refl
+      (stepped_freed t (cells_of first k stream quarantine k.parking) who a f f' stated released e next unparked let_is) refl
       (record {
         shows = subst (λ (s : State). Shows p k'.slabs s) (sym after) (shows_count p k'.slabs final f' shows);
         shut = shut ∙ ap (λ (s : State). s.shut) (sym after);
@@ -192,18 +187,18 @@ module _ (told : Bool) (runs : PageRuns) (faults : ℕ) (c : Config) (number are
       let is = kept.follows.full m at in
       (sym (shows₁.opens m) ∙ open₁ m ∙ kept.follows.shows.opens m ∙ is.0, sym (same_kind₁ m) ∙ is.1)
 
-  abbrev Ends : Option ℕ → ℕ → Emptied → Type 0
-  Ends released n e = IsKept told (meaning.runs now) f' c number arena p (es ++ entry_freed p stream who a stated released n e f f' ∷ []) k' stream' (kept_with quarantine a (place_of_word p (next_word stream))) k'.parking
+  abbrev Ends : Option ℕ → Emptied → Type 0
+  Ends released e = IsKept told (meaning.runs now) f' c number arena p (es ++ entry_freed p stream who a stated released e f f' ∷ []) k' stream' (kept_with quarantine a (place_of_word p (next_word stream))) k'.parking
 
   -- nothing left the quarantine
   pub kept_held : (e : Emptied) → None ≡ let_go quarantine a (place_of_word p (next_word stream)) → e ≡ emptied.Kept → k'.slabs ≡ k₁.slabs → SameLists k₁ k' → (IsTrue told → meaning.runs now ≡ meaning.runs half) → stream' ≡ array_stream p stream → k'.parking ≡ k.parking
-      → Ends None 0 e
+      → Ends None e
   kept_held e none e_is same same_lists same_runs words places =
       let m : ℕ = slab_of p a in
       let ka : Kind = kind p first m in
       let all_lists : k'.lists ≡ k.lists = same_lists.lists ∙ lists.lists in
-      subst (λ (x : Emptied). Ends None 0 x) (sym e_is)
-      (finish None 0 m emptied.Kept taken ka ka none refl (refl, refl, refl) tt tt
+      subst (λ (x : Emptied). Ends None x) (sym e_is)
+      (finish None m emptied.Kept taken ka ka none refl (refl, refl, refl) tt tt
       (subst (λ (u : Uses). Shows p u taken) (sym same) shows₁) (ap (λ (l : Lists). l.retired) all_lists ∙ kept.follows.shut)
       (same_full k₁.slabs k'.slabs k.lists.full k'.lists.full same (ap (λ (l : Lists). l.full) all_lists) full₁) (same_lists.numbers ∙ lists.numbers ∙ kept.follows.numbers)
       (omega (arith, live_taken, ap live_count same))
@@ -327,7 +322,7 @@ module _ (told : Bool) (runs : PageRuns) (faults : ℕ) (c : Config) (number are
         parked_numbers : k'.numbers ≡ numbers_of p
         parked_numbers = parks.numbers ∙ mid_lists.numbers ∙ lists.numbers ∙ kept.follows.numbers
 
-    pub kept_released : (e : Emptied) → frees.Releases meaning p b k₁ k' half now (array_stream p stream) stream' e → meaning.told half ≡ told → f ≡ meaning.faults half → f' ≡ meaning.faults now → Ends (Some b) m e
+    pub kept_released : (e : Emptied) → frees.Releases meaning p b k₁ k' half now (array_stream p stream) stream' e → meaning.told half ≡ told → f ≡ meaning.faults half → f' ≡ meaning.faults now → Ends (Some b) e
     kept_released e v told_half half_is now_is = by_end e v.empties
       where
         mid : Slabs
@@ -343,13 +338,13 @@ module _ (told : Bool) (runs : PageRuns) (faults : ℕ) (c : Config) (number are
         surplus_by x e = ap (λ (u : Uses). is_surplus p u (length k₁.lists.empty) m) (sym v.slabs)
             ∙ ap (λ (l : Lists). is_surplus p mid.slabs (length l.empty) m) (sym v.lists.lists) ∙ e
 
-        by_end : (e : Emptied) → frees.Empties meaning p m mid k' half now (array_stream p stream) stream' e → Ends (Some b) m e
+        by_end : (e : Emptied) → frees.Empties meaning p m mid k' half now (array_stream p stream) stream' e → Ends (Some b) e
         by_end emptied.Kept w =
             let ka : Kind = kind_at uses₂ m in
             let j = w.1.joins in
             let q = w.1.places in
-            finish (Some b) m m emptied.Kept freed (kind_at k₁.slabs m) ka let_is refl
-            (subst (λ (o : Option ℕ). Empties t freed f f' (freed_choices (Some b) m emptied.Kept) o) (sym (surplus_when false (surplus_by false w.0))) (refl, refl, refl)) tt tt
+            finish (Some b) m emptied.Kept freed (kind_at k₁.slabs m) ka let_is refl
+            (subst (λ (o : Option ℕ). Empties t freed f f' (freed_choices (Some b) emptied.Kept) o) (sym (surplus_when false (surplus_by false w.0))) (refl, refl, refl)) tt tt
             (subst (λ (u : Uses). Shows p u freed) (sym (slabs_are mid v.slabs v.lists ka j refl)) shows₂) (joined_shut mid v.slabs v.lists ka j refl)
             (joined_full mid v.slabs v.lists ka j refl) (joined_numbers mid v.slabs v.lists ka j refl)
             (omega (arith, live_taken, ap live_count (slabs_are mid v.slabs v.lists ka j refl), free_live))
@@ -357,7 +352,7 @@ module _ (told : Bool) (runs : PageRuns) (faults : ℕ) (c : Config) (number are
             refl (kind₁ m) (kind_is p uses₂ freed m kept.served.shape shows₂)
             (joined_partial mid v.slabs v.lists ka j refl) (joined_empty mid v.slabs v.lists ka j refl)
             q.stream_is (q.parking_is ∙ places)
-        by_end (emptied.Retired w u) x =
+        by_end (emptied.Retired d w u) x =
             let j = x.1 in
             let r = place_b in
             let g = found uses₂ m (slot_of p b) Free (freed_use k₁.slabs m (slot_of p b) r.used) in
@@ -373,8 +368,9 @@ module _ (told : Bool) (runs : PageRuns) (faults : ℕ) (c : Config) (number are
             let shows₃ : Shows p uses₂ s₃ = shows_unparked p uses₂ freed u (was_parked c.park_length first.parked u allowed) shows₂ in
             let slabs : k'.slabs ≡ with_shut uses₂ m = parked_slabs mid v.slabs v.lists w u j.parks j.unparked_is in
             let all : k'.lists ≡ unparked u (gone m k.lists) = parked_lists mid v.slabs v.lists w u j.parks j.unparked_is in
-            finish (Some b) m m (emptied.Retired w u) (retires (Some m) s₃) (kind_at k₁.slabs m) Neither let_is refl
-            (subst (λ (o : Option ℕ). Empties t freed f f' (freed_choices (Some b) m (emptied.Retired w u)) o) (sym (surplus_when true (surplus_by true x.0))) (inl (refl, refl, allowed)))
+            subst (λ (d : ℕ). Ends (Some b) (emptied.Retired d w u)) (sym j.slab_is)
+            (finish (Some b) m (emptied.Retired m w u) (retires (Some m) s₃) (kind_at k₁.slabs m) Neither let_is refl
+            (subst (λ (o : Option ℕ). Empties t freed f f' (freed_choices (Some b) (emptied.Retired m w u)) o) (sym (surplus_when true (surplus_by true x.0))) (inl (refl, refl, allowed)))
             (j.word_is) here
             (subst (λ (x : Uses). Shows p x (retires (Some m) s₃)) (sym slabs) (shows_retired p uses₂ s₃ m g.slab g.is_slab shows₃))
             (parked_shut mid v.slabs v.lists w u j.parks j.unparked_is ∙ shut_with u freed)
@@ -387,8 +383,8 @@ module _ (told : Bool) (runs : PageRuns) (faults : ℕ) (c : Config) (number are
             (ap (λ (l : Lists). l.empty) all ∙ retired_empty k.lists m u (kind_at k₁.slabs m) stands)
             j.stream_is
             (j.parks.parking ∙ ap (λ (x : ℕ). slice_set mid.parking (drawn x w) (Some m)) length_is ∙ ap (λ (l : List (Option ℕ)). slice_set l (drawn c.park_length w) (Some m)) places
-            ∙ ap (λ (i : ℕ). slice_set k.parking i (Some m)) (sym (parking_drawn t stream w u)))
-        by_end emptied.Purged w =
+            ∙ ap (λ (i : ℕ). slice_set k.parking i (Some m)) (sym (parking_drawn t stream m w u))))
+        by_end (emptied.Purged d) w =
             let q = w.1 in
             let j = q.joins in
             let final : State = purges p (Some m) freed in
@@ -396,19 +392,20 @@ module _ (told : Bool) (runs : PageRuns) (faults : ℕ) (c : Config) (number are
             let shows₃ : Shows p uses₂ final = shows_written p uses₂ freed (slab_at p m) (zeros p.slab) shows₂ in
             let empty₂ : kind p freed m ≡ Empty = kind_empty p freed m (first_of _ _ (sym surplus_is ∙ surplus_by true w.0)) in
             let is : kind_at uses₂ m ≡ Empty = sym (kind_is p uses₂ freed m kept.served.shape shows₂) ∙ empty₂ in
-            finish (Some b) m m emptied.Purged final (kind_at k₁.slabs m) Empty let_is refl
-            (subst (λ (o : Option ℕ). Empties t freed f f' (freed_choices (Some b) m emptied.Purged) o) (sym (surplus_when true (surplus_by true w.0))) (inr (refl, refl, refl, q.dropped.0, rose))) tt tt
+            subst (λ (d : ℕ). Ends (Some b) (emptied.Purged d)) (sym q.slab_is)
+            (finish (Some b) m (emptied.Purged m) final (kind_at k₁.slabs m) Empty let_is refl
+            (subst (λ (o : Option ℕ). Empties t freed f f' (freed_choices (Some b) (emptied.Purged m)) o) (sym (surplus_when true (surplus_by true w.0))) (inr (refl, refl, refl, q.dropped.0, rose))) tt tt
             (subst (λ (x : Uses). Shows p x final) (sym (slabs_are mid v.slabs v.lists Empty j is)) shows₃) (joined_shut mid v.slabs v.lists Empty j is)
             (joined_full mid v.slabs v.lists Empty j is) (joined_numbers mid v.slabs v.lists Empty j is)
             (omega (arith, live_taken, ap live_count (slabs_are mid v.slabs v.lists Empty j is), free_live))
             (λ y. subst (λ (r : PageRuns). HoldsSlabs p final.opens r) (sym (q.dropped.1 (told_half ∙ y))) (holds_purged p taken.opens m (meaning.runs half) kept.served.shape q.dropped.0 place_b.open_slab (slabs₁ y)))
             refl (kind₁ m) (kind_is p uses₂ final m kept.served.shape shows₃ ∙ is)
             (joined_partial mid v.slabs v.lists Empty j is) (joined_empty mid v.slabs v.lists Empty j is)
-            q.stream_is (q.parking_is ∙ places)
+            q.stream_is (q.parking_is ∙ places))
 
-  -- what was released, if anything, and its slab
+  -- what was released, if anything
   pub kept_ended : (released : Option ℕ) (e : Emptied) → released ≡ let_go quarantine a (place_of_word p (next_word stream)) → Settles meaning p k₁ k' half now (array_stream p stream) stream' released e
-      → meaning.told half ≡ told → f ≡ meaning.faults half → f' ≡ meaning.faults now → Ends released (released_slab p released) e
+      → meaning.told half ≡ told → f ≡ meaning.faults half → f' ≡ meaning.faults now → Ends released e
   kept_ended None e let_is v told_half half_is now_is = kept_held e let_is v.0 v.1 v.2 (λ y. v.3.runs_same (told_half ∙ y)) v.3.stream_is (v.3.parking_is ∙ lists.parking)
   kept_ended (Some b) e let_is v told_half half_is now_is = kept_released b let_is e v told_half half_is now_is
 
@@ -423,10 +420,10 @@ module _ (told : Bool) (runs : PageRuns) (faults : ℕ) (c : Config) (number are
         where
           by_end : (e : Emptied) → frees.Empties meaning p (slab_of p b) v.mid k' half now (array_stream p stream) stream' e → live_count k'.slabs ≡ live_count k₁.slabs
           by_end emptied.Kept w = ap live_count (w.1.joins.slabs ∙ v.slabs) ∙ free_live b let_is
-          by_end (emptied.Retired w u) x =
+          by_end (emptied.Retired d w u) x =
               let g = found (uses₂ b let_is) (slab_of p b) (slot_of p b) Free (freed_use k₁.slabs (slab_of p b) (slot_of p b) (place_b b let_is).used) in
               ap live_count (x.1.parks.slabs ∙ ap (λ (l : Uses). with_shut l (slab_of p b)) v.slabs) ∙ shut_live (uses₂ b let_is) (slab_of p b) g.slab g.is_slab ∙ free_live b let_is
-          by_end emptied.Purged w = ap live_count (w.1.joins.slabs ∙ v.slabs) ∙ free_live b let_is
+          by_end (emptied.Purged d) w = ap live_count (w.1.joins.slabs ∙ v.slabs) ∙ free_live b let_is
 
 pub settled_later : {P : Type 0} (meaning : pages.Ghosts P) (p : Shape) (k₁ k' : Slabs) (half now : P) (stream stream' : Words) (released : Option ℕ) (e : Emptied)
     → Settles meaning p k₁ k' half now stream stream' released e → meaning.faults half ≤ meaning.faults now
@@ -435,5 +432,5 @@ settled_later meaning p k₁ k' half now stream stream' (Some b) e v = by_end e 
   where
     by_end : (e : Emptied) → frees.Empties meaning p (slab_of p b) v.mid k' half now stream stream' e → meaning.faults half ≤ meaning.faults now
     by_end emptied.Kept w = omega (arith, w.1.places.count_same)
-    by_end (emptied.Retired w u) x = x.1.dropped.1
-    by_end emptied.Purged w = omega (arith, w.1.dropped.2)
+    by_end (emptied.Retired d w u) x = x.1.dropped.1
+    by_end (emptied.Purged d) w = omega (arith, w.1.dropped.2)

@@ -10,9 +10,10 @@ use Rattle.hm_class_rules.specs.State.{State, is_open, is_taken, is_free, has_fr
 use Rattle.hm_class_rules.specs.Kinds.{Partial, Empty, Neither, kind}
 use Rattle.hm_class_rules.proofs.Changes.{kind_neither}
 use Rattle.hm_class_rules.proofs.Legal.{empty_open}
+use Rattle.hm_class_rules.proofs.Listed.{any_none}
 use Rattle.hm_slab_meta.specs.Uses.{SlotUse}
-use Rattle.hm_slab_meta.specs.Uses.{Never, Free, Live, Held, Condemned}
-use Rattle.hm_class.specs.Uses.{Uses, SlabUse, lives, is_condemned, is_held, occupied, is_available, has_occupied, has_available, is_partly, is_unused, kind_of, kind_at, slab_in, use_at, passes_at}
+use Rattle.hm_slab_meta.specs.Uses.{Never, Free, Live, Held, Condemned, is_available}
+use Rattle.hm_class.specs.Uses.{Uses, SlabUse, lives, is_condemned, is_held, occupied, has_occupied, has_available, is_partly, is_unused, kind_of, kind_at, slab_in, use_at, passes_at}
 use Rattle.hm_class.specs.Kept.{Shows}
 
 -- ---- one slot
@@ -23,6 +24,14 @@ occupied_is (Some Free) = refl
 occupied_is (Some Live) = refl
 occupied_is (Some Held) = refl
 occupied_is (Some (Condemned given)) = refl
+
+-- a slot is available where it is not occupied
+pub available_test : (u : SlotUse) → not (occupied u) ≡ is_available u
+available_test Never = refl
+available_test Free = refl
+available_test Live = refl
+available_test Held = refl
+available_test (Condemned given) = refl
 
 -- a place is taken where its slot is occupied
 pub taken_is : (p : Shape) (uses : Uses) (s : State) (n i : ℕ) → Shows p uses s → i < p.slots → is_taken s (place p n i) ≡ passes_at occupied uses n i
@@ -41,7 +50,7 @@ free_is p uses s n i b u h is on lt at =
     ap (λ (x : Bool). x && not (is_taken s (place p n i))) (open_is p uses s n b h is ∙ on)
     ∙ ap (λ (x : Bool). not x) (taken_is p uses s n i h lt)
     ∙ ap (λ (o : Option SlabUse). not (option_map_or occupied (option_and_then (λ (b : SlabUse). slice_get b.slots i) o) false)) is
-    ∙ ap (λ (o : Option SlotUse). not (option_map_or occupied o false)) at
+    ∙ ap (λ (o : Option SlotUse). not (option_map_or occupied o false)) at ∙ available_test u
 
 -- ---- one slab
 -- a test of the numbers from k on is one of the elements of a list
@@ -94,6 +103,10 @@ module _ (p : Shape) (uses : Uses) (s : State) (n : ℕ) (b : SlabUse) (h : Show
       turned false true = refl
       turned false false = refl
 
+itself : (b : Bool) → b ≡ (b && true)
+itself true = refl
+itself false = refl
+
 -- where no slot is occupied one is available
 pub unused_is : (us : List SlotUse) → 1 ≤ length us → not (has_occupied us) ≡ (not (has_occupied us) && has_available us)
 unused_is [] some = absurd (omega arith)
@@ -101,29 +114,17 @@ unused_is (Live ∷ us) some = refl
 unused_is (Held ∷ us) some = refl
 unused_is (Condemned g ∷ us) some = refl
 unused_is (Free ∷ us) some = itself (not (has_occupied us))
-  where
-    itself : (b : Bool) → b ≡ (b && true)
-    itself true = refl
-    itself false = refl
 unused_is (Never ∷ us) some = itself (not (has_occupied us))
-  where
-    itself : (b : Bool) → b ≡ (b && true)
-    itself true = refl
-    itself false = refl
 
 -- ---- what a slab is
 pub by_false : (b : Bool) → (b ≡ true → ⊥) → b ≡ false
 by_false true h = absurd (h refl)
 by_false false h = refl
 
-none_any : (f : ℕ → Bool) (xs : List ℕ) → ((i : ℕ) → f i ≡ false) → list_any f xs ≡ false
-none_any f [] none = refl
-none_any f (x ∷ xs) none = ap (λ (b : Bool). b || list_any f xs) (none x) ∙ none_any f xs none
-
 pub kind_shut : (p : Shape) (s : State) (n : ℕ) → IsShape p → is_open s n ≡ false → kind p s n ≡ Neither
 kind_shut p s n shape off =
     kind_neither p s n
-    (ap (λ (b : Bool). b && not (is_empty p s n)) (none_any (is_free p s n) (range_with_len 0 p.slots) (λ i. ap (λ (b : Bool). b && not (is_taken s (place p n i))) off)))
+    (ap (λ (b : Bool). b && not (is_empty p s n)) (any_none (is_free p s n) (range_with_len 0 p.slots) (λ i. ap (λ (b : Bool). b && not (is_taken s (place p n i))) off)))
     (by_false (is_empty p s n) (λ e. true≢false (sym (empty_open p s n shape e) ∙ off)))
 
 kind_open : (p : Shape) (uses : Uses) (s : State) (n : ℕ) (b : SlabUse) → IsShape p → Shows p uses s → slab_in uses n ≡ Some b → b.opened ≡ true → kind p s n ≡ kind_of b

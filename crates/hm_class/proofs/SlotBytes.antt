@@ -8,7 +8,9 @@ use Rattle.std.proofs.lemmas.List.Quantifiers.{position-Some}
 use Rattle.std.proofs.lemmas.Nat.{le_bytes_8}
 use Rattle.std.proofs.lemmas.Option.{slice_get-get_or}
 use Rattle.hm_class_rules.specs.Bytes.{first_nonzero, one_later}
+use Rattle.hm_model.proofs.Lists.{eq_same}
 use Rattle.hm_class.proofs.Found.{position_none}
+use Rattle.hm_class.proofs.Shown.{by_false}
 
 zero_is : (b : ℕ) → not (b == 0) ≡ false → (b == 0) ≡ true
 zero_is b e = grind (arith, nat_tests)
@@ -32,10 +34,6 @@ first_none (b ∷ bs) all =
     ap (λ (t : Bool). cond t (one_later (first_nonzero bs)) (Some (0, b))) (zero_is b (all 0 (omega arith)))
     ∙ ap (λ (o : Option (ℕ × ℕ)). one_later o) (first_none bs (λ k less. all (suc k) (omega arith)))
 
-by_false : (b : Bool) → (b ≡ true → ⊥) → b ≡ false
-by_false true h = absurd (h refl)
-by_false false h = refl
-
 pub first_of_none : (bs : List ℕ) → position (λ b. not (b == 0)) bs ≡ None → first_nonzero bs ≡ None
 first_of_none bs e =
     first_none bs (λ k lt. by_false _ (λ yes. position_none (λ b. not (b == 0)) bs e k (get_or bs k 0) (slice_get-get_or bs k 0 lt) yes))
@@ -51,10 +49,7 @@ some_nonzero bs i n e len =
 
 -- other bytes are another number
 pub other_number : (bs : List ℕ) (canary : ℕ) → length bs ≡ 8 → ((i : ℕ) → get_or bs i 0 < 256) → bs ≢ to_le_bytes w64 canary → (from_le_bytes w64 bs == canary) ≡ false
-other_number bs canary len bytes ne = by_false _ (λ yes. ne (sym (le_bytes_8 bs canary len bytes (sym (same _ _ yes)))))
-  where
-    same : (a b : ℕ) → (a == b) ≡ true → a ≡ b
-    same a b e = grind (arith, nat_tests)
+other_number bs canary len bytes ne = by_false _ (λ yes. ne (sym (le_bytes_8 bs canary len bytes (sym (eq_same _ _ yes)))))
 
 pub not_number : (bs : List ℕ) (canary found : ℕ) → length bs ≡ 8 → ((i : ℕ) → get_or bs i 0 < 256) → bs ≢ to_le_bytes w64 canary → found ≡ from_le_bytes w64 bs → canary ≢ found
 not_number bs canary found len bytes ne is same = ne (sym (le_bytes_8 bs canary len bytes (same ∙ is)))

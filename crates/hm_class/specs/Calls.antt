@@ -22,7 +22,8 @@ module _ {P : Type 0} where
   Added meaning old new who call reply =
       Adds who call reply (meaning.faults old.pages) (meaning.faults new.pages) old.entries new.entries
 
-  -- a trap is at the first address of the range that is not accessible, or at its own where all are and the pages do not lend them
+  -- a trap is at the first address of the range that is not accessible, or at its own where all are and the pages
+  -- do not lend them
   abbrev pub TrapsIn : (P → Bool) → Region P → ℕ → ℕ → Reply → Type 0
   TrapsIn told r addr len reply = ReplyTraps (first_trap (region_shape r) (region_state told r) addr len) addr reply
 

@@ -44,14 +44,14 @@ pub record CanOpen (p : Shape) (k : Slabs) (n : ℕ) : Type 0 where
   pub there : is_some (slab_in (taken_of k) n) ≡ true
 
 module _ {P : Type 0} (meaning : pages.Ghosts P) where
-  -- the slabs, the meaning.runs and the stream are as before
+  -- the slabs, the runs and the stream are as before
   pub record KeepsRuns (old new : Slabs) (before now : P) (stream stream' : Words) : Type 0 where
     pub slabs : new.slabs ≡ old.slabs
     pub lists : SameLists old new
     pub runs_same : IsTrue (meaning.told before) → meaning.runs now ≡ meaning.runs before
     pub stream_same : stream' ≡ stream
 
-  -- so is the count of meaning.faults
+  -- so is the count of faults
   abbrev pub Stays : Slabs → Slabs → P → P → Words → Words → Type 0
   Stays old new before now stream stream' = KeepsRuns old new before now stream stream'
       × (meaning.faults now ≡ meaning.faults before)

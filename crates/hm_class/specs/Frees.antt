@@ -49,11 +49,6 @@ dropped_runs p n runs = if has_bytes p then map.remove runs (slab_at p n) else r
 abbrev pub freed_uses : Shape → ℕ → Uses → Uses
 freed_uses p b uses = with_use uses (slab_of p b) (slot_of p b) Free
 
--- the slab of what was released
-abbrev pub released_slab : Shape → Option ℕ → ℕ
-released_slab p None = 0
-released_slab p (Some b) = slab_of p b
-
 module _ {P : Type 0} (meaning : pages.Ghosts P) where
   -- the usable bytes of the slot at a were made zero
   pub record Clears (p : Shape) (before now : P) (a : ℕ) : Type 0 where
@@ -82,8 +77,9 @@ module _ {P : Type 0} (meaning : pages.Ghosts P) where
       × (meaning.faults before < meaning.faults now)
 
   -- slab n was retired. `mid` are the slabs before that
-  pub record RetiresSlab (p : Shape) (n : ℕ) (mid new : Slabs) (before now : P) (stream stream' : Words) (word : ℕ)
-      (unparked : Option ℕ) : Type 0 where
+  pub record RetiresSlab (p : Shape) (n : ℕ) (mid new : Slabs) (before now : P) (stream stream' : Words)
+      (slab word : ℕ) (unparked : Option ℕ) : Type 0 where
+    pub slab_is : slab ≡ n
     pub parks : Parks n (drawn (length mid.parking) word) mid new
     pub dropped : Drops p n before now true
     pub word_is : word ≡ next_word stream
@@ -91,7 +87,9 @@ module _ {P : Type 0} (meaning : pages.Ghosts P) where
     pub unparked_is : unparked ≡ slice_index_or mid.parking (drawn (length mid.parking) word) None
 
   -- it was purged, and joins the empty ones
-  pub record PurgesSlab (p : Shape) (n : ℕ) (mid new : Slabs) (before now : P) (stream stream' : Words) : Type 0 where
+  pub record PurgesSlab (p : Shape) (n : ℕ) (mid new : Slabs) (before now : P) (stream stream' : Words)
+      (slab : ℕ) : Type 0 where
+    pub slab_is : slab ≡ n
     pub joins : Joins n mid.slabs mid new
     pub dropped : Drops p n before now false
     pub stream_is : stream' ≡ stream
@@ -99,9 +97,9 @@ module _ {P : Type 0} (meaning : pages.Ghosts P) where
 
   abbrev pub Retires : Shape → ℕ → Slabs → Slabs → P → P → Words → Words → Emptied → Type 0
   Retires p n mid new before now stream stream' Kept = ⊥
-  Retires p n mid new before now stream stream' (Retired word unparked) =
-      RetiresSlab p n mid new before now stream stream' word unparked
-  Retires p n mid new before now stream stream' Purged = PurgesSlab p n mid new before now stream stream'
+  Retires p n mid new before now stream stream' (Retired slab word unparked) =
+      RetiresSlab p n mid new before now stream stream' slab word unparked
+  Retires p n mid new before now stream stream' (Purged slab) = PurgesSlab p n mid new before now stream stream' slab
 
   -- the pages, the stream and the parking places are as before
   pub record KeepsPlaces (old new : Slabs) (before now : P) (stream stream' : Words) : Type 0 where
@@ -119,11 +117,12 @@ module _ {P : Type 0} (meaning : pages.Ghosts P) where
   abbrev pub Empties : Shape → ℕ → Slabs → Slabs → P → P → Words → Words → Emptied → Type 0
   Empties p n mid new before now stream stream' Kept =
       (is_surplus p mid.slabs (length mid.lists.empty) n ≡ false) × JoinsSlab n mid new before now stream stream'
-  Empties p n mid new before now stream stream' (Retired word unparked) =
+  Empties p n mid new before now stream stream' (Retired slab word unparked) =
       (is_surplus p mid.slabs (length mid.lists.empty) n ≡ true)
-      × RetiresSlab p n mid new before now stream stream' word unparked
-  Empties p n mid new before now stream stream' Purged =
-      (is_surplus p mid.slabs (length mid.lists.empty) n ≡ true) × PurgesSlab p n mid new before now stream stream'
+      × RetiresSlab p n mid new before now stream stream' slab word unparked
+  Empties p n mid new before now stream stream' (Purged slab) =
+      (is_surplus p mid.slabs (length mid.lists.empty) n ≡ true)
+      × PurgesSlab p n mid new before now stream stream' slab
 
   -- slot b was released: `mid` are the slabs after that
   pub record Releases (p : Shape) (b : ℕ) (old new : Slabs) (before now : P) (stream stream' : Words)

@@ -46,21 +46,21 @@ start_draws None word = one_word word
 start_draws (Some c) word = record { used = 3; w0 = c.low; w1 = c.high; w2 = word }
 
 -- ---- a block was taken back
--- what is chosen, where slab n is the released slot's
-abbrev pub freed_choices : Option ℕ → ℕ → Emptied → Choices
-freed_choices released n Kept = chose None None released None None None
-freed_choices released n (Retired word unparked) = chose None None released (Some n) None unparked
-freed_choices released n Purged = chose None None released None (Some n) None
+-- what is chosen
+abbrev pub freed_choices : Option ℕ → Emptied → Choices
+freed_choices released Kept = chose None None released None None None
+freed_choices released (Retired slab word unparked) = chose None None released (Some slab) None unparked
+freed_choices released (Purged slab) = chose None None released None (Some slab) None
 
 -- the word of the array's place, where there is an array, and that of the parking place
 abbrev pub freed_draws : Option ℕ → Emptied → Draws
 freed_draws None Kept = no_words
-freed_draws None (Retired word unparked) = one_word word
-freed_draws None Purged = no_words
+freed_draws None (Retired slab word unparked) = one_word word
+freed_draws None (Purged slab) = no_words
 freed_draws (Some array) Kept = one_word array
-freed_draws (Some array) (Retired word unparked) = record { used = 2; w0 = array; w1 = word; w2 = 0 }
-freed_draws (Some array) Purged = one_word array
+freed_draws (Some array) (Retired slab word unparked) = record { used = 2; w0 = array; w1 = word; w2 = 0 }
+freed_draws (Some array) (Purged slab) = one_word array
 
-abbrev pub freed : Option ℕ → Option ℕ → ℕ → Emptied → Event
-freed array released n emptied =
-    record { outcome = outcome.Freed; choices = freed_choices released n emptied; draws = freed_draws array emptied }
+abbrev pub freed : Option ℕ → Option ℕ → Emptied → Event
+freed array released emptied =
+    record { outcome = outcome.Freed; choices = freed_choices released emptied; draws = freed_draws array emptied }

@@ -1,12 +1,12 @@
 -- How the slots of slabs are used.
-use Rattle.std.specs.Prelude.{ℕ, ◌+◌, take, drop, replicate, Bool, true, false, not, ◌&&◌, if◌then◌else◌, List, [], ◌∷◌, ◌++◌, length, Option, Some, None, slice_get, slice_set, option_map, sum_by, count_by}
-use Rattle.std.specs.List.{list_any, position}
+use Rattle.std.specs.Prelude.{ℕ, ◌+◌, replicate, Bool, true, false, not, ◌&&◌, if◌then◌else◌, List, [], ◌∷◌, ◌++◌, length, Option, Some, None, slice_get, slice_set, option_map, sum_by, count_by}
+use Rattle.std.specs.List.{list_any}
 use Rattle.std.specs.Option.{option_and_then, option_map_or}
 use Rattle.hm_sizes.specs.declared.shape.Shape.{Shape}
 use Rattle.hm_class_rules.specs.Kinds.{Kind, Partial, Empty, Neither}
 use Rattle.hm_slab_lists.specs.Numbers.{is_guard}
 use Rattle.hm_slab_meta.specs.Uses as meta
-use Rattle.hm_slab_meta.specs.Uses.{SlotUse, Never, Free, Live, Held, Condemned}
+use Rattle.hm_slab_meta.specs.Uses.{SlotUse, Never, Free, Live, Held, Condemned, is_available, first_from}
 
 -- ---- one slot
 abbrev pub lives : SlotUse → Bool
@@ -40,9 +40,6 @@ occupied Free = false
 occupied Live = true
 occupied Held = true
 occupied (Condemned given) = true
-
-abbrev pub is_available : SlotUse → Bool
-is_available u = not (occupied u)
 
 -- ---- one slab
 -- how its slots are used, its canary, and whether it is open; the canary of one that is not is 0
@@ -78,13 +75,6 @@ is_unused b = not (has_occupied b.slots) && has_available b.slots
 -- what a slab is
 abbrev pub kind_of : SlabUse → Kind
 kind_of b = if not b.opened then Neither else if is_partly b then Partial else if is_unused b then Empty else Neither
-
--- the first available slot from slot i on, and else from the first on
-abbrev pub or_else : ℕ → Option ℕ → Option ℕ → Option ℕ
-or_else i found other = meta.or_else i found other
-
-abbrev pub first_from : ℕ → List SlotUse → Option ℕ
-first_from i slots = or_else i (position is_available (drop i slots)) (position is_available (take i slots))
 
 -- ---- all slabs, by number: a guard is None
 abbrev pub Uses : Type 0

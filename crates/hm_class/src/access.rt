@@ -1,5 +1,5 @@
 //! The bytes of open slabs: which addresses are accessible, reading and writing. Neither looks at slots.
-ghost use Rattle.std.specs.Prelude.{◌≡◌, ◌+◌, ◌<◌, ◌≤◌, ◌^◌, Some, None, IsTrue, IfOk, IfSome, MatchOption, length, if◌then◌else◌};
+ghost use Rattle.std.specs.Prelude.{◌≡◌, ◌+◌, ◌<◌, ◌≤◌, ◌^◌, Some, None, IsTrue, IfOk, IfSome, MatchOption, length};
 ghost use Rattle.hm_model.specs.Replies.{IsFillReply};
 ghost use Rattle.hm_sizes.specs.Shapes.{IsShape, slab_at, slab_of};
 ghost use Rattle.hm_class_rules.specs.State.{State};

@@ -1,15 +1,15 @@
 //! A slot is picked and given: its usable bytes are looked at, and its canary is set. One with a byte that
 //! is not zero is condemned.
 ghost use Rattle.std.specs.Prelude.{◌≡◌, ◌≢◌, ◌<◌, ◌^◌, IfSome};
-ghost use Rattle.hm_choice.specs.Stream.{next_word, after_word, drawn};
+ghost use Rattle.hm_choice.specs.Stream.{next_word};
 ghost use Rattle.hm_model.specs.Replies.{IsSlotReply};
 ghost use Rattle.hm_sizes.specs.Shapes.{IsShape, usable};
-ghost use Rattle.hm_class.specs.Finds.{CanPick, CanServe, Serve, Serves, HasFirst, slot_in};
+ghost use Rattle.hm_class.specs.Finds.{CanPick, CanServe, Serve, Serves};
 ghost use Rattle.hm_class.specs.Gives.{Gives, Stains, Seals};
 ghost use Rattle.hm_class.specs.Outcomes.{reply_of};
 ghost use Rattle.hm_class.specs.Slabs.{SameLists};
 ghost use Rattle.hm_class.specs.Sources.{IsAvailable};
-ghost use Rattle.hm_class.specs.Uses.{live_count, first_at};
+ghost use Rattle.hm_class.specs.Uses.{live_count};
 
 use crate::next_slab::NextSlab;
 use crate::outcome::{Event, Outcome, opened_choices, start_draws};
@@ -97,7 +97,7 @@ fn serve_from<P: Pages>(
         unreachable!()
     };
     let outcome = give(slabs, pages, shape, Slot { slab, index });
-    slabs.after_take(slab);
+    slabs.settle(slab);
     (outcome, word)
 }
 

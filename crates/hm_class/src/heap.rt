@@ -1,5 +1,5 @@
 //! A class region: what is kept of it, and its calls, each of which adds one entry to its history.
-ghost use Rattle.std.specs.Prelude.{◌≡◌, ◌<◌, ◌≤◌, ◌^◌, IsTrue, IsOk, IfOk, OnErr, None, length};
+ghost use Rattle.std.specs.Prelude.{◌≡◌, ◌<◌, ◌≤◌, ◌^◌, IsTrue, IsOk, IfOk, OnErr, length};
 ghost use Rattle.std.specs.FinMap as map;
 ghost use Rattle.hm_sizes.specs.Classes.{class_count, class_size};
 ghost use Rattle.hm_choice.specs.Stream.{after_word};
@@ -19,12 +19,12 @@ use crate::judge::{Judgement, judge, measure};
 use crate::next_slab::find_slab;
 use crate::outcome::Event;
 use crate::slabs::Slabs;
-use crate::take_back::{hold, settle, slab_of};
+use crate::take_back::{hold, settle};
 use hm_choice::Stream;
 use hm_model::{Call, Counted, Entry, Reply, Runs, Who};
 use hm_outside::{NoMemory, Pages};
 use hm_quarantine::Quarantine;
-use hm_sizes::{ClassId, Config, Shape, shape_of};
+use hm_sizes::{CLASSES, ClassId, Config, PAGE, Shape, shape_of};
 use std::alloc::Global;
 use std::marker::Model;
 
@@ -45,7 +45,6 @@ pub struct ClassHeap<P: Pages> {
 
 impl<P: Pages> Model for ClassHeap<P> {
     ghost use Rattle.std.specs.Prelude.{◌-◌, ◌≤◌};
-    ghost use Rattle.hm_model.specs.Runs.{expand};
     ghost use Rattle.hm_class.specs.Region.{Region};
     ghost use Rattle.hm_class.specs.Kept.{IsKept};
     ghost use Rattle.hm_class.specs.Uses.{live_count};
@@ -74,10 +73,6 @@ impl<P: Pages> Counted for ClassHeap<P> {
         self.entries.len() as u64
     }
 }
-
-const PAGE: u64 = 4096;
-
-const CLASSES: u64 = 49;
 
 // An entry. The counts of page faults are those at the call's start and its end.
 fn entry(who: Who, call: Call, reply: Reply, event: Event, before: u64, now: u64) -> Entry
@@ -159,6 +154,7 @@ impl<P: Pages> ClassHeap<P> {
         self.shape.class
     }
 
+    /// Where its slabs and slots lie.
     pub fn shape(&self) -> &Shape
         ensures { result.now ≡ region_shape self.now }
     {
@@ -188,6 +184,7 @@ impl<P: Pages> ClassHeap<P> {
         self.pages.faults()
     }
 
+    /// The pages beneath it, to be looked at only.
     pub fn pages(&self) -> &P
         ensures value { result.now ≡ self.now.pages }
         ensures region { IsRegion P.Pages self.now }
@@ -285,8 +282,7 @@ impl<P: Pages> ClassHeap<P> {
                     self.config.park_length,
                     released,
                 );
-                let slab = slab_of(&self.shape, released);
-                let event = Event::freed(word, released, slab, emptied);
+                let event = Event::freed(word, released, emptied);
                 let now = self.pages.faults();
                 let call = Call::GiveBack { addr, stated };
                 self.entries

@@ -21,6 +21,7 @@ pub enum Judgement {
 }
 
 impl Refusal {
+    /// The outcome of the same name.
     pub fn outcome(self) -> Outcome
         ensures { result ≡ refused_outcome self }
     {

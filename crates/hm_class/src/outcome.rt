@@ -41,12 +41,18 @@ pub struct Canary {
 /// What becomes of a slab of which a slot was released.
 #[derive(Clone, Copy, Drop)]
 pub enum Emptied {
-    /// It serves on.
+    /// It serves on, or no slot was released.
     Kept,
     /// It is retired. `word` names its parking place, and `unparked` is the slab that stood there.
-    Retired { word: u32, unparked: Option<u64> },
+    Retired {
+        slab: u64,
+        word: u32,
+        unparked: Option<u64>,
+    },
     /// Its pages did not go, and their bytes were made zero.
-    Purged,
+    Purged {
+        slab: u64,
+    },
 }
 
 /// The words that are drawn as a slot is picked: those of the canary of a slab that is opened for it, and
@@ -81,13 +87,13 @@ pub fn opened_choices(slab: u64, canary: Option<Canary>) -> Choices
 }
 
 // What is chosen as a block is taken back.
-fn freed_choices(released: Option<u64>, slab: u64, emptied: Emptied) -> Choices
-    ensures { result ≡ freed_choices released slab emptied }
+fn freed_choices(released: Option<u64>, emptied: Emptied) -> Choices
+    ensures { result ≡ freed_choices released emptied }
 {
     let (retired, purged, unparked) = match emptied {
         Emptied::Kept => (None, None, None),
-        Emptied::Retired { word: _, unparked } => (Some(slab), None, unparked),
-        Emptied::Purged => (None, Some(slab), None),
+        Emptied::Retired { slab, unparked, .. } => (Some(slab), None, unparked),
+        Emptied::Purged { slab } => (None, Some(slab), None),
     };
     Choices {
         released,
@@ -105,14 +111,14 @@ fn freed_draws(array: Option<u32>, emptied: Emptied) -> Draws
 {
     match (array, emptied) {
         (None, Emptied::Retired { word, .. }) => Draws::one(word),
-        (None, Emptied::Kept | Emptied::Purged) => Draws::none(),
+        (None, Emptied::Kept | Emptied::Purged { .. }) => Draws::none(),
         (Some(array), Emptied::Retired { word, .. }) => Draws {
             used: 2,
             w0: array,
             w1: word,
             w2: 0,
         },
-        (Some(array), Emptied::Kept | Emptied::Purged) => Draws::one(array),
+        (Some(array), Emptied::Kept | Emptied::Purged { .. }) => Draws::one(array),
     }
 }
 
@@ -128,20 +134,21 @@ impl Event {
         }
     }
 
-    /// A block was taken back. `array` is the word of its place of the quarantine's array, `released` the
-    /// slot that left the quarantine, and `slab` that slot's slab.
-    pub fn freed(array: Option<u32>, released: Option<u64>, slab: u64, emptied: Emptied) -> Event
-        ensures { result ≡ freed array released slab emptied }
+    /// A block was taken back. `array` is the word of its place of the quarantine's array, and `released` the
+    /// slot that left the quarantine.
+    pub fn freed(array: Option<u32>, released: Option<u64>, emptied: Emptied) -> Event
+        ensures { result ≡ freed array released emptied }
     {
         Event {
             outcome: Outcome::Freed,
-            choices: freed_choices(released, slab, emptied),
+            choices: freed_choices(released, emptied),
             draws: freed_draws(array, emptied),
         }
     }
 }
 
 impl Outcome {
+    /// The reply of the same name.
     pub fn reply(self) -> Reply
         ensures { result ≡ reply_of self }
     {

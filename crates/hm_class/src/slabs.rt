@@ -1,6 +1,6 @@
 //! The slabs of a region by number, the lists in which they stand, and how many of their slots are live; and
 //! what stands at an address.
-ghost use Rattle.std.specs.Prelude.{◌≡◌, ◌+◌, ◌<◌, ◌≤◌, ◌^◌, Some, None, true, is_some, length, slice_index_or, IsTrue, IfOk, OnOk};
+ghost use Rattle.std.specs.Prelude.{◌≡◌, ◌+◌, ◌<◌, ◌≤◌, ◌^◌, Some, None, true, is_some, length, slice_index_or, IfOk, IsOk, OnOk, OnErr};
 ghost use Rattle.hm_sizes.specs.Shapes.{IsShape, place, slab_of, slot_of};
 ghost use Rattle.hm_class_rules.specs.Kinds.{Empty, same_kind};
 ghost use Rattle.hm_slab_lists.specs.Lists.{placed};
@@ -220,6 +220,9 @@ impl Slabs {
     pub fn reserve(&mut self) -> Result<(), NoMemory>
         ensures rest { self.new ≡ with_spare self.new.spare self.old }
         ensures room { OnOk result (1 ≤ self.new.spare) }
+        ensures more { self.old.spare ≤ self.new.spare }
+        ensures err { OnErr result (self.new ≡ self.old) }
+        ensures enough { 1 ≤ self.old.spare → IsOk result }
     {
         self.lists.reserve_one()
     }
@@ -314,22 +317,13 @@ impl Slabs {
         }
     }
 
-    /// Puts an open slab of which a slot was given or condemned into the list of its kind.
-    pub fn after_take(&mut self, slab: u64)
+    /// Puts an open slab of which a slot was given, condemned or released into the list of its kind.
+    pub fn settle(&mut self, slab: u64)
         requires { open_at self.old.slabs slab ≡ true }
         ensures same { SameSlots self.old self.new }
         ensures lists { self.new.lists ≡ placed (list_of (kind_at self.old.slabs slab)) slab self.old.lists }
     {
         self.lists.after_take(slab);
-    }
-
-    /// Puts an open slab of which a slot was released into the list of its kind.
-    pub fn after_release(&mut self, slab: u64)
-        requires { open_at self.old.slabs slab ≡ true }
-        ensures same { SameSlots self.old self.new }
-        ensures lists { self.new.lists ≡ placed (list_of (kind_at self.old.slabs slab)) slab self.old.lists }
-    {
-        self.lists.after_release(slab);
     }
 
     /// Retires an open slab to a parking place, and answers the slab that stood there.

@@ -1,11 +1,11 @@
 //! A block is taken back: its bytes are cleared, its slot goes into quarantine, and what leaves that is
 //! released. Where that empties a slab and there are too many empty ones, the slab is retired.
 ghost use Rattle.std.specs.Prelude.{◌≡◌, ◌<◌, ◌≤◌, true, Some, length, IsTrue, IfSome};
-ghost use Rattle.hm_choice.specs.Stream.{next_word, after_word};
+ghost use Rattle.hm_choice.specs.Stream.{next_word};
 ghost use Rattle.hm_outside.specs.PageRuns.{IsRun};
 ghost use Rattle.hm_quarantine.specs.Quarantine.{let_go, kept_with};
 ghost use Rattle.hm_sizes.specs.Shapes.{IsShape, has_bytes, slab_at};
-ghost use Rattle.hm_class.specs.Frees.{Drops, array_word, place_of_word, array_stream, Clears, Retires, Releases, Settles, CanRelease, is_surplus, released_slab};
+ghost use Rattle.hm_class.specs.Frees.{Drops, array_word, place_of_word, array_stream, Clears, Retires, Releases, Settles, CanRelease, is_surplus};
 ghost use Rattle.hm_class.specs.Slabs.{SameLists};
 ghost use Rattle.hm_class.specs.Uses.{use_at, open_at, with_use};
 ghost use Rattle.hm_slab_meta.specs.Uses.{Live, Held};
@@ -126,12 +126,16 @@ fn retire<P: Pages>(
         result }
 {
     if !drop_slab(pages, shape, slab) {
-        slabs.after_release(slab);
-        return Emptied::Purged;
+        slabs.settle(slab);
+        return Emptied::Purged { slab };
     }
     let (word, place) = stream.draw(park_length);
     let unparked = slabs.retire(slab, place);
-    Emptied::Retired { word, unparked }
+    Emptied::Retired {
+        slab,
+        word,
+        unparked,
+    }
 }
 
 // Whether an empty slab is one too many beside the other empty ones.
@@ -164,7 +168,7 @@ fn release<P: Pages>(
     if is_surplus(slabs, shape, slot.slab) {
         return retire(slabs, stream, pages, shape, park_length, slot.slab);
     }
-    slabs.after_release(slot.slab);
+    slabs.settle(slot.slab);
     Emptied::Kept
 }
 
@@ -188,17 +192,5 @@ pub fn settle<P: Pages>(
     match released {
         Some(addr) => release(slabs, stream, pages, shape, park_length, addr),
         None => Emptied::Kept,
-    }
-}
-
-/// The slab of the slot that left the quarantine.
-pub fn slab_of(shape: &Shape, released: Option<u64>) -> u64
-    requires shape { IsShape shape.now }
-    requires from { IfSome released (λ addr. shape.now.first ≤ addr) }
-    ensures { result ≡ released_slab shape.now released }
-{
-    match released {
-        Some(addr) => slot_at(shape, addr).slab,
-        None => 0,
     }
 }

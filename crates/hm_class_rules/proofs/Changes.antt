@@ -4,6 +4,7 @@ use Rattle.std.specs.List.{list_any, list_all, range_with_len}
 use Rattle.std.specs.Int.{to_le_bytes}
 use mir.Syntax.{w64}
 use Rattle.std.proofs.lemmas.Bool.{cases_eq}
+use Rattle.std.proofs.lemmas.Option.{none-some, same_Some}
 use Rattle.hm_model.specs.Maps.{among, without, at, has, removed, put}
 use Rattle.hm_model.specs.Runs.{expand}
 use Rattle.hm_model.specs.declared.entry.Call.{Call}
@@ -14,6 +15,7 @@ use Rattle.hm_model.specs.declared.entry.Choices.{Choices}
 use Rattle.hm_model.proofs.Lists.{other_eq, same_eq, has_keys}
 use Rattle.hm_sizes.specs.declared.shape.Shape.{Shape}
 use Rattle.hm_sizes.specs.Shapes.{IsShape, place, slab_of, slab_at, usable}
+use Rattle.hm_sizes.proofs.PlaceTest.{slot_row}
 use Rattle.hm_class_rules.specs.State.{State, is_open, is_live, is_taken, is_free, has_free, is_empty, is_partial, empty_slabs}
 use Rattle.hm_class_rules.specs.Bytes.{write, overlaid_slabs, kept_canary}
 use Rattle.hm_class_rules.specs.Steps.{taken_new, opened, gives, takes_back, releases, unparks, retires, purges, moved}
@@ -22,9 +24,10 @@ use Rattle.hm_class_rules.specs.Draws.{Returned, event_of}
 use Rattle.hm_class_rules.specs.Kinds.{Kind, Partial, Empty, Neither, kind}
 use Rattle.hm_class_rules.specs.Stepped.{touched}
 use Rattle.hm_class_rules.proofs.Sound.{keys_overlaid}
-use Rattle.hm_class_rules.proofs.Legal.{retired_was, slot_row}
+use Rattle.hm_class_rules.proofs.Legal.{retired_was}
 use Rattle.hm_class_rules.proofs.Delay.{out_held, opened_held}
-use Rattle.hm_class_rules.proofs.Whole.{none_some, same_Some, at_removed}
+use Rattle.hm_class_rules.proofs.Condemned.{opened_condemned, out_condemned}
+use Rattle.hm_class_rules.proofs.Whole.{at_removed}
 use Rattle.hm_class_rules.proofs.Zeroed.{slab_is}
 use Rattle.hm_class_rules.proofs.Fronts.{among_filter}
 
@@ -117,17 +120,9 @@ new_live : (p : Shape) (l : List ℕ) (s : State) → (taken_new p l s).live ≡
 new_live p [] s = refl
 new_live p (m ∷ ms) s = refl
 
-new_condemned : (p : Shape) (l : List ℕ) (s : State) → (taken_new p l s).condemned ≡ s.condemned
-new_condemned p [] s = refl
-new_condemned p (m ∷ ms) s = refl
-
-opened_live : (p : Shape) (o canary : Option ℕ) (s : State) → (opened p o canary s).live ≡ s.live
+pub opened_live : (p : Shape) (o canary : Option ℕ) (s : State) → (opened p o canary s).live ≡ s.live
 opened_live p None canary s = refl
 opened_live p (Some n) canary s = new_live p s.shut s
-
-opened_condemned : (p : Shape) (o canary : Option ℕ) (s : State) → (opened p o canary s).condemned ≡ s.condemned
-opened_condemned p None canary s = refl
-opened_condemned p (Some n) canary s = new_condemned p s.shut s
 
 pub taken_opened : (p : Shape) (o canary : Option ℕ) (s : State) (x : ℕ) → is_taken (opened p o canary s) x ≡ is_taken s x
 taken_opened p o canary s x = taken_by _ _ _ _ _ _ x (opened_live p o canary s) (opened_held p o canary s) (opened_condemned p o canary s)
@@ -142,20 +137,10 @@ out_live p s (Some r) None (Some u) = refl
 out_live p s (Some r) (Some q) None = refl
 out_live p s (Some r) (Some q) (Some u) = refl
 
-out_condemned : (p : Shape) (s : State) (r q u : Option ℕ) → (purges p q (retires r (unparks u s))).condemned ≡ s.condemned
-out_condemned p s None None None = refl
-out_condemned p s None None (Some u) = refl
-out_condemned p s None (Some q) None = refl
-out_condemned p s None (Some q) (Some u) = refl
-out_condemned p s (Some r) None None = refl
-out_condemned p s (Some r) None (Some u) = refl
-out_condemned p s (Some r) (Some q) None = refl
-out_condemned p s (Some r) (Some q) (Some u) = refl
-
 pub taken_out : (p : Shape) (s : State) (r q u : Option ℕ) (x : ℕ) → is_taken (purges p q (retires r (unparks u s))) x ≡ is_taken s x
 taken_out p s r q u x = taken_by _ _ _ _ _ _ x (out_live p s r q u) (out_held p s r q u) (out_condemned p s r q u)
 
-among_apart : (a x : ℕ) (xs : List ℕ) → a ≢ x → among x (a ∷ xs) ≡ among x xs
+pub among_apart : (a x : ℕ) (xs : List ℕ) → a ≢ x → among x (a ∷ xs) ≡ among x xs
 among_apart a x xs ne = ap (λ b. b || among x xs) (other_eq a x ne)
 
 among_left : (b x : ℕ) (xs : List ℕ) → b ≢ x → among x (without b xs) ≡ among x xs
@@ -184,15 +169,15 @@ freed_taken p s a x (Some b) is none some = still_taken a b x s.live s.held s.co
 -- ---- the one slab
 -- what is retired is the slab of what was released
 surplus_slab : (p : Shape) (s : State) (o : Option ℕ) (a k : ℕ) → surplus p s o ≡ Some k → k ≡ touched p o (Returned a)
-surplus_slab p s None a k e = absurd (none_some k e)
+surplus_slab p s None a k e = absurd (none-some k e)
 surplus_slab p s (Some b) a k e =
     elim (is_empty p s (slab_of p b) && nat_lt 131072 (length (empty_slabs p s) * p.slab)) as (λ c. cond c (Some (slab_of p b)) None ≡ Some k → k ≡ slab_of p b) [
       | true ↦ λ h. sym (same_Some (slab_of p b) k h)
-      | false ↦ λ h. absurd (none_some k h)
+      | false ↦ λ h. absurd (none-some k h)
     ] e
 
 opened_slab : (p : Shape) (s : State) (o : Option ℕ) (n k : ℕ) → Source p s o n → o ≡ Some k → n ≡ k
-opened_slab p s None n k source e = absurd (none_some k e)
+opened_slab p s None n k source e = absurd (none-some k e)
 opened_slab p s (Some m) n k source e = source.0 ∙ same_Some m k e
 
 freed_one : (t : Terms) (s : State) (before now : ℕ) (c : Choices) (a m : ℕ) (stated : Option ℕ) → IsShape t.shape → AllowsFreed t s before now c a stated → m ≢ touched t.shape c.released (Returned a)

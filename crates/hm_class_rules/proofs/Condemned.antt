@@ -23,7 +23,7 @@ new_condemned : (p : Shape) (l : List ℕ) (s : State) → (taken_new p l s).con
 new_condemned p [] s = refl
 new_condemned p (m ∷ ms) s = refl
 
-opened_condemned : (p : Shape) (o canary : Option ℕ) (s : State) → (opened p o canary s).condemned ≡ s.condemned
+pub opened_condemned : (p : Shape) (o canary : Option ℕ) (s : State) → (opened p o canary s).condemned ≡ s.condemned
 opened_condemned p None canary s = refl
 opened_condemned p (Some n) canary s = new_condemned p s.shut s
 
@@ -31,7 +31,7 @@ released_condemned : (p : Shape) (a : ℕ) (o : Option ℕ) (s : State) → (rel
 released_condemned p a None s = refl
 released_condemned p a (Some b) s = refl
 
-out_condemned : (p : Shape) (s : State) (r q u : Option ℕ) → (purges p q (retires r (unparks u s))).condemned ≡ s.condemned
+pub out_condemned : (p : Shape) (s : State) (r q u : Option ℕ) → (purges p q (retires r (unparks u s))).condemned ≡ s.condemned
 out_condemned p s None None None = refl
 out_condemned p s None None (Some u) = refl
 out_condemned p s None (Some q) None = refl

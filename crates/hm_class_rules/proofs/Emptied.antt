@@ -9,7 +9,7 @@ use Rattle.hm_class_rules.specs.State.{State, is_open, is_live, is_taken, is_fre
 use Rattle.hm_class_rules.specs.Steps.{takes_back, releases}
 use Rattle.hm_class_rules.specs.Laws.{uses, IsSound, OneMoreEmpty}
 use Rattle.hm_class_rules.proofs.Sound.{has_times, empty_uses, sound_takes_back, sound_releases}
-use Rattle.hm_class_rules.proofs.Whole.{none_some, same_Some}
+use Rattle.std.proofs.lemmas.Option.{none-some, same_Some}
 use Rattle.hm_class_rules.proofs.Changes.{slab_of_place, apart, all_alike, open_write, open_releases, freed_taken}
 use Rattle.hm_class_rules.proofs.Listed.{equally_long, empty_slab_times}
 
@@ -17,7 +17,7 @@ use Rattle.hm_class_rules.proofs.Listed.{equally_long, empty_slab_times}
 same_empty : (p : Shape) (s : State) (a b n : ℕ) → IsShape p → is_live s a ≡ true → n ≢ slab_of p b → is_empty p (releases (Some b) (takes_back p a s)) n ≡ is_empty p s n
 same_empty p s a b n shape live ne = all_alike (is_free p s₂ n) (is_free p s n) 0 p.slots (λ i ge lt.
     ap (λ (c : Bool). c && not (is_taken s₂ (place p n i))) (open_releases (Some b) (takes_back p a s) n ∙ open_write p a _ s n)
-    ∙ ap (λ (c : Bool). is_open s n && not c) (freed_taken p s a (place p n i) (Some b) live (λ none. absurd (none_some b (sym none))) (λ x is. subst (λ (y : ℕ). y ≢ place p n i) (same_Some b x is) (apart p shape n i b (omega arith) ne))))
+    ∙ ap (λ (c : Bool). is_open s n && not c) (freed_taken p s a (place p n i) (Some b) live (λ none. absurd (none-some b (sym none))) (λ x is. subst (λ (y : ℕ). y ≢ place p n i) (same_Some b x is) (apart p shape n i b (omega arith) ne))))
   where
     s₂ : State
     s₂ = releases (Some b) (takes_back p a s)

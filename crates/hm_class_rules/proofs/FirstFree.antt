@@ -3,6 +3,7 @@ use Rattle.std.proofs.Common.{◌≡◌, ◌⊎◌, inl, inr, ⊎_elim, ℕ, zer
 use Rattle.std.specs.Prelude.{option_map}
 use Rattle.std.specs.List.{list_any, range_with_len}
 use Rattle.std.proofs.lemmas.Bool.{cases_eq, cases_lt}
+use Rattle.std.proofs.lemmas.List.{append-nil}
 use Rattle.hm_sizes.specs.Shapes.{place}
 use Rattle.hm_class_rules.specs.State.{is_free}
 use Rattle.hm_class_rules.specs.DrawnLaws.{FindsFirst, FindsSome}
@@ -22,16 +23,12 @@ find_past f a zero rest none = refl
 find_past f a (suc n) rest none =
     ap (λ b. cond b (Some a) (find f (range_with_len (a + 1) n ++ rest))) (none a (omega arith) (omega arith)) ∙ find_past f (a + 1) n rest (λ k low high. none k (omega arith) (omega arith))
 
-append_none : (xs : List ℕ) → xs ++ [] ≡ xs
-append_none [] = refl
-append_none (x ∷ xs) = ap (λ (l : List ℕ). x ∷ l) (append_none xs)
-
 found : (f : ℕ → Bool) (slots i j : ℕ) → i < slots → j < slots → f j ≡ true → ((k : ℕ) → k < slots → ((i ≤ k) × (k < j)) ⊎ ((j < i) × ((i ≤ k) ⊎ (k < j))) → f k ≡ false)
     → find f (range_with_len i (slots - i) ++ range_with_len 0 i) ≡ Some j
 found f slots i j start slot is first =
     ⊎_elim
     (λ below. find_past f i (slots - i) (range_with_len 0 i) (λ k low high. first k (omega arith) (inr (below, inl low)))
-    ∙ ap (λ (l : List ℕ). find f l) (sym (append_none (range_with_len 0 i)))
+    ∙ ap (λ (l : List ℕ). find f l) (sym (append-nil (range_with_len 0 i)))
     ∙ find_from f 0 i j [] (omega arith) (omega arith) is (λ k low high. first k (omega arith) (inr (below, inr high))))
     (λ ge. find_from f i (slots - i) j (range_with_len 0 i) ge (omega arith) is (λ k low high. first k (omega arith) (inl (low, high))))
     (cases_lt j i)

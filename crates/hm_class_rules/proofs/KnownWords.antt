@@ -10,7 +10,7 @@ use Rattle.hm_class_rules.specs.Drawn.{IsDrawn, AreDrawn}
 use Rattle.hm_class_rules.specs.Stepped.{first_cells, next, IsSteppedEntry}
 use Rattle.hm_class_rules.specs.DrawnExamples.{first_region, first_entries, canary_zero, first_slot, paired, latest_source, earlier_source, undrawn, first_slots, waiting_room, oldest_released, parked, same_place, parked_later, second_word}
 use Rattle.hm_class_rules.proofs.Alike.{stepped_drawn}
-use Rattle.hm_class_rules.proofs.Whole.{same_Some}
+use Rattle.std.proofs.lemmas.Option.{same_Some}
 
 some_none : {A : Type 0} (x : A) → Some x ≡ None → ⊥
 some_none x e = cc

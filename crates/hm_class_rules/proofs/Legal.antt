@@ -3,6 +3,7 @@ use Rattle.std.proofs.Common.{◌≡◌, ◌≢◌, ◌⊎◌, inl, inr, ⊎_eli
 use Rattle.std.specs.List.{list_all, range_with_len}
 use Rattle.std.proofs.lemmas.Bool.{cases_lt, and_parts}
 use Rattle.std.proofs.lemmas.Nat.{rows}
+use Rattle.std.proofs.lemmas.Option.{none-some, same_Some}
 use Rattle.hm_model.specs.declared.entry.Entry.{Entry}
 use Rattle.hm_model.specs.declared.entry.Call.{Call}
 use Rattle.hm_model.specs.declared.entry.Call.TheVariants.{Allot, GiveBack, Fill}
@@ -13,7 +14,7 @@ use Rattle.hm_sizes.specs.declared.shape.Shape.{Shape}
 use Rattle.hm_model.specs.Machine.{Legal_push, Legal_split, run_keeps}
 use Rattle.hm_model.specs.Maps.{among}
 use Rattle.hm_class_rules.specs.State.{State, start, is_open, is_taken, is_free, is_empty, empty_slabs, unopened}
-use Rattle.hm_sizes.proofs.PlaceTest.{place_is}
+use Rattle.hm_sizes.proofs.PlaceTest.{place_is, slot_row}
 use Rattle.hm_sizes.specs.Shapes.{place, slab_of, slot_of, IsPlaceOf}
 use Rattle.hm_model.specs.Runs.{expand}
 use Rattle.hm_class_rules.specs.Steps.{opened, takes_back, releases, unparks, retires, purges, moved, step}
@@ -33,24 +34,18 @@ pub one_less : OneLess
 one_less t es e legal = let r = Legal_split (step t.shape) (Allowed t) start es (e ∷ []) legal in (r.0, r.1.0)
 
 -- ---- every step keeps the lists sound
-none_some : (x : ℕ) → None ≡ Some x → ⊥
-none_some x e = cc
-
-some_same : (x y : ℕ) → Some x ≡ Some y → x ≡ y
-some_same x y e = cc
-
 pub source_new : (p : Shape) (s : State) (o : Option ℕ) (n m : ℕ) → Source p s o n → o ≡ Some m → unopened p s.shut s.next ≡ Some m
-source_new p s None n m source e = absurd (none_some m e)
+source_new p s None n m source e = absurd (none-some m e)
 source_new p s (Some k) n m source e = source.2 ∙ e
 
 pub surplus_empty : (p : Shape) (s : State) (o : Option ℕ) (m : ℕ) → surplus p s o ≡ Some m → is_empty p s m ≡ true
-surplus_empty p s None m e = absurd (none_some m e)
+surplus_empty p s None m e = absurd (none-some m e)
 surplus_empty p s (Some b) m e =
     elim (is_empty p s (slab_of p b)) as (λ x. is_empty p s (slab_of p b) ≡ x → cond (x && nat_lt 131072 (length (empty_slabs p s) * p.slab)) (Some (slab_of p b)) None ≡ Some m → is_empty p s m ≡ true) [
-      | false ↦ λ is h. absurd (none_some m h)
+      | false ↦ λ is h. absurd (none-some m h)
       | true ↦ λ is. elim (nat_lt 131072 (length (empty_slabs p s) * p.slab)) as (λ y. cond y (Some (slab_of p b)) None ≡ Some m → is_empty p s m ≡ true) [
-        | true ↦ λ h. subst (λ (k : ℕ). is_empty p s k ≡ true) (some_same (slab_of p b) m h) is
-        | false ↦ λ h. absurd (none_some m h)
+        | true ↦ λ h. subst (λ (k : ℕ). is_empty p s k ≡ true) (same_Some (slab_of p b) m h) is
+        | false ↦ λ h. absurd (none-some m h)
       ]
     ] refl e
 
@@ -79,17 +74,17 @@ out_purge p s None h = h
 out_purge p s (Some m) h = sound_write p s _ _ h
 
 unparks_one : (most : ℕ) (parked : List ℕ) (u : Option ℕ) (v : ℕ) → Unparks most parked u → u ≡ Some v → among v parked ≡ true
-unparks_one most parked None v a e = absurd (none_some v e)
-unparks_one most parked (Some w) v a e = subst (λ (k : ℕ). among k parked ≡ true) (some_same w v e) a.0
+unparks_one most parked None v a e = absurd (none-some v e)
+unparks_one most parked (Some w) v a e = subst (λ (k : ℕ). among k parked ≡ true) (same_Some w v e) a.0
 
 unparked_was : (t : Terms) (s : State) (before now : ℕ) (c : Choices) (o : Option ℕ) → Empties t s before now c o → (v : ℕ) → c.unparked ≡ Some v → among v s.parked ≡ true
-unparked_was t s before now c None a v e = absurd (none_some v (sym a.2 ∙ e))
+unparked_was t s before now c None a v e = absurd (none-some v (sym a.2 ∙ e))
 unparked_was t s before now c (Some m) a v e =
-    ⊎_elim (λ l. unparks_one t.config.park_length s.parked c.unparked v l.2 e) (λ r. absurd (none_some v (sym r.2 ∙ e))) a
+    ⊎_elim (λ l. unparks_one t.config.park_length s.parked c.unparked v l.2 e) (λ r. absurd (none-some v (sym r.2 ∙ e))) a
 
 pub retired_was : (t : Terms) (s : State) (before now : ℕ) (c : Choices) (o : Option ℕ) → Empties t s before now c o → (m : ℕ) → c.retired ≡ Some m → o ≡ Some m
-retired_was t s before now c None a m e = absurd (none_some m (sym a.0 ∙ e))
-retired_was t s before now c (Some k) a m e = ⊎_elim (λ l. sym l.0 ∙ e) (λ r. absurd (none_some m (sym r.0 ∙ e))) a
+retired_was t s before now c None a m e = absurd (none-some m (sym a.0 ∙ e))
+retired_was t s before now c (Some k) a m e = ⊎_elim (λ l. sym l.0 ∙ e) (λ r. absurd (none-some m (sym r.0 ∙ e))) a
 
 sound_freed : (t : Terms) (s : State) (before now : ℕ) (c : Choices) (a : ℕ) (stated : Option ℕ) → IsShape t.shape → IsSound t.shape s → AllowsFreed t s before now c a stated
     → IsSound t.shape (purges t.shape c.purged (retires c.retired (unparks c.unparked (releases c.released (takes_back t.shape a s)))))
@@ -141,10 +136,7 @@ pub sound : Sound
 sound t es shape legal = run_keeps (step t.shape) (Allowed t) (IsSound t.shape) (λ s e h allowed. sound_step t s e shape h allowed) start es (sound_start t.shape shape) legal
 
 -- ---- live slots
-pub slot_row : (slot i n : ℕ) → i < n → i * slot + slot ≤ n * slot
-slot_row slot i n lt = grind (arith, rows)
-
-slab_row : (first slab m n : ℕ) → m < n → (first + m * slab) + slab ≤ first + n * slab
+pub slab_row : (first slab m n : ℕ) → m < n → (first + m * slab) + slab ≤ first + n * slab
 slab_row first slab m n lt = grind (arith, rows)
 
 pub places_apart : (p : Shape) (a b n i m j : ℕ) → IsShape p → IsPlaceOf p a n i → IsPlaceOf p b m j → a ≢ b → (a + p.slot ≤ b) ⊎ (b + p.slot ≤ a)

@@ -2,8 +2,9 @@
 use Rattle.std.proofs.Common.{◌≡◌, inl, inr, ⊎_elim, ℕ, ◌+◌, ◌<◌, ◌≤◌, ◌==◌, Bool, true, false, cond, not, ◌&&◌, ◌||◌, List, [], ◌∷◌, length, Some, None, sym, ◌∙◌, ap, subst, refl, arith, true≢false}
 use Rattle.std.specs.List.{list_any, filter}
 use Rattle.std.proofs.lemmas.Bool.{cases_eq}
+use Rattle.std.proofs.lemmas.Option.{same_Some}
 use Rattle.hm_model.specs.Maps.{among, times, keys}
-use Rattle.hm_model.proofs.Lists.{times_none, times_here, times_apart, among_times, eq_same}
+use Rattle.hm_model.proofs.Lists.{times_among, times_none, times_here, times_apart, eq_same}
 use Rattle.hm_sizes.specs.declared.shape.Shape.{Shape}
 use Rattle.hm_sizes.specs.Shapes.{IsShape}
 use Rattle.hm_class_rules.specs.State.{State, has_free, is_partial, is_empty, empty_slabs, none_partial, none_empty}
@@ -13,10 +14,10 @@ use Rattle.hm_class_rules.specs.Kinds.{Kind, Partial, Empty, same_kind, kind, no
 use Rattle.hm_class_rules.specs.Stepped.{front}
 use Rattle.hm_class_rules.proofs.Sound.{has_times}
 use Rattle.hm_class_rules.proofs.Legal.{empty_open}
+use Rattle.hm_class_rules.proofs.Delay.{among_here}
 use Rattle.hm_class_rules.proofs.Fronts.{Shows, Falls}
 use Rattle.hm_class_rules.proofs.Parking.{only_one}
 use Rattle.hm_class_rules.proofs.Streams.{one_most}
-use Rattle.hm_class_rules.proofs.Whole.{same_Some}
 use Rattle.hm_class_rules.proofs.Changes.{kind_by}
 
 -- ---- kinds as tests
@@ -49,12 +50,7 @@ falls_once f n (x ∷ list) falls =
 
 times_by : (n : ℕ) (list : List ℕ) (b : Bool) → times n list ≤ 1 → among n list ≡ b → times n list ≡ cond b 1 0
 times_by n list false once e = times_none n list e
-times_by n list true once e = only_one (times n list) (at_least n list e) once
-  where
-    at_least : (n : ℕ) (xs : List ℕ) → among n xs ≡ true → 1 ≤ times n xs
-    at_least n [] e = absurd (true≢false (sym e))
-    at_least n (x ∷ xs) e =
-        elim (x == n) as (λ b. (b || among n xs) ≡ true → 1 ≤ cond b 1 0 + times n xs) [ true ↦ λ h. omega arith | false ↦ λ h. omega (arith, at_least n xs h) ] e
+times_by n list true once e = only_one (times n list) (times_among n list e) once
 
 -- the kinds of all slabs in this state
 abbrev pub KindsAre : Shape → State → List (ℕ → Kind) → Type 0
@@ -141,7 +137,7 @@ pub empty_length : (p : Shape) (s : State) (past : List (ℕ → Kind)) (list : 
 empty_length p s past list shape sound kinds shows = equally_long list (empty_slabs p s) (λ n. empty_times p s past list kinds shows n ∙ sym (empty_slab_times p s n shape sound))
 
 -- ---- the front of the lists is a source
-any_none : (f : ℕ → Bool) (xs : List ℕ) → ((n : ℕ) → f n ≡ false) → list_any f xs ≡ false
+pub any_none : (f : ℕ → Bool) (xs : List ℕ) → ((n : ℕ) → f n ≡ false) → list_any f xs ≡ false
 any_none f [] none = refl
 any_none f (x ∷ xs) none = ap (λ b. b || list_any f xs) (none x) ∙ any_none f xs none
 
@@ -151,15 +147,12 @@ no_partial p s past kinds shows = ap (λ b. not b) (any_none (is_partial p s) (k
 no_empty : (p : Shape) (s : State) (past : List (ℕ → Kind)) → KindsAre p s past → Shows Empty past [] → none_empty p s ≡ true
 no_empty p s past kinds shows = ap (λ b. not b) (any_none (is_empty p s) (keys s.opens) (λ n. sym (empty_among p s past [] kinds shows n)))
 
-head_among : (x : ℕ) (xs : List ℕ) → among x (x ∷ xs) ≡ true
-head_among x xs = among_times x (x ∷ xs) (omega (arith, times_here x xs))
-
 pub front_source : (p : Shape) (s : State) (past : List (ℕ → Kind)) (partial empty : List ℕ) → KindsAre p s past → Shows Partial past partial → Shows Empty past empty → (n : ℕ) → front partial empty ≡ Some n → Source p s None n
 front_source p s past [] [] kinds shows empties n e = absurd (cc)
 front_source p s past [] (x ∷ xs) kinds shows empties n e =
-    inr (no_partial p s past kinds shows, subst (λ (k : ℕ). is_empty p s k ≡ true) (same_Some x n e) (sym (empty_among p s past (x ∷ xs) kinds empties x) ∙ head_among x xs))
+    inr (no_partial p s past kinds shows, subst (λ (k : ℕ). is_empty p s k ≡ true) (same_Some x n e) (sym (empty_among p s past (x ∷ xs) kinds empties x) ∙ among_here x xs))
 front_source p s past (x ∷ xs) empty kinds shows empties n e =
-    inl (subst (λ (k : ℕ). is_partial p s k ≡ true) (same_Some x n e) (sym (partial_among p s past (x ∷ xs) kinds shows x) ∙ head_among x xs))
+    inl (subst (λ (k : ℕ). is_partial p s k ≡ true) (same_Some x n e) (sym (partial_among p s past (x ∷ xs) kinds shows x) ∙ among_here x xs))
 
 pub no_front : (p : Shape) (s : State) (past : List (ℕ → Kind)) (partial empty : List ℕ) → KindsAre p s past → Shows Partial past partial → Shows Empty past empty → front partial empty ≡ None → NoneServes p s
 no_front p s past [] [] kinds shows empties e = (no_partial p s past kinds shows, no_empty p s past kinds empties)

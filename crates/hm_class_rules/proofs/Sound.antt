@@ -3,6 +3,7 @@ use Rattle.std.proofs.Common.{◌≡◌, ◌≢◌, ◌⊎◌, inl, inr, ⊎_eli
 use Rattle.std.specs.List.{list_all, range_with_len}
 use Rattle.std.proofs.lemmas.Bool.{cases_eq, cases_lt, and_parts}
 use Rattle.std.proofs.lemmas.Nat.{div-add-mod'}
+use Rattle.std.proofs.lemmas.Option.{none-some, same_Some}
 use Rattle.std.proofs.Math.Nat.{mul-mod_left}
 use Rattle.std.proofs.lemmas.Bool.Decides.{nat_tests}
 use Rattle.std.specs.Int.{to_le_bytes}
@@ -268,21 +269,15 @@ open_put n m b l e = times_has m (put n b l) (⊎_elim
     (λ ne. omega (arith, put_other m n b l ne, has_times m l e))
     (cases_eq n m))
 
-same_Some : {A : Type 0} (x y : A) → Some x ≡ Some y → x ≡ y
-same_Some x y e = cc
-
 next_is : (n next limit : ℕ) → cond (nat_lt next limit) (Some next) None ≡ Some n → (next ≡ n) × (next < limit)
 next_is n next limit e =
     elim (nat_lt next limit) as (λ b. nat_lt next limit ≡ b → cond b (Some next) None ≡ Some n → (next ≡ n) × (next < limit)) [
       | true ↦ λ is h. (same_Some next n h, below next limit is)
-      | false ↦ λ is h. absurd (none_some n h)
+      | false ↦ λ is h. absurd (none-some n h)
     ] refl e
   where
     below : (a b : ℕ) → nat_lt a b ≡ true → a < b
     below a b e = grind (arith, nat_tests)
-
-    none_some : (x : ℕ) → None ≡ Some x → ⊥
-    none_some x e = cc
 
 pub sound_fresh : (p : Shape) (s : State) (n : ℕ) (b : Slab) → IsShape p → n ≡ s.next → n < p.limit → IsSound p s → IsSound p (record s { next = after p s.next; opens = put n b s.opens })
 sound_fresh p s n b shape is lt h =

@@ -1,10 +1,11 @@
 -- Each open slab has all its bytes.
-use Rattle.std.proofs.Common.{◌≡◌, ◌≢◌, ⊎_elim, ℕ, suc, ◌+◌, ◌==◌, Bool, true, false, cond, not, List, [], ◌∷◌, length, replicate, Option, Some, None, unwrap_or, sym, ◌∙◌, ap, refl, arith}
+use Rattle.std.proofs.Common.{◌≡◌, ◌≢◌, ⊎_elim, ℕ, ◌+◌, ◌==◌, Bool, true, false, cond, not, List, [], ◌∷◌, length, replicate, Option, Some, None, unwrap_or, sym, ◌∙◌, ap, refl, arith}
 use Rattle.std.specs.Int.{to_le_bytes}
 use mir.Syntax.{w64}
 use Rattle.std.proofs.lemmas.Bool.{cases_eq}
 use Rattle.std.proofs.lemmas.Bool.Decides.{nat_tests}
 use Rattle.std.proofs.lemmas.List.{length-replicate}
+use Rattle.std.proofs.lemmas.Option.{none-some, same_Some}
 use Rattle.hm_outside.specs.PageRuns.{zeros}
 use Rattle.hm_model.specs.declared.entry.Call.{Call}
 use Rattle.hm_model.specs.declared.entry.Call.TheVariants.{Allot, GiveBack, Fill}
@@ -16,33 +17,24 @@ use Rattle.hm_model.specs.Maps.{at, removed, put}
 use Rattle.hm_model.specs.Overlaid.{overlaid}
 use Rattle.hm_model.specs.Runs.{expand}
 use Rattle.hm_model.proofs.Lists.{eq_same, eq_other}
+use Rattle.hm_model.proofs.Overlaid.{length_overlaid}
 use Rattle.hm_sizes.specs.declared.shape.Shape.{Shape}
 use Rattle.hm_sizes.specs.Shapes.{has_bytes, usable, slab_at}
 use Rattle.hm_class_rules.specs.State.{State, Slab, start}
 use Rattle.hm_class_rules.specs.Bytes.{overlaid_slabs, kept_canary}
-use Rattle.hm_class_rules.specs.Steps.{taken_new, new_slab, opened, takes_back, releases, unparks, retires, purges, moved, step}
+use Rattle.hm_class_rules.specs.Steps.{new_slab, opened, takes_back, releases, unparks, retires, purges, moved, step}
 use Rattle.hm_class_rules.specs.Rules.{Allowed}
 use Rattle.hm_class_rules.specs.Laws.{bytes_of_slab, AllWhole, WholeSlabs}
-
-pub none_some : {A : Type 0} (x : A) → None ≡ Some x → ⊥
-none_some x e = cc
-
-pub same_Some : {A : Type 0} (x y : A) → Some x ≡ Some y → x ≡ y
-same_Some x y e = cc
 
 eq_flip : (x a k : ℕ) → (x == a) ≡ true → a ≢ k → (x == k) ≡ false
 eq_flip x a k e ne = grind (arith, nat_tests)
 
 -- ---- a slab with bytes written over its own
-pub length_overlaid : (a : ℕ) (w : List ℕ) (q : ℕ) (b : List ℕ) → length (overlaid a w q b) ≡ length b
-length_overlaid a w q [] = refl
-length_overlaid a w q (x ∷ b) = ap suc (length_overlaid a w (q + 1) b)
-
 abbrev pub over : Shape → ℕ → List ℕ → ℕ → Slab → Slab
 over p a w n b = record { bytes = overlaid a w (slab_at p n) b.bytes; canary = b.canary }
 
 pub at_over : (p : Shape) (a : ℕ) (w : List ℕ) (n : ℕ) (m : List (ℕ × Slab)) (b : Slab) → at n m ≡ Some b → at n (overlaid_slabs p a w m) ≡ Some (over p a w n b)
-at_over p a w n [] b is = absurd (none_some b is)
+at_over p a w n [] b is = absurd (none-some b is)
 at_over p a w n (e ∷ m) b is =
     elim (e.0 == n) as (λ t. (e.0 == n) ≡ t → cond t (Some e.1) (at n m) ≡ Some b → cond t (Some (over p a w e.0 e.1)) (at n (overlaid_slabs p a w m)) ≡ Some (over p a w n b)) [
       | true ↦ λ key h. ap (λ (k : ℕ). Some (over p a w k e.1)) (eq_same e.0 n key) ∙ ap (λ (x : Slab). Some (over p a w n x)) (same_Some e.1 b h)
@@ -50,7 +42,7 @@ at_over p a w n (e ∷ m) b is =
     ] refl is
 
 pub over_at : (p : Shape) (a : ℕ) (w : List ℕ) (n : ℕ) (m : List (ℕ × Slab)) (x : Slab) → at n (overlaid_slabs p a w m) ≡ Some x → (b : Slab) × (at n m ≡ Some b)
-over_at p a w n [] x is = absurd (none_some x is)
+over_at p a w n [] x is = absurd (none-some x is)
 over_at p a w n (e ∷ m) x is =
     elim (e.0 == n) as (λ t. cond t (Some (over p a w e.0 e.1)) (at n (overlaid_slabs p a w m)) ≡ Some x → (b : Slab) × (cond t (Some e.1) (at n m) ≡ Some b)) [
       | true ↦ λ h. (e.1, refl)
@@ -85,7 +77,7 @@ whole_put w n x m len h k b is =
 whole_removed : (w n : ℕ) (m : List (ℕ × Slab)) → AllWhole w m → AllWhole w (removed n m)
 whole_removed w n m h k b is =
     ⊎_elim
-    (λ e. absurd (none_some b (sym (at_removed_same n m) ∙ ap (λ (x : ℕ). at x (removed n m)) e ∙ is)))
+    (λ e. absurd (none-some b (sym (at_removed_same n m) ∙ ap (λ (x : ℕ). at x (removed n m)) e ∙ is)))
     (λ ne. h k b (sym (at_removed n k m ne) ∙ is))
     (cases_eq n k)
 
@@ -96,10 +88,6 @@ whole_write w p a v m h n x is =
 
 length_new : (p : Shape) (k : ℕ) → length (new_slab p k).bytes ≡ bytes_of_slab p
 length_new p k = elim (has_bytes p) as (λ b. length (cond {A = List ℕ} b (replicate {A = ℕ} p.slab 0) []) ≡ cond b p.slab 0) [ true ↦ length-replicate {A = ℕ} p.slab 0 | false ↦ refl ]
-
-new_opens : (p : Shape) (l : List ℕ) (s : State) → (taken_new p l s).opens ≡ s.opens
-new_opens p [] s = refl
-new_opens p (m ∷ ms) s = refl
 
 pub whole_opened : (p : Shape) (o canary : Option ℕ) (s : State) → AllWhole (bytes_of_slab p) s.opens → AllWhole (bytes_of_slab p) (opened p o canary s).opens
 whole_opened p None canary s h = h
@@ -131,4 +119,4 @@ whole_moved p c call reply s h = h
 
 pub whole_run : WholeSlabs
 whole_run t es legal =
-    run_keeps (step t.shape) (Allowed t) (λ s. AllWhole (bytes_of_slab t.shape) s.opens) (λ s e h allowed. whole_moved t.shape e.choices e.call e.reply s h) start es (λ n b is. absurd (none_some b is)) legal
+    run_keeps (step t.shape) (Allowed t) (λ s. AllWhole (bytes_of_slab t.shape) s.opens) (λ s e h allowed. whole_moved t.shape e.choices e.call e.reply s h) start es (λ n b is. absurd (none-some b is)) legal

@@ -7,6 +7,7 @@ use mir.Syntax.{w64}
 use Rattle.std.proofs.lemmas.Bool.Decides.{nat_tests}
 use Rattle.std.proofs.lemmas.List.{length-take, length-drop}
 use Rattle.std.proofs.lemmas.Nat.{div-mul-add, mod-mul-add}
+use Rattle.std.proofs.lemmas.Option.{none-some}
 use Rattle.hm_model.specs.declared.entry.Call.{Call}
 use Rattle.hm_model.specs.declared.entry.Call.TheVariants.{Allot}
 use Rattle.hm_model.specs.declared.entry.Reply.{Reply}
@@ -17,13 +18,14 @@ use Rattle.hm_model.specs.Overlaid.{overlaid}
 use Rattle.hm_model.proofs.Lists.{eq_same}
 use Rattle.hm_sizes.specs.declared.shape.Shape.{Shape}
 use Rattle.hm_sizes.specs.Shapes.{has_bytes, usable, slab_at, slab_of, slot_of}
+use Rattle.hm_sizes.proofs.PlaceTest.{slot_row}
 use Rattle.hm_class_rules.specs.State.{State, Slab, start}
 use Rattle.hm_class_rules.specs.Bytes.{byte_at, bytes_from, usable_bytes, first_nonzero, one_later, kept_canary}
 use Rattle.hm_class_rules.specs.Steps.{opened, gives, moved, step}
 use Rattle.hm_class_rules.specs.Rules.{Allows, Allowed, state, AllowsGiven}
 use Rattle.hm_class_rules.specs.Laws.{bytes_of_slab, Zeroed}
-use Rattle.hm_class_rules.proofs.Legal.{picked_place, slot_row}
-use Rattle.hm_class_rules.proofs.Whole.{none_some, over, at_over, whole_opened, whole_run}
+use Rattle.hm_class_rules.proofs.Legal.{picked_place}
+use Rattle.hm_class_rules.proofs.Whole.{over, at_over, whole_opened, whole_run}
 
 -- ---- single bytes
 pub zero_at : (bs : List ℕ) (j : ℕ) → first_nonzero bs ≡ None → j < length bs → slice_get bs j ≡ Some 0
@@ -31,12 +33,12 @@ zero_at [] j e lt = absurd (omega arith)
 zero_at (b ∷ bs) j e lt =
     elim (b == 0) as (λ t. (b == 0) ≡ t → cond t (one_later (first_nonzero bs)) (Some (0, b)) ≡ None → slice_get (b ∷ bs) j ≡ Some 0) [
       | true ↦ λ is h. at_place (λ i l. zero_at bs i (later (first_nonzero bs) h) l) j lt (eq_same b 0 is)
-      | false ↦ λ is h. absurd (none_some (0, b) (sym h))
+      | false ↦ λ is h. absurd (none-some (0, b) (sym h))
     ] refl e
   where
     later : (o : Option (ℕ × ℕ)) → one_later o ≡ None → o ≡ None
     later None h = refl
-    later (Some r) h = absurd (none_some (r.0 + 1, r.1) (sym h))
+    later (Some r) h = absurd (none-some (r.0 + 1, r.1) (sym h))
 
     at_place : ((i : ℕ) → i < length bs → slice_get bs i ≡ Some 0) → (j : ℕ) → j < length (b ∷ bs) → b ≡ 0 → slice_get (b ∷ bs) j ≡ Some 0
     at_place rest zero lt z = ap (λ (x : ℕ). Some x) z
@@ -92,7 +94,7 @@ some_usable p k fits lt =
       | false ↦ λ h. absurd (omega arith)
     ] lt
 
-opens_some : (m : List (ℕ × Slab)) (n : ℕ) → has n m ≡ true → (b : Slab) × (at n m ≡ Some b)
+pub opens_some : (m : List (ℕ × Slab)) (n : ℕ) → has n m ≡ true → (b : Slab) × (at n m ≡ Some b)
 opens_some m n e = elim (at n m) as (λ o. is_some o ≡ true → (b : Slab) × (o ≡ Some b)) [ None ↦ λ h. absurd (true≢false (sym h)) | Some b ↦ λ h. (b, refl) ] e
 
 pub zeroed : Zeroed

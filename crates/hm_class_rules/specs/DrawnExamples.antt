@@ -25,14 +25,26 @@ retires addr slab unparked = chose None None (Some addr) (Some slab) None unpark
 abbrev pub first_region : Terms
 first_region = record {
   config = standard;
-  shape = record { class = record { 0 = 7 }; slot = 112; slots = 36; slab = 4096; first = 1592101122048; limit = 8388608; guard_interval = 1; array = 2048; ring = 2048 };
+  shape = record {
+    class = record { 0 = 7 };
+    slot = 112;
+    slots = 36;
+    slab = 4096;
+    first = 1592101122048;
+    limit = 8388608;
+    guard_interval = 1;
+    array = 2048;
+    ring = 2048;
+  };
   told = true;
 }
 
 -- a block at this address of a slab with this canary, its free, and a second free of it
 abbrev pub given_and_freed : ℕ → ℕ → List Entry
 given_and_freed addr canary =
-    record (entry (Allot 100 1) (Given addr 104) (opens 0 canary)) { draws = record { used = 3; w0 = 3231088256; w1 = 3392945114; w2 = 2935142444 } }
+    record (entry (Allot 100 1) (Given addr 104) (opens 0 canary)) {
+      draws = record { used = 3; w0 = 3231088256; w1 = 3392945114; w2 = 2935142444 };
+    }
     ∷ drawing 2409532924 (entry (GiveBack addr None) Freed no_choices)
     ∷ entry (GiveBack addr None) DoubleFree no_choices ∷ []
 
@@ -51,7 +63,17 @@ first_slot = given_and_freed 1592101122048 14572588304984079872
 abbrev pub paired : Terms
 paired = record {
   config = standard;
-  shape = record { class = record { 0 = 0 }; slot = 2048; slots = 2; slab = 4096; first = 1099511631872; limit = 64; guard_interval = 1; array = 0; ring = 0 };
+  shape = record {
+    class = record { 0 = 0 };
+    slot = 2048;
+    slots = 2;
+    slab = 4096;
+    first = 1099511631872;
+    limit = 64;
+    guard_interval = 1;
+    array = 0;
+    ring = 0;
+  };
   told = true;
 }
 
@@ -80,13 +102,25 @@ abbrev pub undrawn : Terms
 undrawn = record paired { config = record standard { random_slots = false } }
 
 abbrev pub first_slots : List Entry
-first_slots = entry (Allot 0 1) (Given 1099511631872 0) (opens_bare 0) ∷ entry (Allot 0 1) (Given 1099511633920 0) no_choices ∷ []
+first_slots =
+    entry (Allot 0 1) (Given 1099511631872 0) (opens_bare 0)
+    ∷ entry (Allot 0 1) (Given 1099511633920 0) no_choices ∷ []
 
 -- an array of two places and a ring of one
 abbrev pub waiting_room : Terms
 waiting_room = record {
   config = standard;
-  shape = record { class = record { 0 = 0 }; slot = 1024; slots = 4; slab = 4096; first = 1099511631872; limit = 64; guard_interval = 1; array = 2; ring = 1 };
+  shape = record {
+    class = record { 0 = 0 };
+    slot = 1024;
+    slots = 4;
+    slab = 4096;
+    first = 1099511631872;
+    limit = 64;
+    guard_interval = 1;
+    array = 2;
+    ring = 1;
+  };
   told = true;
 }
 
@@ -103,17 +137,31 @@ three_freed =
 
 -- the fourth free pushes the second out of the array, and so the first out of the ring
 abbrev pub oldest_released : List Entry
-oldest_released = three_freed ++ (drawing 1062052300 (entry (GiveBack 1099511633920 None) Freed (frees 1099511634944)) ∷ [])
+oldest_released =
+    three_freed
+    ++ (drawing 1062052300 (entry (GiveBack 1099511633920 None) Freed (frees 1099511634944)) ∷ [])
 
 -- the second is released
 abbrev pub newest_released : List Entry
-newest_released = three_freed ++ (drawing 1062052300 (entry (GiveBack 1099511633920 None) Freed (frees 1099511632896)) ∷ [])
+newest_released =
+    three_freed
+    ++ (drawing 1062052300 (entry (GiveBack 1099511633920 None) Freed (frees 1099511632896)) ∷ [])
 
 -- slabs of one slot and 131,072 bytes of address space, and two parking places
 abbrev pub parked : Terms
 parked = record {
   config = record standard { park_length = 2 };
-  shape = record { class = record { 0 = 0 }; slot = 131072; slots = 1; slab = 131072; first = 1099511631872; limit = 64; guard_interval = 1; array = 0; ring = 0 };
+  shape = record {
+    class = record { 0 = 0 };
+    slot = 131072;
+    slots = 1;
+    slab = 131072;
+    first = 1099511631872;
+    limit = 64;
+    guard_interval = 1;
+    array = 0;
+    ring = 0;
+  };
   told = true;
 }
 
@@ -139,11 +187,25 @@ same_place =
 
 -- slab 4 is unparked
 abbrev pub other_place : List Entry
-other_place = two_parked ++ (drawing 1062052300 (entry (GiveBack 1099511631872 None) Freed (retires 1099511631872 0 (Some 4))) ∷ [])
+other_place =
+    two_parked
+    ++ (drawing 1062052300 (entry (GiveBack 1099511631872 None) Freed (retires 1099511631872 0 (Some 4))) ∷ [])
 
 -- the same with an array of one place, in the run of seed 1
 abbrev pub parked_later : Terms
-parked_later = record parked { shape = record { class = record { 0 = 0 }; slot = 131072; slots = 1; slab = 131072; first = 1099511631872; limit = 64; guard_interval = 1; array = 1; ring = 0 } }
+parked_later = record parked {
+  shape = record {
+    class = record { 0 = 0 };
+    slot = 131072;
+    slots = 1;
+    slab = 131072;
+    first = 1099511631872;
+    limit = 64;
+    guard_interval = 1;
+    array = 1;
+    ring = 0;
+  };
+}
 
 -- each free releases the slot that was freed before; slab 2 is retired to place 0
 abbrev pub one_parked : List Entry
@@ -160,8 +222,12 @@ one_parked =
 
 -- slab 0 is retired to the place that the second word draws, so slab 2 is unparked
 abbrev pub second_word : List Entry
-second_word = one_parked ++ (drawing_two 3409952611 1247292640 (entry (GiveBack 1099512418304 None) Freed (retires 1099511631872 0 (Some 2))) ∷ [])
+second_word =
+    one_parked
+    ++ (drawing_two 3409952611 1247292640 (entry (GiveBack 1099512418304 None) Freed (retires 1099511631872 0 (Some 2))) ∷ [])
 
 -- no slab is unparked
 abbrev pub nothing_unparked : List Entry
-nothing_unparked = one_parked ++ (drawing_two 3409952611 1247292640 (entry (GiveBack 1099512418304 None) Freed (retires 1099511631872 0 None)) ∷ [])
+nothing_unparked =
+    one_parked
+    ++ (drawing_two 3409952611 1247292640 (entry (GiveBack 1099512418304 None) Freed (retires 1099511631872 0 None)) ∷ [])

@@ -40,7 +40,17 @@ frees addr = chose None None (Some addr) None None None
 abbrev pub seven : Terms
 seven = record {
   config = standard;
-  shape = record { class = record { 0 = 7 }; slot = 112; slots = 36; slab = 4096; first = 4096; limit = 256; guard_interval = 1; array = 0; ring = 0 };
+  shape = record {
+    class = record { 0 = 7 };
+    slot = 112;
+    slots = 36;
+    slab = 4096;
+    first = 4096;
+    limit = 256;
+    guard_interval = 1;
+    array = 0;
+    ring = 0;
+  };
   told = true;
 }
 
@@ -63,7 +73,17 @@ stated_size =
 abbrev pub small : Terms
 small = record {
   config = standard;
-  shape = record { class = record { 0 = 1 }; slot = 16; slots = 2; slab = 32; first = 4096; limit = 4; guard_interval = 1; array = 0; ring = 0 };
+  shape = record {
+    class = record { 0 = 1 };
+    slot = 16;
+    slots = 2;
+    slab = 32;
+    first = 4096;
+    limit = 4;
+    guard_interval = 1;
+    array = 0;
+    ring = 0;
+  };
   told = true;
 }
 
@@ -90,7 +110,17 @@ write_after_free =
 abbrev pub bare : Terms
 bare = record {
   config = standard;
-  shape = record { class = record { 0 = 0 }; slot = 131072; slots = 1; slab = 131072; first = 1103806599168; limit = 262144; guard_interval = 1; array = 0; ring = 0 };
+  shape = record {
+    class = record { 0 = 0 };
+    slot = 131072;
+    slots = 1;
+    slab = 131072;
+    first = 1103806599168;
+    limit = 262144;
+    guard_interval = 1;
+    array = 0;
+    ring = 0;
+  };
   told = true;
 }
 
@@ -108,7 +138,17 @@ retired_slab =
 abbrev pub ringed : Terms
 ringed = record {
   config = standard;
-  shape = record { class = record { 0 = 0 }; slot = 16; slots = 256; slab = 4096; first = 4096; limit = 4; guard_interval = 1; array = 0; ring = 1 };
+  shape = record {
+    class = record { 0 = 0 };
+    slot = 16;
+    slots = 256;
+    slab = 4096;
+    first = 4096;
+    limit = 4;
+    guard_interval = 1;
+    array = 0;
+    ring = 1;
+  };
   told = true;
 }
 
@@ -133,7 +173,17 @@ given_in_a_guard = entry (Allot 0 1) (Given 8192 0) (opens_bare 1) ∷ []
 abbrev pub unchecked : Terms
 unchecked = record {
   config = record standard { check_reuse = false };
-  shape = record { class = record { 0 = 1 }; slot = 16; slots = 2; slab = 32; first = 4096; limit = 1; guard_interval = 8; array = 0; ring = 0 };
+  shape = record {
+    class = record { 0 = 1 };
+    slot = 16;
+    slots = 2;
+    slab = 32;
+    first = 4096;
+    limit = 1;
+    guard_interval = 8;
+    array = 0;
+    ring = 0;
+  };
   told = true;
 }
 

@@ -1,5 +1,5 @@
 -- A class region by its origin.
-use Rattle.std.proofs.Common.{◌≡◌, ℕ, ◌+◌, ◌*◌, ◌/◌, ◌%◌, ◌^◌, ◌<◌, ◌≤◌, nat_lt, if◌then◌else◌, Bool, true, IsTrue, length, Result, Ok, Err, IfOk, Option, None, sym, ◌∙◌, ap, subst, arith}
+use Rattle.std.proofs.Common.{◌≡◌, ℕ, ◌+◌, ◌*◌, ◌/◌, ◌%◌, ◌<◌, ◌≤◌, nat_lt, if◌then◌else◌, Bool, true, IsTrue, length, Result, Ok, Err, IfOk, Option, None, sym, ◌∙◌, ap, subst, arith}
 use Rattle.std.proofs.lemmas.Bool.{lt-ltb}
 use Rattle.std.proofs.lemmas.Nat.{div-mul-add, mod-mul-add}
 use mathlib.Core.Logic.{inl}
@@ -20,7 +20,7 @@ use Rattle.hm_class.specs.Region.{Region, IsRegion, IsTakenBack, HoldsSlabs, ori
 use Rattle.hm_large.specs.Blocks.{owed}
 use Rattle.hm_large.specs.Rules as large_state
 use Rattle.hm_heap.specs.Accepted.{IsAcceptedFree}
-use Rattle.hm_heap.specs.Lawful.{arena_of, class_in, class_terms, large_terms, IsLawful, IsSound, Holds, fault_count, owed_entries, first_address}
+use Rattle.hm_heap.specs.Lawful.{arena_of, class_in, class_terms, large_terms, IsLawful, IsSound, Holds, fault_count, owed_entries}
 use Rattle.hm_heap.specs.Origins.{numbers_of}
 use Rattle.hm_heap.specs.Requests.{IsReply}
 
@@ -67,11 +67,6 @@ module _ {P : Type 0} (meaning : pages.Ghosts P) (r : Region P) (h : IsRegion me
 
   is_below : nat_lt (origin meaning.told r).region large_region_number ≡ true
   is_below = lt-ltb (origin meaning.told r).region large_region_number class_below
-
-  pub class_first : first_address (origin meaning.told r) ≡ (region_shape r).first
-  class_first =
-      ap (λ (b : Bool). if b then (class_terms (origin meaning.told r)).shape.first else 2 ^ 46) is_below
-      ∙ ap (λ (t : Terms). t.shape.first) same
 
   class_count_is : fault_count (origin meaning.told r) r.entries ≡ (state (terms meaning.told r) r.entries).faults
   class_count_is =

@@ -59,9 +59,6 @@ built_all c number locks turns k l t all_locks all_turns b is one locks_are turn
     (subst (λ (z : List Known). BuildsTo c number (locks ++ l ∷ []) z (region_count c + 1)) (sym turns_are) all)
 
 module _ (c : Config) (number : ℕ) (locks : List Lock) (turns : List Known) (b : BuildsTo c number locks turns (region_count c + 1)) where
-  some_turn : Lock → Known
-  some_turn l = record { lock = l.id; knows = founding l.origin }
-
   pub built_locks : IsValid c → AreLocks c number locks
   built_locks valid = record { valid = valid; count = b.locks_long; each = λ r l lt. (b.each r l (record { lock = l.id; knows = founding l.origin }) (omega (arith, lt, b.locks_long))).origin }
 

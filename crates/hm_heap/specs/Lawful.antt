@@ -1,5 +1,5 @@
 -- Which histories the region of an origin may have, and what is kept of it after one.
-use Rattle.std.specs.Prelude.{◌≡◌, ◌<◌, ◌*◌, ◌/◌, ◌%◌, ◌^◌, ◌⊎◌, ℕ, nat_lt, if◌then◌else◌, IsTrue, List, length}
+use Rattle.std.specs.Prelude.{◌≡◌, ◌<◌, ◌*◌, ◌/◌, ◌%◌, ◌⊎◌, ℕ, nat_lt, if◌then◌else◌, IsTrue, List, length}
 use Rattle.hm_outside.specs.PageRuns.{PageRuns}
 use Rattle.hm_outside.specs.declared.pages.Pages as pages
 use Rattle.hm_model.specs.declared.entry.Entry.{Entry}

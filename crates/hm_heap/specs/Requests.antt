@@ -14,6 +14,7 @@ use Rattle.hm_sizes.specs.Classes.{class_count, class_size}
 use Rattle.hm_sizes.specs.Origins.{Origin, large_region_number}
 use Rattle.hm_sizes.specs.Shapes.{usable}
 use Rattle.hm_sizes.specs.Sizes.{raised}
+use Rattle.hm_large.specs.Rules as large_rules
 use Rattle.hm_heap.specs.declared.request.Request.{Request}
 use Rattle.hm_heap.specs.declared.request.Request.TheVariants as request
 use Rattle.hm_heap.specs.Lawful.{class_terms}
@@ -31,14 +32,10 @@ abbrev pub AsksOfClass : ℕ → Call → Type 0
 AsksOfClass class (Allot asked align) = (raised asked ≤ class_size class) × (align ≡ 1)
 AsksOfClass class call = AsksRange call
 
-abbrev pub AsksOfLarge : Call → Type 0
-AsksOfLarge (Allot asked align) = (asked ≤ 2 ^ 30) × IsAlignment align
-AsksOfLarge call = AsksRange call
-
 -- of the region with this number
 pub record Asks (region : ℕ) (call : Call) : Type 0 where
   pub class : region < large_region_number → AsksOfClass (region % class_count) call
-  pub large : region ≡ large_region_number → AsksOfLarge call
+  pub large : region ≡ large_region_number → large_rules.Asks call
 
 -- of any region, where an address is asked for
 abbrev pub AsksAtHome : Call → Type 0

@@ -1,5 +1,5 @@
 //! The calls of a heap that wait for nobody.
-ghost use Rattle.std.specs.Prelude.{◌≡◌, ◌<◌, ◌^◌, None, length, IfOk};
+ghost use Rattle.std.specs.Prelude.{◌≡◌, ◌<◌, None, length, IfOk};
 ghost use Rattle.hm_heap.specs.Requests.{call_of, Asks, AsksOfKind};
 ghost use Rattle.hm_heap.specs.Passes.{AreOf, region_at};
 ghost use Rattle.hm_heap.specs.Plans.{Part, Tries, ServesTry};
@@ -32,8 +32,7 @@ impl<'g, P: Pages, G: Gate> Heap<'g, P, G> {
         ensures reach { IfOk result AnswerInReach }
     {
         match self.try_make(pass, place, step, 1, request) {
-            Some(Ok(reply)) => Ok(Answer::Reply(reply)),
-            Some(Err(none)) => Err(none),
+            Some(made) => Ok(Answer::Reply(made?)),
             None => Ok(Answer::Busy),
         }
     }

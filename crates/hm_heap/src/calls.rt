@@ -34,10 +34,8 @@ impl<'g, P: Pages, G: Gate> Heap<'g, P, G> {
         ensures answer { Follows pass.old pass.new step 1 (Part place (call_of request.entry) replied) result }
         ensures reach { IfOk result AnswerInReach }
     {
-        match self.make(rt, pass, place, step, 1, request) {
-            Ok(reply) => Ok(Answer::Reply(reply)),
-            Err(none) => Err(none),
-        }
+        let reply = self.make(rt, pass, place, step, 1, request)?;
+        Ok(Answer::Reply(reply))
     }
 
     // The only part of a call, in the region of an address.

@@ -1,7 +1,7 @@
 //! How a heap is closed, once every pass is joined: the history and the pages of each region.
-ghost use Rattle.std.specs.Prelude.{◌≡◌, ℕ, ◌+◌, ◌<◌, ◌≤◌, vec_capacity, length, slice_index_or, vec_len, IfOk};
+ghost use Rattle.std.specs.Prelude.{◌≡◌, ℕ, ◌<◌, ◌≤◌, vec_capacity, slice_index_or, vec_len, IfOk};
 ghost use Rattle.hm_sizes.specs.declared.config.Config.{Config};
-ghost use Rattle.hm_turn.specs.Known.{Known, Lock, IsOf, IsWhole};
+ghost use Rattle.hm_turn.specs.Known.{Known, Lock, IsOf};
 ghost use Rattle.hm_heap.specs.Origins.{origin_in};
 ghost use Rattle.hm_heap.specs.Regions.{entries_of, origin_of};
 ghost use Rattle.hm_heap.specs.Passes.{AreOf, region_at};

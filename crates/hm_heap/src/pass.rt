@@ -35,18 +35,21 @@ impl Model for Pass {
 }
 
 impl Pass {
+    /// 0 for the root, and a number of its own for each pass that was split off.
     pub fn caller(&self) -> u32
         ensures { result ≡ self.now.caller }
     {
         self.caller
     }
 
+    /// The round in which its calls are made, 0 for the root.
     pub fn round(&self) -> u32
         ensures { result ≡ self.now.round }
     {
         self.round
     }
 
+    /// The thread that makes its calls, from 1. It says in which arena small blocks are asked for.
     pub fn thread(&self) -> u32
         ensures { result ≡ self.now.thread }
     {

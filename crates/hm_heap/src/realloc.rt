@@ -64,13 +64,12 @@ impl<'g, P: Pages, G: Gate> Heap<'g, P, G> {
             addr: moved.addr,
             stated: None,
         };
-        match self.make(rt, pass, moved.home, step, part, request) {
-            Err(none) => Err(none),
-            Ok(Reply::Freed) => Ok(Answer::Reply(Reply::Given {
+        match self.make(rt, pass, moved.home, step, part, request)? {
+            Reply::Freed => Ok(Answer::Reply(Reply::Given {
                 addr: moved.new,
                 usable: moved.usable,
             })),
-            Ok(cause) => Ok(moved.half(cause)),
+            cause => Ok(moved.half(cause)),
         }
     }
 
@@ -99,10 +98,9 @@ impl<'g, P: Pages, G: Gate> Heap<'g, P, G> {
             addr: moved.new,
             runs,
         };
-        match self.make(rt, pass, moved.place, step, 4, request) {
-            Err(none) => Err(none),
-            Ok(Reply::Filled) => self.release(rt, pass, step, 5, moved),
-            Ok(cause) => Ok(moved.half(cause)),
+        match self.make(rt, pass, moved.place, step, 4, request)? {
+            Reply::Filled => self.release(rt, pass, step, 5, moved),
+            cause => Ok(moved.half(cause)),
         }
     }
 
@@ -133,10 +131,9 @@ impl<'g, P: Pages, G: Gate> Heap<'g, P, G> {
             addr: moved.addr,
             len: count,
         };
-        match self.make(rt, pass, moved.home, step, 3, request) {
-            Err(none) => Err(none),
-            Ok(Reply::Bytes(runs)) => self.fill_new(rt, pass, step, moved, &runs),
-            Ok(cause) => Ok(moved.half(cause)),
+        match self.make(rt, pass, moved.home, step, 3, request)? {
+            Reply::Bytes(runs) => self.fill_new(rt, pass, step, moved, &runs),
+            cause => Ok(moved.half(cause)),
         }
     }
 
@@ -166,9 +163,8 @@ impl<'g, P: Pages, G: Gate> Heap<'g, P, G> {
         ensures reach { IfOk result AnswerInReach }
     {
         let request = Request::Allot { asked, align: 1 };
-        match self.make(rt, pass, place, step, 2, request) {
-            Err(none) => Err(none),
-            Ok(Reply::Given { addr: new, usable }) => {
+        match self.make(rt, pass, place, step, 2, request)? {
+            Reply::Given { addr: new, usable } => {
                 let moved = Move {
                     home,
                     place,
@@ -178,7 +174,7 @@ impl<'g, P: Pages, G: Gate> Heap<'g, P, G> {
                 };
                 self.copy_bytes(rt, pass, step, moved, count)
             }
-            Ok(refused) => Ok(Answer::Reply(refused)),
+            refused => Ok(Answer::Reply(refused)),
         }
     }
 
@@ -209,16 +205,15 @@ impl<'g, P: Pages, G: Gate> Heap<'g, P, G> {
         ensures reach { IfOk result AnswerInReach }
     {
         let request = Request::Measure { addr };
-        match self.make(rt, pass, home, step, 1, request) {
-            Err(none) => Err(none),
-            Ok(Reply::Usable(old)) => {
+        match self.make(rt, pass, home, step, 1, request)? {
+            Reply::Usable(old) => {
                 if keeps(&self.config, home, kind, old) {
                     Ok(Answer::Kept { addr, usable: old })
                 } else {
                     self.move_block(rt, pass, step, home, place, addr, asked, old.min(asked))
                 }
             }
-            Ok(refused) => Ok(Answer::Reply(refused)),
+            refused => Ok(Answer::Reply(refused)),
         }
     }
 

@@ -1,6 +1,5 @@
 //! A region is what a lock keeps. Each call of it is made in the region of its own kind.
 ghost use Rattle.std.specs.Prelude.{◌≡◌, ◌≤◌, IfOk, IsOk, OnErr};
-ghost use Rattle.hm_model.specs.Calls.{Adds};
 ghost use Rattle.hm_class.specs.Region as class_region;
 ghost use Rattle.hm_class.specs.Calls as class_calls;
 ghost use Rattle.hm_large.specs.Region as large_region;
@@ -49,6 +48,7 @@ fn serve_class<P: Pages>(
     ensures accepted { IsAccepted (class_region.origin P.told heap.old) heap.old.entries (call_of request.entry)
         → IsOk result }
 {
+    // The region's rules hold, so its number is that of a class region.
     let _ = heap.entries();
     match request {
         Request::Allot { asked, align: _ } => heap.allot(who, asked),
@@ -109,6 +109,7 @@ impl<P: Pages> Region<P> {
     {
         match self {
             Region::Class(heap) => {
+                // The region's rules hold, so its number is that of a class region.
                 let _ = heap.entries();
                 heap.shape().first
             }

@@ -1,6 +1,6 @@
-//! Tables of calls of a heap on one pass, each call with the number of its answer and what the answer says.
-ghost use Rattle.std.specs.Prelude.{◌≡◌, ◌≤◌, ◌⊎◌, ◌^◌, OnOk};
-ghost use Rattle.hm_sizes.specs.Configs.{IsValid, standard};
+//! Tables of calls of a heap on one pass, each call with its answer; calls of several passes, and the end
+//! of a heap.
+ghost use Rattle.std.specs.Prelude.{OnOk};
 ghost use Rattle.hm_heap.specs.Passes.{AreOf};
 
 use crate::{Closed, Heap, Pass};
@@ -66,144 +66,172 @@ fn make<R: Wait, P: Pages, G: Gate>(
     }
 }
 
-/// The number of an answer, and the size or place that it names.
-fn shown(answer: &Answer) -> (u8, u64) {
+/// What an answer says: its kind, and of some the size or the place that it names.
+#[derive(Clone, Copy, Debug, PartialEq, Eq)]
+enum Told {
+    Given(u64),
+    Overwritten(u64),
+    Exhausted,
+    NoSpace,
+    PagesFailed,
+    Freed,
+    NoSlot,
+    Unused,
+    DoubleFree,
+    WrongSize(u64),
+    Canary,
+    Usable(u64),
+    Bytes,
+    Filled,
+    Trap,
+    NotLive,
+    Overflow,
+    BadAlignment,
+    TooLarge,
+    Outside,
+    Busy,
+    HalfMoved(u64),
+    Kept(u64),
+    Nothing,
+}
+
+fn told_by(answer: &Answer) -> Told {
     match answer {
-        Answer::Reply(Reply::Given { usable, .. }) => (1, *usable),
-        Answer::Reply(Reply::Overwritten { at, .. }) => (2, *at),
-        Answer::Reply(Reply::Exhausted) => (3, 0),
-        Answer::Reply(Reply::NoSpace) => (4, 0),
-        Answer::Reply(Reply::PagesFailed) => (5, 0),
-        Answer::Reply(Reply::Freed) => (7, 0),
-        Answer::Reply(Reply::NoSlot) => (8, 0),
-        Answer::Reply(Reply::Unused) => (9, 0),
-        Answer::Reply(Reply::DoubleFree) => (10, 0),
-        Answer::Reply(Reply::WrongSize { block, .. }) => (11, *block),
-        Answer::Reply(Reply::Canary { .. }) => (12, 0),
-        Answer::Reply(Reply::Usable(size)) => (13, *size),
-        Answer::Reply(Reply::Bytes(_runs)) => (14, 0),
-        Answer::Reply(Reply::Filled) => (15, 0),
-        Answer::Reply(Reply::Trap { .. }) => (16, 0),
-        Answer::Reply(Reply::NotLive) => (17, 0),
-        Answer::Overflow => (18, 0),
-        Answer::BadAlignment => (19, 0),
-        Answer::TooLarge => (20, 0),
-        Answer::Outside => (21, 0),
-        Answer::Busy => (22, 0),
-        Answer::HalfMoved { usable, .. } => (23, *usable),
-        Answer::Kept { usable, .. } => (24, *usable),
-        Answer::Nothing => (25, 0),
+        Answer::Reply(Reply::Given { usable, .. }) => Told::Given(*usable),
+        Answer::Reply(Reply::Overwritten { at, .. }) => Told::Overwritten(*at),
+        Answer::Reply(Reply::Exhausted) => Told::Exhausted,
+        Answer::Reply(Reply::NoSpace) => Told::NoSpace,
+        Answer::Reply(Reply::PagesFailed) => Told::PagesFailed,
+        Answer::Reply(Reply::Freed) => Told::Freed,
+        Answer::Reply(Reply::NoSlot) => Told::NoSlot,
+        Answer::Reply(Reply::Unused) => Told::Unused,
+        Answer::Reply(Reply::DoubleFree) => Told::DoubleFree,
+        Answer::Reply(Reply::WrongSize { block, .. }) => Told::WrongSize(*block),
+        Answer::Reply(Reply::Canary { .. }) => Told::Canary,
+        Answer::Reply(Reply::Usable(size)) => Told::Usable(*size),
+        Answer::Reply(Reply::Bytes(_runs)) => Told::Bytes,
+        Answer::Reply(Reply::Filled) => Told::Filled,
+        Answer::Reply(Reply::Trap { .. }) => Told::Trap,
+        Answer::Reply(Reply::NotLive) => Told::NotLive,
+        Answer::Overflow => Told::Overflow,
+        Answer::BadAlignment => Told::BadAlignment,
+        Answer::TooLarge => Told::TooLarge,
+        Answer::Outside => Told::Outside,
+        Answer::Busy => Told::Busy,
+        Answer::HalfMoved { usable, .. } => Told::HalfMoved(*usable),
+        Answer::Kept { usable, .. } => Told::Kept(*usable),
+        Answer::Nothing => Told::Nothing,
     }
 }
 
-/// The address of the block in an answer, or 0.
-fn block_of(answer: &Answer) -> u64 {
+/// The address of the block in an answer.
+fn block_of(answer: &Answer) -> Option<u64> {
     match answer {
-        Answer::Reply(Reply::Given { addr, .. }) => *addr,
-        Answer::Kept { addr, .. } => *addr,
-        Answer::HalfMoved { addr, .. } => *addr,
-        _ => 0,
+        Answer::Reply(Reply::Given { addr, .. }) => Some(*addr),
+        Answer::Kept { addr, .. } => Some(*addr),
+        Answer::HalfMoved { addr, .. } => Some(*addr),
+        _ => None,
     }
 }
 
-/// The number of the first row whose answer is another, or 0.
+/// The number of the first row whose answer is another. A row without a block has address 0 for one.
 fn first_other<R: Wait, P: Pages, G: Gate>(
     rt: &R,
     alloc: Global,
     heap: &Heap<P, G>,
     pass: &mut Pass,
-    table: &[(Ask, u8, u64)],
-) -> Result<usize, NoMemory>
+    table: &[(Ask, Told)],
+) -> Result<Option<usize>, NoMemory>
     requires { AreOf heap.now.locks pass.old.turns }
 {
     let mut blocks = vec![in alloc; 0; 1]?;
-    for (ask, number, value) in table {
+    for (ask, want) in table {
         let answer = make(rt, alloc, heap, pass, &blocks, *ask)?;
-        if shown(&answer) != (*number, *value) {
-            return Ok(blocks.len());
+        if told_by(&answer) != *want {
+            return Ok(Some(blocks.len()));
         }
-        blocks.push(block_of(&answer))?;
+        blocks.push(block_of(&answer).unwrap_or(0))?;
     }
-    Ok(0)
+    Ok(None)
 }
 
-const TABLE: [(Ask, u8, u64); 68] = [
-    (Ask::Malloc(8), 1, 8),
-    (Ask::Malloc(9), 1, 24),
-    (Ask::Malloc(120), 1, 120),
-    (Ask::Malloc(121), 1, 152),
-    (Ask::Malloc(131064), 1, 131064),
-    (Ask::Malloc(131065), 1, 163840),
-    (Ask::Malloc(1073741825), 20, 0),
+const TABLE: [(Ask, Told); 68] = [
+    (Ask::Malloc(8), Told::Given(8)),
+    (Ask::Malloc(9), Told::Given(24)),
+    (Ask::Malloc(120), Told::Given(120)),
+    (Ask::Malloc(121), Told::Given(152)),
+    (Ask::Malloc(131064), Told::Given(131064)),
+    (Ask::Malloc(131065), Told::Given(163840)),
+    (Ask::Malloc(1073741825), Told::TooLarge),
     // a guard slab, an unused slot, and a block that is freed twice
-    (Ask::Malloc(20000), 1, 20472),
-    (Ask::Free(8, 20480), 8, 0),
-    (Ask::Free(8, 40960), 9, 0),
-    (Ask::Free(8, 0), 7, 0),
-    (Ask::Free(8, 0), 10, 0),
-    (Ask::Usable(8, 0), 10, 0),
+    (Ask::Malloc(20000), Told::Given(20472)),
+    (Ask::Free(8, 20480), Told::NoSlot),
+    (Ask::Free(8, 40960), Told::Unused),
+    (Ask::Free(8, 0), Told::Freed),
+    (Ask::Free(8, 0), Told::DoubleFree),
+    (Ask::Usable(8, 0), Told::DoubleFree),
     // a canary, and a block of no bytes
-    (Ask::Malloc(100), 1, 104),
-    (Ask::Write(14, 104, 8), 15, 0),
-    (Ask::Free(14, 0), 12, 0),
-    (Ask::Realloc(14, 200), 23, 216),
-    (Ask::Malloc(0), 1, 0),
-    (Ask::Write(18, 0, 1), 16, 0),
-    (Ask::Free(18, 0), 7, 0),
+    (Ask::Malloc(100), Told::Given(104)),
+    (Ask::Write(14, 104, 8), Told::Filled),
+    (Ask::Free(14, 0), Told::Canary),
+    (Ask::Realloc(14, 200), Told::HalfMoved(216)),
+    (Ask::Malloc(0), Told::Given(0)),
+    (Ask::Write(18, 0, 1), Told::Trap),
+    (Ask::Free(18, 0), Told::Freed),
     // stated sizes
-    (Ask::Malloc(100), 1, 104),
-    (Ask::Sized(21, 105), 11, 112),
-    (Ask::Sized(21, 97), 7, 0),
-    (Ask::Malloc(200000), 1, 229376),
-    (Ask::Sized(24, 100000), 11, 229376),
-    (Ask::Read(24, 229376), 16, 0),
-    (Ask::Free(24, 8), 17, 0),
-    (Ask::Sized(24, 220000), 7, 0),
-    (Ask::Free(24, 0), 17, 0),
+    (Ask::Malloc(100), Told::Given(104)),
+    (Ask::Sized(21, 105), Told::WrongSize(112)),
+    (Ask::Sized(21, 97), Told::Freed),
+    (Ask::Malloc(200000), Told::Given(229376)),
+    (Ask::Sized(24, 100000), Told::WrongSize(229376)),
+    (Ask::Read(24, 229376), Told::Trap),
+    (Ask::Free(24, 8), Told::NotLive),
+    (Ask::Sized(24, 220000), Told::Freed),
+    (Ask::Free(24, 0), Told::NotLive),
     // moved and kept
-    (Ask::Malloc(100), 1, 104),
-    (Ask::Write(30, 0, 3), 15, 0),
-    (Ask::Realloc(30, 104), 24, 104),
-    (Ask::Realloc(30, 105), 1, 120),
-    (Ask::Read(33, 2), 14, 0),
-    (Ask::Usable(33, 0), 13, 120),
-    (Ask::Realloc(33, 200000), 1, 229376),
-    (Ask::Realloc(36, 229376), 24, 229376),
-    (Ask::Realloc(36, 10), 1, 24),
-    (Ask::Realloc(0, 10), 1, 24),
-    (Ask::Realloc(30, 104), 10, 0),
-    (Ask::Realloc(39, 1073741825), 20, 0),
-    (Ask::Realloc(0, 1073741825), 20, 0),
+    (Ask::Malloc(100), Told::Given(104)),
+    (Ask::Write(30, 0, 3), Told::Filled),
+    (Ask::Realloc(30, 104), Told::Kept(104)),
+    (Ask::Realloc(30, 105), Told::Given(120)),
+    (Ask::Read(33, 2), Told::Bytes),
+    (Ask::Usable(33, 0), Told::Usable(120)),
+    (Ask::Realloc(33, 200000), Told::Given(229376)),
+    (Ask::Realloc(36, 229376), Told::Kept(229376)),
+    (Ask::Realloc(36, 10), Told::Given(24)),
+    (Ask::Realloc(0, 10), Told::Given(24)),
+    (Ask::Realloc(30, 104), Told::DoubleFree),
+    (Ask::Realloc(39, 1073741825), Told::TooLarge),
+    (Ask::Realloc(0, 1073741825), Told::TooLarge),
     // alignments and products
-    (Ask::Aligned(64, 100), 1, 120),
-    (Ask::Aligned(4096, 1), 1, 4088),
-    (Ask::Aligned(2097152, 1), 1, 4096),
-    (Ask::Aligned(3, 10), 19, 0),
-    (Ask::Aligned(4194304, 1), 19, 0),
-    (Ask::Aligned(64, 1073741825), 20, 0),
-    (Ask::Calloc(10, 24), 1, 248),
-    (Ask::Calloc(1 << 63, 2), 18, 0),
+    (Ask::Aligned(64, 100), Told::Given(120)),
+    (Ask::Aligned(4096, 1), Told::Given(4088)),
+    (Ask::Aligned(2097152, 1), Told::Given(4096)),
+    (Ask::Aligned(3, 10), Told::BadAlignment),
+    (Ask::Aligned(4194304, 1), Told::BadAlignment),
+    (Ask::Aligned(64, 1073741825), Told::TooLarge),
+    (Ask::Calloc(10, 24), Told::Given(248)),
+    (Ask::Calloc(1 << 63, 2), Told::Overflow),
     // addresses of no region
-    (Ask::Free(0, 0), 25, 0),
-    (Ask::Free(0, 1000), 21, 0),
-    (Ask::Free(0, u64::MAX), 21, 0),
-    (Ask::Free(0, 1 << 40), 8, 0),
-    (Ask::Free(0, (1 << 46) - 1), 21, 0),
-    (Ask::Free(0, 1 << 46), 17, 0),
-    (Ask::Usable(0, 0), 13, 0),
-    (Ask::Read(0, 0), 21, 0),
-    (Ask::Write(0, 0, 1), 21, 0),
+    (Ask::Free(0, 0), Told::Nothing),
+    (Ask::Free(0, 1000), Told::Outside),
+    (Ask::Free(0, u64::MAX), Told::Outside),
+    (Ask::Free(0, 1 << 40), Told::NoSlot),
+    (Ask::Free(0, (1 << 46) - 1), Told::Outside),
+    (Ask::Free(0, 1 << 46), Told::NotLive),
+    (Ask::Usable(0, 0), Told::Usable(0)),
+    (Ask::Read(0, 0), Told::Outside),
+    (Ask::Write(0, 0, 1), Told::Outside),
     // without waiting
-    (Ask::TryMalloc(8), 1, 8),
-    (Ask::TryFree(60, 0), 7, 0),
-    (Ask::TryFree(0, 0), 25, 0),
+    (Ask::TryMalloc(8), Told::Given(8)),
+    (Ask::TryFree(60, 0), Told::Freed),
+    (Ask::TryFree(0, 0), Told::Nothing),
     // both ends of the regions of classes and of the large space
-    (Ask::Free(0, (1 << 40) - 1), 21, 0),
-    (Ask::Free(0, (1 << 40) + (1 << 36)), 8, 0),
-    (Ask::Free(0, (1 << 40) + 196 * (1 << 36) - 1), 8, 0),
-    (Ask::Free(0, (1 << 40) + 196 * (1 << 36)), 21, 0),
-    (Ask::Free(0, (1 << 46) + (1 << 40) - 1), 17, 0),
-    (Ask::Free(0, (1 << 46) + (1 << 40)), 21, 0),
+    (Ask::Free(0, (1 << 40) - 1), Told::Outside),
+    (Ask::Free(0, (1 << 40) + (1 << 36)), Told::NoSlot),
+    (Ask::Free(0, (1 << 40) + 196 * (1 << 36) - 1), Told::NoSlot),
+    (Ask::Free(0, (1 << 40) + 196 * (1 << 36)), Told::Outside),
+    (Ask::Free(0, (1 << 46) + (1 << 40) - 1), Told::NotLive),
+    (Ask::Free(0, (1 << 46) + (1 << 40)), Told::Outside),
 ];
 
 #[test]
@@ -211,20 +239,20 @@ fn calls_of_one_pass(rt: HostRuntime) -> Result<(), Fail> {
     let config = Config::standard();
     let (heap, mut pass) = Heap::build(rt.alloc(), config, 1, &mut PlainMaker, &NoGate)?;
     let other = first_other(&rt, rt.alloc(), &heap, &mut pass, &TABLE)?;
-    assert!(rt; other == 0);
+    assert_eq!(rt; other, None, "the first row that is answered otherwise");
     Ok(())
 }
 
-const SMALL: [(Ask, u8, u64); 9] = [
-    (Ask::Malloc(130000), 1, 131064),
-    (Ask::Malloc(130000), 1, 131064),
-    (Ask::Malloc(130000), 1, 131064),
-    (Ask::Malloc(130000), 1, 131064),
-    (Ask::Malloc(130000), 3, 0),
-    (Ask::Malloc(100), 1, 104),
-    (Ask::Realloc(6, 130000), 3, 0),
-    (Ask::Malloc(500000), 1, 524288),
-    (Ask::Malloc(500000), 4, 0),
+const SMALL: [(Ask, Told); 9] = [
+    (Ask::Malloc(130000), Told::Given(131064)),
+    (Ask::Malloc(130000), Told::Given(131064)),
+    (Ask::Malloc(130000), Told::Given(131064)),
+    (Ask::Malloc(130000), Told::Given(131064)),
+    (Ask::Malloc(130000), Told::Exhausted),
+    (Ask::Malloc(100), Told::Given(104)),
+    (Ask::Realloc(6, 130000), Told::Exhausted),
+    (Ask::Malloc(500000), Told::Given(524288)),
+    (Ask::Malloc(500000), Told::NoSpace),
 ];
 
 #[test]
@@ -236,20 +264,20 @@ fn small_regions_end(rt: HostRuntime) -> Result<(), Fail> {
     };
     let (heap, mut pass) = Heap::build(rt.alloc(), config, 7, &mut PlainMaker, &NoGate)?;
     let other = first_other(&rt, rt.alloc(), &heap, &mut pass, &SMALL)?;
-    assert!(rt; other == 0);
+    assert_eq!(rt; other, None, "the first row that is answered otherwise");
     Ok(())
 }
 
-const AFTER_A_FREE: [(Ask, u8, u64); 9] = [
-    (Ask::Malloc(130000), 1, 131064),
-    (Ask::Malloc(130000), 1, 131064),
-    (Ask::Malloc(130000), 1, 131064),
-    (Ask::Free(1, 0), 7, 0),
-    (Ask::Write(1, 0, 4), 15, 0),
-    (Ask::Free(2, 0), 7, 0),
-    (Ask::Free(3, 0), 7, 0),
-    (Ask::Malloc(130000), 2, 0),
-    (Ask::Malloc(130000), 1, 131064),
+const AFTER_A_FREE: [(Ask, Told); 9] = [
+    (Ask::Malloc(130000), Told::Given(131064)),
+    (Ask::Malloc(130000), Told::Given(131064)),
+    (Ask::Malloc(130000), Told::Given(131064)),
+    (Ask::Free(1, 0), Told::Freed),
+    (Ask::Write(1, 0, 4), Told::Filled),
+    (Ask::Free(2, 0), Told::Freed),
+    (Ask::Free(3, 0), Told::Freed),
+    (Ask::Malloc(130000), Told::Overwritten(0)),
+    (Ask::Malloc(130000), Told::Given(131064)),
 ];
 
 #[test]
@@ -257,7 +285,7 @@ fn a_write_after_a_free_is_found(rt: HostRuntime) -> Result<(), Fail> {
     let config = Config::standard();
     let (heap, mut pass) = Heap::build(rt.alloc(), config, 3, &mut PlainMaker, &NoGate)?;
     let other = first_other(&rt, rt.alloc(), &heap, &mut pass, &AFTER_A_FREE)?;
-    assert!(rt; other == 0);
+    assert_eq!(rt; other, None, "the first row that is answered otherwise");
     Ok(())
 }
 
@@ -348,9 +376,9 @@ fn a_region_is_busy_by_itself(rt: HostRuntime) -> Result<(), Fail> {
     let first = heap.split(rt.alloc(), &mut root, 1, 1)?;
     let second = heap.split(rt.alloc(), &mut root, 1, 5)?;
     let (given, (held, free)) = both_ask(&rt, &heap, &gate, first, second);
-    assert!(rt; shown(&given?) == (1, 8));
-    assert!(rt; shown(&held?) == (22, 0));
-    assert!(rt; shown(&free?) == (1, 4088));
+    assert_eq!(rt; told_by(&given?), Told::Given(8));
+    assert_eq!(rt; told_by(&held?), Told::Busy);
+    assert_eq!(rt; told_by(&free?), Told::Given(4088));
     Ok(())
 }
 
@@ -405,8 +433,12 @@ fn passes_are_joined_and_closed(rt: HostRuntime) -> Result<(), Fail> {
     let other = heap.malloc(&rt, &mut second, 1, 100)?;
     heap.join(&mut root, first);
     heap.join(&mut root, second);
-    assert!(rt; shown(&given) == (1, 104) && shown(&other) == (1, 104));
-    assert!(rt; shown(&heap.free(&rt, &mut root, 1, block_of(&given))?) == (7, 0));
+    assert_eq!(rt;
+        (told_by(&given), told_by(&other)),
+        (Told::Given(104), Told::Given(104))
+    );
+    let freed = heap.free(&rt, &mut root, 1, block_of(&given).unwrap_or(0))?;
+    assert_eq!(rt; told_by(&freed), Told::Freed);
     assert_eq!(rt; (root.caller(), root.out()), (0, 0));
     let closed = heap.close(rt.alloc(), root)?;
     assert_eq!(rt; entries_of(&closed, 7), Some(2));
@@ -421,14 +453,15 @@ fn a_root_goes_on_without_a_split(rt: HostRuntime) -> Result<(), Fail> {
     let config = Config::standard();
     let (heap, mut root) = Heap::build(rt.alloc(), config, 1, &mut PlainMaker, &NoGate)?;
     let given = heap.malloc(&rt, &mut root, 1, 100)?;
-    assert!(rt; shown(&given) == (1, 104));
+    assert_eq!(rt; told_by(&given), Told::Given(104));
     let split = heap.split(rt.alloc(), &mut root, 1, 1);
     let lacking = split.is_err();
     assert_eq!(rt; root.out(), if lacking { 0 } else { 1 });
     if let Ok(pass) = split {
         heap.join(&mut root, pass);
     }
-    assert!(rt; shown(&heap.free(&rt, &mut root, 2, block_of(&given))?) == (7, 0));
+    let freed = heap.free(&rt, &mut root, 2, block_of(&given).unwrap_or(0))?;
+    assert_eq!(rt; told_by(&freed), Told::Freed);
     let again = heap.split(rt.alloc(), &mut root, 1, 2)?;
     assert_eq!(rt; again.caller(), if lacking { 1 } else { 2 });
     heap.join(&mut root, again);
@@ -436,12 +469,12 @@ fn a_root_goes_on_without_a_split(rt: HostRuntime) -> Result<(), Fail> {
     Ok(())
 }
 
-const GREATEST: [(Ask, u8, u64); 5] = [
-    (Ask::Malloc(1 << 30), 1, 1 << 30),
-    (Ask::Malloc((1 << 30) + 1), 20, 0),
-    (Ask::Usable(1, 0), 13, 1 << 30),
-    (Ask::Sized(1, 1 << 30), 7, 0),
-    (Ask::Free(1, 0), 17, 0),
+const GREATEST: [(Ask, Told); 5] = [
+    (Ask::Malloc(1 << 30), Told::Given(1 << 30)),
+    (Ask::Malloc((1 << 30) + 1), Told::TooLarge),
+    (Ask::Usable(1, 0), Told::Usable(1 << 30)),
+    (Ask::Sized(1, 1 << 30), Told::Freed),
+    (Ask::Free(1, 0), Told::NotLive),
 ];
 
 #[test]
@@ -449,6 +482,6 @@ fn greatest_block(rt: HostRuntime) -> Result<(), Fail> {
     let config = Config::standard();
     let (heap, mut pass) = Heap::build(rt.alloc(), config, 1, &mut SilentMaker, &NoGate)?;
     let other = first_other(&rt, rt.alloc(), &heap, &mut pass, &GREATEST)?;
-    assert!(rt; other == 0);
+    assert_eq!(rt; other, None, "the first row that is answered otherwise");
     Ok(())
 }

@@ -1,9 +1,9 @@
 -- A word determines what it says: a number, an option, a flag, a byte, a run, or runs.
-use Rattle.std.proofs.Common.{◌≡◌, ◌⊎◌, inl, inr, ⊎_elim, ℕ, ◌+◌, ◌-◌, ◌*◌, ◌/◌, ◌%◌, ◌<◌, ◌≤◌, Bool, true, false, cond, eqb, ltb, List, [], ◌∷◌, ◌++◌, map, drop, get_or, Option, Some, None, refl, codes, arith}
+use Rattle.std.proofs.Common.{◌≡◌, ⊎_elim, ℕ, ◌+◌, ◌-◌, ◌*◌, ◌/◌, ◌%◌, ◌<◌, ◌≤◌, Bool, true, false, cond, eqb, ltb, List, [], ◌∷◌, ◌++◌, map, drop, get_or, Option, Some, None, refl, codes, arith}
 use Rattle.std.specs.List.{slice_split}
 use Rattle.std.specs.Str.Parse.{AllDigits, digits_value}
 use Rattle.std.specs.Fmt.{decimal, digit_glyph}
-use Rattle.std.proofs.lemmas.Bool.{ltb-true, ltb-false, lt-ltb, le-ltb}
+use Rattle.std.proofs.lemmas.Bool.{cases_Bool, ltb-true, ltb-false, lt-ltb, le-ltb}
 use Rattle.std.proofs.lemmas.Bool.Decides.{nat_tests}
 use Rattle.std.proofs.lemmas.Fmt.{decimal_is_IsNumeral}
 use Rattle.std.proofs.lemmas.Str.Parse.{digit_from_value}
@@ -63,17 +63,13 @@ flag_is false = rw (number_is 0 (omega arith)) refl
 digit : ℕ → ℕ
 digit c = cond (ltb c 58) (c - 48) (c - 87)
 
-told : (b : Bool) → (b ≡ true) ⊎ (b ≡ false)
-told true = inl refl
-told false = inr refl
-
 digit_is : (d : ℕ) → d < 16 → digit (digit_glyph false d) ≡ d
 unfolding digit
 digit_is d h =
     ⊎_elim
     (λ (t : ltb d 10 ≡ true). rw t (low d (ltb-true _ _ t)))
     (λ (t : ltb d 10 ≡ false). rw t (high d (ltb-false _ _ t)))
-    (told (ltb d 10))
+    (cases_Bool (ltb d 10))
   where
     low : (d : ℕ) → d < 10 → cond (ltb (48 + d) 58) ((48 + d) - 48) ((48 + d) - 87) ≡ d
     low d h = let is : ltb (48 + d) 58 ≡ true = lt-ltb _ _ (omega arith) in rw is (omega arith)
@@ -86,7 +82,7 @@ high_glyph d =
     ⊎_elim
     (λ (t : ltb d 10 ≡ true). rw t (omega arith))
     (λ (t : ltb d 10 ≡ false). rw t (omega arith))
-    (told (ltb d 10))
+    (cases_Bool (ltb d 10))
 
 pub high_byte : (b : ℕ) → High 48 (byte_word b)
 high_byte b = (high_glyph (b / 16), (high_glyph (b % 16), tt))

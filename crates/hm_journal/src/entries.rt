@@ -1,6 +1,6 @@
 //! Writing the line of an entry: who called, the page faults, the words drawn, the choices, the call and the
 //! reply.
-ghost use Rattle.std.specs.Prelude.{◌≡◌, ◌++◌, ◌∷◌, [], map, OnOk, string_bytes};
+ghost use Rattle.std.specs.Prelude.{◌≡◌, ◌++◌, map, OnOk, string_bytes};
 ghost use Rattle.std.specs.List.{join_with_byte};
 ghost use Rattle.hm_journal.specs.Words.{option_word, line_text, spaced};
 ghost use Rattle.hm_model.specs.declared.entry.Reply.TheVariants.{Overwritten};

@@ -1,5 +1,5 @@
 //! Writing a journal: its header, configuration and number, the history of each region, and the end.
-ghost use Rattle.std.specs.Prelude.{◌≡◌, ◌++◌, ◌∷◌, [], map, OnOk, IfOk, string_bytes};
+ghost use Rattle.std.specs.Prelude.{◌≡◌, ◌++◌, map, OnOk, IfOk, string_bytes};
 ghost use Rattle.hm_journal.specs.Words.{line_text, lines_text};
 ghost use Rattle.hm_journal.specs.Entries.{entry_words};
 ghost use Rattle.hm_journal.specs.Journals.{config_words, history_lines, histories_lines, journal_text};

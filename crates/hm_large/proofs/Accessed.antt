@@ -4,31 +4,21 @@ use Rattle.std.specs.Prelude.{slice_get, nat_le, nat_lt}
 use Rattle.std.specs.Option.{IsSome}
 use Rattle.std.specs.FinMap as map
 use Rattle.std.proofs.lemmas.Bool.{cases_lt, cases_Bool, and_parts, and_from, and_right, le-leb, lt-ltb, leb-true, ltb-true, le-ltb}
+use Rattle.std.proofs.lemmas.Option.{none-some, same_Some}
 use Rattle.std.proofs.lemmas.List.{drop_more}
 use Rattle.hm_model.specs.Maps.{at, keys, times, removed}
 use Rattle.hm_model.proofs.Lists.{same_eq, other_eq, eq_same}
 use Rattle.hm_sizes.specs.declared.config.Config.{Config}
-use Rattle.hm_region_table.specs.declared.entry.Block.{Block as KeptBlock}
 use Rattle.hm_large.specs.declared.store.Store.{Store}
 use Rattle.hm_large.specs.Blocks.{Block, Blocks, covers, covered, byte_at, first_trap, bytes_read}
 use Rattle.hm_large.specs.State.{State}
 use Rattle.hm_large.specs.Laws.{IsPlaced, ArePlaced, IsSound}
 use Rattle.hm_large.specs.BlockTable.{live_size}
-use Rattle.hm_large.specs.Kept.{kept_of, kept_or, kept_at, Shows, AreGuarded}
+use Rattle.hm_large.specs.Kept.{kept_or, Shows, AreGuarded}
 use Rattle.hm_large.specs.Stored.{HeldByNone, IsLeft}
-use Rattle.hm_large.proofs.BlockLists.{at_covered, covers_own, placed_at, how_many_removed, at_removed}
+use Rattle.hm_large.proofs.BlockLists.{weight, at_covered, covers_own, placed_at, how_many_removed, at_removed}
 use Rattle.hm_large.proofs.Legal.{live_once}
-use Rattle.hm_large.proofs.Released.{kept_live, same_block}
 use Rattle.hm_large.proofs.Places.{spans_from}
-
-abbrev weight : Bool → ℕ
-weight b = cond b 1 0
-
-none_some : {X : Type 0} (x : X) → None ≡ Some x → ⊥
-none_some x e = cc
-
-some_same : {X : Type 0} (x y : X) → Some x ≡ Some y → x ≡ y
-some_same x y e = cc
 
 -- q is one of the bytes of the entry
 abbrev pub has_byte : ℕ → ℕ × Block → Bool
@@ -63,10 +53,10 @@ uncovered c (y ∷ m) q placed none =
 
 -- a byte of the block at a is that which is found
 pub byte_of : (c : Config) (m : Blocks) (a q : ℕ) (x : Block) → ArePlaced c m → covered q m ≤ 1 → at a m ≡ Some x → a ≤ q → q < a + x.size → byte_at m q ≡ slice_get x.bytes (q - a)
-byte_of c [] a q x placed once e low high = absurd (none_some x e)
+byte_of c [] a q x placed once e low high = absurd (none-some x e)
 byte_of c (y ∷ m) a q x placed once e low high =
     elim (y.0 == a) as (λ t. (y.0 == a) ≡ t → cond t (Some y.1) (at a m) ≡ Some x → byte_at (y ∷ m) q ≡ slice_get x.bytes (q - a)) [
-      | true ↦ λ is f. here (eq_same y.0 a is) (some_same y.1 x f)
+      | true ↦ λ is f. here (eq_same y.0 a is) (same_Some y.1 x f)
       | false ↦ λ is f. there f (byte_of c m a q x placed.1 (omega arith) f low high)
     ] refl e
   where
@@ -86,10 +76,10 @@ byte_of c (y ∷ m) a q x placed once e low high =
 
 -- a guard has no byte
 pub byte_past : (c : Config) (m : Blocks) (a q : ℕ) (x : Block) → ArePlaced c m → covered q m ≤ 1 → at a m ≡ Some x → covers q (a, x) ≡ true → a + x.size ≤ q → byte_at m q ≡ None
-byte_past c [] a q x placed once e cover past = absurd (none_some x e)
+byte_past c [] a q x placed once e cover past = absurd (none-some x e)
 byte_past c (y ∷ m) a q x placed once e cover past =
     elim (y.0 == a) as (λ t. (y.0 == a) ≡ t → cond t (Some y.1) (at a m) ≡ Some x → byte_at (y ∷ m) q ≡ None) [
-      | true ↦ λ is f. here (eq_same y.0 a is) (some_same y.1 x f)
+      | true ↦ λ is f. here (eq_same y.0 a is) (same_Some y.1 x f)
       | false ↦ λ is f. there f (byte_past c m a q x placed.1 (omega arith) f cover past)
     ] refl e
   where
@@ -117,7 +107,7 @@ pub record Finds (m : Blocks) (q : ℕ) : Type 0 where
   pub high : q < a + x.size
 
 pub byte_found : (c : Config) (m : Blocks) (q : ℕ) (b : ℕ) → ArePlaced c m → ((k : ℕ) → covered k m ≤ 1) → byte_at m q ≡ Some b → Finds m q
-byte_found c [] q b placed once e = absurd (none_some b e)
+byte_found c [] q b placed once e = absurd (none-some b e)
 byte_found c (y ∷ m) q b placed once e =
     elim (has_byte q y) as (λ t. has_byte q y ≡ t → cond t (slice_get y.1.bytes (q - y.0)) (byte_at m q) ≡ Some b → Finds (y ∷ m) q) [
       | true ↦ λ is f. record {
@@ -207,7 +197,7 @@ last_has c n s k q start size sound h is le last f =
     same : f.a ≡ start → (x : Block) × (at start s.live ≡ Some x) × (size ≡ x.size) × (q < start + x.size)
     same e =
         let there : at start s.live ≡ Some f.x = subst (λ (k : ℕ). at k s.live ≡ Some f.x) e f.there in
-        (f.x, there, some_same size f.x.size (sym is ∙ live_at c n s k start f.x h there), omega (arith, e, f.high))
+        (f.x, there, same_Some size f.x.size (sym is ∙ live_at c n s k start f.x h there), omega (arith, e, f.high))
 
     covers_start : f.a < start → covers start (f.a, f.x) ≡ true
     covers_start lt = spans_from f.a f.x.size f.x.guard start (omega arith) (omega (arith, f.high))
@@ -218,7 +208,7 @@ last_has c n s k q start size sound h is le last f =
         by_live : (live : Option Block) → at start s.live ≡ live → ⊥
         by_live (Some y) e =
             omega (arith, two_covered f.a start start f.x y s.live f.there e (λ same. (let no : ⊥ = omega (arith, same) in no)) (covers_start lt) (covers_own c (start, y) (placed_at c start y s.live sound.live e)) (live_once c s f.a sound), sound.once start)
-        by_live None e = none_some size (sym (live_is c n s k start h ∙ ap (option_map (λ (b : Block). b.size)) e) ∙ is)
+        by_live None e = none-some size (sym (live_is c n s k start h ∙ ap (option_map (λ (b : Block). b.size)) e) ∙ is)
 
 -- where the table has nothing that begins there, there is no byte
 pub no_byte : (c : Config) (s : State) (q : ℕ) → IsSound c s → (Finds s.live q → ⊥) → byte_at s.live q ≡ None
@@ -229,12 +219,12 @@ no_byte c s q sound none = by_byte (byte_at s.live q) refl
     by_byte (Some b) e = absurd (none (byte_found c s.live q b sound.live (λ k. omega (arith, sound.once k)) e))
 
 pub nothing_begun : (c : Config) (n : ℕ) (s : State) (k : Store) (q : ℕ) → Shows c n s k → ((p : ℕ) → p ≤ q → live_size (map.get k.blocks.blocks p) ≡ None) → Finds s.live q → ⊥
-nothing_begun c n s k q h none f = none_some f.x.size (sym (none f.a f.low) ∙ live_at c n s k f.a f.x h f.there)
+nothing_begun c n s k q h none f = none-some f.x.size (sym (none f.a f.low) ∙ live_at c n s k f.a f.x h f.there)
 
 -- what has a size in the table is live
 live_from : (size : ℕ) (o : Option Block) → option_map (λ (b : Block). b.size) o ≡ Some size → (x : Block) × (o ≡ Some x) × (size ≡ x.size)
-live_from size None is = absurd (none_some size is)
-live_from size (Some x) is = (x, refl, sym (some_same x.size size is))
+live_from size None is = absurd (none-some size is)
+live_from size (Some x) is = (x, refl, sym (same_Some x.size size is))
 
 pub left_from : (c : Config) (n : ℕ) (s : State) (k : Store) (q start size left : ℕ) → IsSound c s → Shows c n s k → live_size (map.get k.blocks.blocks start) ≡ Some size → start ≤ q
     → ((p : ℕ) → p ≤ q → IsSome (live_size (map.get k.blocks.blocks p)) → p ≤ start) → left ≡ size - (q - start) → IsLeft s.live q left
@@ -246,10 +236,10 @@ left_from c n s k q start size (suc left) sound h is le last e =
 
 -- ---- the first address that is not accessible
 guard_at : (a : ℕ) (x : Block) (m : Blocks) → AreGuarded m → at a m ≡ Some x → 1 ≤ x.guard
-guard_at a x [] g e = absurd (none_some x e)
+guard_at a x [] g e = absurd (none-some x e)
 guard_at a x (y ∷ m) g e =
     elim (y.0 == a) as (λ t. cond t (Some y.1) (at a m) ≡ Some x → 1 ≤ x.guard) [
-      | true ↦ λ f. subst (λ (b : Block). 1 ≤ b.guard) (some_same y.1 x f) g.0
+      | true ↦ λ f. subst (λ (b : Block). 1 ≤ b.guard) (same_Some y.1 x f) g.0
       | false ↦ λ f. guard_at a x m g.1 f
     ] e
 

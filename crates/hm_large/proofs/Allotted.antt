@@ -1,16 +1,15 @@
 -- What an attempt at allotting leaves.
-use Rattle.std.proofs.Common.{◌≡◌, ℕ, zero, suc, ◌+◌, ◌-◌, ◌*◌, ◌^◌, ◌<◌, ◌≤◌, false, cond, ◌∷◌, Option, Some, None, sym, ◌∙◌, ap, subst, refl, arith}
+use Rattle.std.proofs.Common.{◌≡◌, ℕ, zero, suc, ◌+◌, ◌-◌, ◌*◌, ◌^◌, ◌<◌, ◌≤◌, false, ◌∷◌, Option, Some, None, sym, ◌∙◌, ap, subst, refl, arith}
 use Rattle.std.specs.FinMap as map
 use Rattle.std.proofs.lemmas.Nat.{mod_below}
 use Rattle.hm_choice.specs.Stream.{Words, next_word, after_word, before_word}
 use Rattle.hm_choice.proofs.Places.{comes_again}
 use Rattle.hm_model.specs.Maps.{at}
 use Rattle.hm_outside.specs.declared.pages.Pages as pages
-use Rattle.hm_space.specs.Space.{FreeSpace, IsFreeRange, TakesRange}
+use Rattle.hm_space.specs.Space.{IsFreeRange, TakesRange}
 use Rattle.hm_sizes.specs.declared.config.Config.{Config}
 use Rattle.hm_sizes.specs.Configs.{IsValid}
 use Rattle.hm_region_table.specs.Table.{Table}
-use Rattle.hm_region_table.specs.declared.entry.Block.{Block as KeptBlock}
 use Rattle.hm_large.specs.declared.store.Store.{Store}
 use Rattle.hm_large.specs.declared.allot.Outcome.{Outcome}
 use Rattle.hm_large.specs.Blocks.{Block, new_block, size_for, guard_of}
@@ -22,7 +21,7 @@ use Rattle.hm_large.specs.Kept.{kept_or, kept_at, Shows}
 use Rattle.hm_large.specs.BlockTable.{Updates}
 use Rattle.hm_large.specs.Stored.{SameStore, Allots, Ends}
 use Rattle.hm_large.proofs.Places.{candidate_fit}
-use Rattle.hm_large.proofs.Tables.{tree_test, not_live, not_held}
+use Rattle.hm_large.proofs.Tables.{not_live, not_held}
 use Rattle.hm_large.proofs.Shown.{Gives, shows_same, shows_given}
 
 -- ---- words

@@ -1,18 +1,17 @@
 -- Lists of blocks: what they cover, what they have at an address, and what is left without one.
 use Rattle.std.proofs.Common.{◌≡◌, ◌≢◌, ℕ, suc, ◌+◌, ◌*◌, ◌≤◌, ◌==◌, Bool, true, false, cond, not, List, [], ◌∷◌, map, length, Some, None, refl, sym, ap, ◌∙◌, subst, arith}
+use Rattle.std.proofs.lemmas.Option.{none-some, same_Some}
 use Rattle.std.proofs.lemmas.Bool.{and_from, le-leb, lt-ltb}
 use Rattle.hm_model.specs.Maps.{times, at, removed, keys}
-use Rattle.hm_model.specs.Overlaid.{overlaid}
 use Rattle.hm_model.proofs.Lists.{other_eq, eq_same}
+use Rattle.hm_model.proofs.Overlaid.{length_overlaid}
 use Rattle.hm_sizes.specs.declared.config.Config.{Config}
 use Rattle.hm_large.specs.Blocks.{Block, Blocks, covers, how_many, covered, overlay, mark}
 use Rattle.hm_large.specs.Laws.{IsPlaced, ArePlaced}
 
-some_same : {X : Type 0} (x y : X) → Some x ≡ Some y → x ≡ y
-some_same x y e = cc
-
-none_some : {X : Type 0} (x : X) → None ≡ Some x → ⊥
-none_some x e = cc
+-- what an answer counts for
+abbrev pub weight : Bool → ℕ
+weight b = cond b 1 0
 
 -- ---- without a block
 pub removed_none : (a : ℕ) (m : Blocks) → times a (keys m) ≡ 0 → removed a m ≡ m
@@ -25,11 +24,11 @@ removed_none a (x ∷ m) e =
 
 -- a block that is taken out was counted once
 pub how_many_removed : (test : ℕ × Block → Bool) (a : ℕ) (x : Block) (m : Blocks) → at a m ≡ Some x → times a (keys m) ≤ 1 → how_many test (removed a m) + cond (test (a, x)) 1 0 ≡ how_many test m
-how_many_removed test a x [] e once = absurd (none_some x e)
+how_many_removed test a x [] e once = absurd (none-some x e)
 how_many_removed test a x (y ∷ m) e once =
     elim (y.0 == a) as (λ b. (y.0 == a) ≡ b → cond b (Some y.1) (at a m) ≡ Some x → cond b 1 0 + times a (keys m) ≤ 1
     → how_many test (cond (not b) (y ∷ removed a m) (removed a m)) + cond (test (a, x)) 1 0 ≡ how_many test (y ∷ m)) [
-      | true ↦ λ is h u. here (eq_same y.0 a is) (some_same y.1 x h) (omega arith)
+      | true ↦ λ is h u. here (eq_same y.0 a is) (same_Some y.1 x h) (omega arith)
       | false ↦ λ is h u. omega (arith, how_many_removed test a x m h (omega arith))
     ] refl e once
   where
@@ -37,8 +36,7 @@ how_many_removed test a x (y ∷ m) e once =
     here p q none =
         let same : (a, x) ≡ y = λ i. (sym p i, sym q i) in
         let left : how_many test (removed a m) ≡ how_many test m = ap (how_many test) (removed_none a m none) in
-        let weight : ℕ × Block → ℕ = λ e. cond (test e) 1 0 in
-        let one : weight (a, x) ≡ weight y = ap weight same in
+        let one : weight (test (a, x)) ≡ weight (test y) = ap (λ e. weight (test e)) same in
         omega (arith, left, one)
 
 pub at_removed : (q a : ℕ) (m : Blocks) → a ≢ q → at q (removed a m) ≡ at q m
@@ -64,30 +62,21 @@ length_removed a x m e once = omega (arith, how_many_removed (λ _. true) a x m 
     all [] = refl
     all (y ∷ m) = omega (arith, all m)
 
-pub removed_absent : (a : ℕ) (m : Blocks) → at a m ≡ None → times a (keys m) ≡ 0
-removed_absent a [] e = refl
-removed_absent a (y ∷ m) e =
-    elim (y.0 == a) as (λ b. cond b (Some y.1) (at a m) ≡ None → cond b 1 0 + times a (keys m) ≡ 0) [
-      | true ↦ λ h. absurd (none_some y.1 (sym h))
-      | false ↦ λ h. omega (arith, removed_absent a m h)
-    ] e
-
 -- ---- what blocks cover
 pub covers_own : (c : Config) (e : ℕ × Block) → IsPlaced c e → covers e.0 e ≡ true
 covers_own c e h = and_from _ _ (le-leb e.0 (e.0 + 4096 * e.1.guard) (omega arith)) (lt-ltb e.0 (e.0 + e.1.size + 4096 * e.1.guard) (omega (arith, h.some)))
 
 pub at_covered : (q a : ℕ) (x : Block) (m : Blocks) → at a m ≡ Some x → covers q (a, x) ≡ true → 1 ≤ covered q m
-at_covered q a x [] e h = absurd (none_some x e)
+at_covered q a x [] e h = absurd (none-some x e)
 at_covered q a x (y ∷ m) e h =
     elim (y.0 == a) as (λ b. (y.0 == a) ≡ b → cond b (Some y.1) (at a m) ≡ Some x → 1 ≤ covered q (y ∷ m)) [
-      | true ↦ λ is f. here (eq_same y.0 a is) (some_same y.1 x f)
+      | true ↦ λ is f. here (eq_same y.0 a is) (same_Some y.1 x f)
       | false ↦ λ is f. omega (arith, at_covered q a x m f h)
     ] refl e
   where
     here : y.0 ≡ a → y.1 ≡ x → 1 ≤ covered q (y ∷ m)
     here p r =
         let same : (a, x) ≡ y = λ i. (sym p i, sym r i) in
-        let weight : Bool → ℕ = λ b. cond b 1 0 in
         let one : weight (covers q y) ≡ 1 = ap weight (sym (ap (covers q) same) ∙ h) in
         omega (arith, one)
 
@@ -102,16 +91,15 @@ times_covered c a (y ∷ m) h =
   where
     here : y.0 ≡ a → times a (keys m) ≤ covered a m → 1 + times a (keys m) ≤ covered a (y ∷ m)
     here p rest =
-        let weight : Bool → ℕ = λ b. cond b 1 0 in
         let own : covers a y ≡ true = subst (λ (q : ℕ). covers q y ≡ true) p (covers_own c y h.0) in
         let one : weight (covers a y) ≡ 1 = ap weight own in
         omega (arith, one, rest)
 
 pub placed_at : (c : Config) (a : ℕ) (x : Block) (m : Blocks) → ArePlaced c m → at a m ≡ Some x → IsPlaced c (a, x)
-placed_at c a x [] h e = absurd (none_some x e)
+placed_at c a x [] h e = absurd (none-some x e)
 placed_at c a x (y ∷ m) h e =
     elim (y.0 == a) as (λ b. (y.0 == a) ≡ b → cond b (Some y.1) (at a m) ≡ Some x → IsPlaced c (a, x)) [
-      | true ↦ λ is f. (let same : y ≡ (a, x) = λ i. (eq_same y.0 a is i, some_same y.1 x f i) in subst (IsPlaced c) same h.0)
+      | true ↦ λ is f. (let same : y ≡ (a, x) = λ i. (eq_same y.0 a is i, same_Some y.1 x f i) in subst (IsPlaced c) same h.0)
       | false ↦ λ is f. placed_at c a x m h.1 f
     ] refl e
 
@@ -126,10 +114,6 @@ pub how_many_same : (test : ℕ × Block → Bool) (f : ℕ × Block → ℕ × 
 how_many_same test f same [] = refl
 how_many_same test f same (y ∷ m) = ap (λ b. cond b 1 0 + how_many test (map f m)) (same y) ∙ ap (λ n. cond (test y) 1 0 + n) (how_many_same test f same m)
 
-pub keys_same : (f : ℕ × Block → ℕ × Block) → ((e : ℕ × Block) → (f e).0 ≡ e.0) → (m : Blocks) → keys (map f m) ≡ keys m
-keys_same f same [] = refl
-keys_same f same (y ∷ m) = ap (λ k. k ∷ keys (map f m)) (same y) ∙ ap (λ l. y.0 ∷ l) (keys_same f same m)
-
 pub length_same : (f : ℕ × Block → ℕ × Block) (m : Blocks) → length (map f m) ≡ length m
 length_same f [] = refl
 length_same f (y ∷ m) = ap suc (length_same f m)
@@ -137,10 +121,6 @@ length_same f (y ∷ m) = ap suc (length_same f m)
 pub placed_same : (c : Config) (f : ℕ × Block → ℕ × Block) → ((e : ℕ × Block) → IsPlaced c e → IsPlaced c (f e)) → (m : Blocks) → ArePlaced c m → ArePlaced c (map f m)
 placed_same c f keep [] h = tt
 placed_same c f keep (y ∷ m) h = (keep y h.0, placed_same c f keep m h.1)
-
-pub length_overlaid : (a : ℕ) (w : List ℕ) (q : ℕ) (bytes : List ℕ) → length (overlaid a w q bytes) ≡ length bytes
-length_overlaid a w q [] = refl
-length_overlaid a w q (b ∷ bs) = ap suc (length_overlaid a w (q + 1) bs)
 
 pub placed_overlay : (c : Config) (a : ℕ) (w : List ℕ) (e : ℕ × Block) → IsPlaced c e → IsPlaced c (overlay a w e)
 placed_overlay c a w e h = record { from = h.from; to = h.to; aligned = h.aligned; some = h.some; pages = h.pages; most = h.most; whole = length_overlaid a w e.0 e.1.bytes ∙ h.whole }

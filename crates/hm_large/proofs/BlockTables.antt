@@ -1,13 +1,12 @@
 -- The table of blocks after a change, address by address, and the starts of the live ones.
-use Rattle.std.proofs.Common.{◌≡◌, ⊎_elim, ℕ, ◌==◌, Bool, true, false, cond, List, [], Option, Some, None, sym, ◌∙◌, ap, refl}
+use Rattle.std.proofs.Common.{◌≡◌, ℕ, ◌==◌, Bool, true, false, cond, List, [], Option, Some, None, sym, ◌∙◌, ap, refl}
 use Rattle.std.specs.Ordering.{nat_cmp}
 use Rattle.std.specs.BTreeMap as tree
 use Rattle.std.specs.Map.{lookup}
 use Rattle.std.specs.FinMap as map
 use Rattle.std.specs.FinMap.{get-empty, get-insert, get-remove}
-use Rattle.std.proofs.lemmas.Bool.{cases_eq}
 use Rattle.std.proofs.lemmas.Cmp.{nat_cmp_total}
-use Rattle.hm_model.proofs.Lists.{same_eq, other_eq}
+use Rattle.hm_model.proofs.Lists.{same_eq}
 use Rattle.hm_region_table.specs.declared.entry.Block.{Block as KeptBlock}
 use Rattle.hm_region_table.specs.Table.{Blocks, Table}
 use Rattle.hm_large.specs.BlockTable.{live_size, AreLive, Updates}
@@ -32,16 +31,6 @@ again old mid new a x y f g q = g q ∙ (ap (cond (a == q) y) (f q) ∙ shadowed
     shadowed : (t : Bool) → cond t y (cond t x (map.get old.blocks q)) ≡ cond t y (map.get old.blocks q)
     shadowed true = refl
     shadowed false = refl
-
--- a change that leaves what was there
-pub stays : (old new : Table) (a : ℕ) (x : Option KeptBlock) → Updates old new a x → map.get old.blocks a ≡ x → (q : ℕ) → map.get new.blocks q ≡ map.get old.blocks q
-stays old new a x f e q = f q ∙ ⊎_elim here there (cases_eq a q)
-  where
-    here : a ≡ q → cond (a == q) x (map.get old.blocks q) ≡ map.get old.blocks q
-    here same = ap (λ (t : Bool). cond t x (map.get old.blocks q)) (same_eq a q same) ∙ (sym e ∙ ap (map.get old.blocks) same)
-
-    there : (a ≡ q → ⊥) → cond (a == q) x (map.get old.blocks q) ≡ map.get old.blocks q
-    there ne = ap (λ (t : Bool). cond t x (map.get old.blocks q)) (other_eq a q ne)
 
 -- what is at the address then
 pub at_updated : (old new : Table) (a : ℕ) (x : Option KeptBlock) → Updates old new a x → map.get new.blocks a ≡ x

@@ -2,6 +2,7 @@
 use Rattle.std.proofs.Common.{◌≡◌, ◌≢◌, ◌⊎◌, inl, inr, ⊎_elim, ℕ, zero, suc, ◌+◌, ◌<◌, ◌≤◌, ◌==◌, Bool, true, false, cond, ◌||◌, List, [], ◌∷◌, ◌++◌, length, take, Option, Some, None, unwrap_or, sym, ◌∙◌, ap, subst, refl, arith, true≢false}
 use Rattle.std.specs.Bool.{MatchBool}
 use Rattle.std.proofs.lemmas.Bool.{cases_eq, cases_lt, or_right, MatchBool-at_true}
+use Rattle.std.proofs.lemmas.Option.{same_Some}
 use Rattle.hm_model.specs.declared.entry.Entry.{Entry}
 use Rattle.hm_model.specs.declared.entry.Call.{Call}
 use Rattle.hm_model.specs.declared.entry.Call.TheVariants.{Allot, GiveBack, Fill}
@@ -108,10 +109,7 @@ released_frees (Some b) s = refl
 
 from_small : (x : Block) (o : Option Block) (q : State) (r : Option ℕ) → o ≡ Some x → is_quarantined x ≡ true → Releases o q r → ReleasesFrom q r
 from_small x None q r e small k = absurd k
-from_small x (Some y) q r e small k = MatchBool-at_true (ReleasesFrom q r) (r ≡ None) (ap is_quarantined (some_same y x e) ∙ small) k
-  where
-    some_same : (y x : Block) → Some y ≡ Some x → y ≡ x
-    some_same y x e = cc
+from_small x (Some y) q r e small k = MatchBool-at_true (ReleasesFrom q r) (r ≡ None) (ap is_quarantined (same_Some y x e) ∙ small) k
 
 -- a freed block begins to wait
 waits_start : (s : State) (a word : ℕ) (x : Block) (o : Option Block) (r : Option ℕ) → o ≡ Some x → is_quarantined x ≡ true

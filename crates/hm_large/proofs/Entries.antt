@@ -1,6 +1,7 @@
 -- What is kept once an entry is added.
 use Rattle.std.proofs.Common.{◌≡◌, ℕ, suc, ◌+◌, ◌-◌, ◌*◌, ◌/◌, ◌%◌, ◌^◌, ◌<◌, ◌≤◌, Bool, true, false, cond, IsTrue, List, [], ◌∷◌, ◌++◌, Option, Some, None, is_some, option_map, sym, ◌∙◌, ap, subst, refl, arith}
 use Rattle.std.specs.Bool.{MatchBool}
+use Rattle.std.proofs.lemmas.Option.{none-some, same_Some}
 use Rattle.std.specs.FinMap as map
 use Rattle.hm_model.specs.declared.entry.Entry.{Entry}
 use Rattle.hm_model.specs.declared.entry.Who.{Who}
@@ -18,6 +19,7 @@ use Rattle.hm_model.specs.Replies.{IsBlockReply}
 use Rattle.hm_outside.specs.declared.pages.Pages as pages
 use Rattle.hm_outside.specs.PageRuns.{PageRuns, IsRun}
 use Rattle.hm_quarantine.specs.LookingBack.{released}
+use Rattle.hm_sizes.specs.Aligned.{IsAlignment}
 use Rattle.hm_sizes.specs.declared.config.Config.{Config}
 use Rattle.hm_sizes.specs.Configs.{IsValid}
 use Rattle.hm_region_table.specs.declared.entry.Block.{Block as KeptBlock}
@@ -31,7 +33,7 @@ use Rattle.hm_large.specs.declared.judge.Refusal.TheVariants as refusal
 use Rattle.hm_large.specs.declared.judge.Verdict.TheVariants as verdict
 use Rattle.hm_large.specs.Blocks.{Block, Blocks, new_block, size_for, guard_of, is_quarantined, marked}
 use Rattle.hm_large.specs.State.{State, start, step, moved, takes_back, releases, free_of, array_length, ring_length}
-use Rattle.hm_large.specs.Rules.{Terms, Allowed, Allows, Asks, IsAlignment, IsLegal, state, chose, chose_guard, wrong_size, Releases, AllowsFreed}
+use Rattle.hm_large.specs.Rules.{Terms, Allowed, Allows, Asks, IsLegal, state, chose, chose_guard, wrong_size, Releases, AllowsFreed}
 use Rattle.hm_large.specs.Draws.{Drawn, IsDrawn, EntryDraws, FreeDraws, stream_after, word_after}
 use Rattle.hm_large.specs.Laws.{IsSound}
 use Rattle.hm_large.specs.Region.{Region, HoldsBlocks, IsRegion}
@@ -232,20 +234,14 @@ module _ {P : Type 0} (meaning : pages.Ghosts P) (p : P) (c : Config) (n : ℕ) 
       → IsKept meaning p c n (es ++ entry_of who (call.Measure a) (measured_reply block) no_choices no_words (meaning.faults p) (meaning.faults p) ∷ []) k
   kept_measured block h is = by_block block (at a (state (terms_of c (meaning.told p)) es).live) refl is
     where
-      none_some : (x : KeptBlock) → None ≡ Some x → ⊥
-      none_some x e = cc
-
-      some_same : (x y : KeptBlock) → Some x ≡ Some y → x ≡ y
-      some_same x y e = cc
-
       by_block : (block : Option KeptBlock) (o : Option Block) → at a (state (terms_of c (meaning.told p)) es).live ≡ o → block ≡ option_map (kept_of false) o
           → IsKept meaning p c n (es ++ entry_of who (call.Measure a) (measured_reply block) no_choices no_words (meaning.faults p) (meaning.faults p) ∷ []) k
       by_block None None e is = kept_plain meaning p p c n es k (plain (call.Measure a) reply.NotLive) h (all_same meaning p) refl refl refl (tt, (ap is_some e, refl), refl, refl)
       by_block (Some b) (Some x) e is =
           kept_plain meaning p p c n es k (plain (call.Measure a) (reply.Usable b.size)) h (all_same meaning p) refl refl refl
-          (tt, (ap (option_map (λ (y : Block). y.size)) e ∙ ap (λ (y : KeptBlock). Some y.size) (sym (some_same b (kept_of false x) is)), refl), refl, refl)
-      by_block None (Some x) e is = absurd (none_some (kept_of false x) is)
-      by_block (Some b) None e is = absurd (none_some b (sym is))
+          (tt, (ap (option_map (λ (y : Block). y.size)) e ∙ ap (λ (y : KeptBlock). Some y.size) (sym (same_Some b (kept_of false x) is)), refl), refl, refl)
+      by_block None (Some x) e is = absurd (none-some (kept_of false x) is)
+      by_block (Some b) None e is = absurd (none-some b (sym is))
 
 -- ---- blocks that are taken back
 -- a greater block's word is not looked at
@@ -369,21 +365,12 @@ module _ {P : Type 0} (meaning : pages.Ghosts P) (p : P) (c : Config) (n : ℕ) 
 
 -- a live block of the right size is not refused
 pub not_refused : (r : Refusal) (s : State) (a : ℕ) (stated : Option ℕ) (b : Block) → Judges s a stated (verdict.Refused r) → at a s.live ≡ Some b → wrong_size (Some b) stated ≡ None → ⊥
-not_refused refusal.NotLive s a stated b judged e fits = none_block b (sym judged ∙ e)
-  where
-    none_block : (b : Block) → None ≡ Some b → ⊥
-    none_block b e = cc
-not_refused (refusal.WrongSize block other) s a stated b judged e fits = none_pair (block, other) (sym fits ∙ (sym (ap (λ (o : Option Block). wrong_size o stated) e) ∙ judged))
-  where
-    none_pair : (p : ℕ × ℕ) → None ≡ Some p → ⊥
-    none_pair p e = cc
+not_refused refusal.NotLive s a stated b judged e fits = none-some b (sym judged ∙ e)
+not_refused (refusal.WrongSize block other) s a stated b judged e fits = none-some (block, other) (sym fits ∙ (sym (ap (λ (o : Option Block). wrong_size o stated) e) ∙ judged))
 
 -- nor does an unfailed one want room
 pub unfailed : (s : State) (a : ℕ) (stated : Option ℕ) (k : KeptBlock) (b : Block) → Judges s a stated (verdict.Live k) → at a s.live ≡ Some b → b.failed ≡ false → k.failed ≡ false
-unfailed s a stated k b judged e fresh = ap (λ (x : KeptBlock). x.failed) judged.2 ∙ (ap (λ (x : Block). x.failed) (one_block judged.0 b (sym judged.1 ∙ e)) ∙ fresh)
-  where
-    one_block : (x y : Block) → Some x ≡ Some y → x ≡ y
-    one_block x y e = cc
+unfailed s a stated k b judged e fresh = ap (λ (x : KeptBlock). x.failed) judged.2 ∙ (ap (λ (x : Block). x.failed) (same_Some judged.0 b (sym judged.1 ∙ e)) ∙ fresh)
 
 -- the room that is left once the entry of a free is added
 pub room_left : (failed : Bool) (owed_before owed_after len cap room : ℕ) → owed_after + cond failed 0 1 ≡ owed_before → owed_before ≤ cap - len → cap ≤ room → (failed ≡ true → len + owed_before + 1 ≤ room) → owed_after ≤ room - (len + 1)

@@ -13,15 +13,16 @@ use Rattle.hm_model.specs.declared.entry.Reply.TheVariants.{Given, PagesFailed, 
 use Rattle.hm_model.specs.Machine.{Legal_push, Legal_split, run_keeps}
 use Rattle.hm_model.specs.Maps.{times, at, removed, keys}
 use Rattle.hm_model.specs.Runs.{expand}
+use Rattle.hm_sizes.specs.Aligned.{IsAlignment}
 use Rattle.hm_sizes.specs.Laws.{IsLargeSize}
 use Rattle.hm_sizes.specs.Sizes.{raised}
 use Rattle.hm_sizes.proofs.LargeSizes.{large_sizes}
 use Rattle.hm_sizes.specs.declared.config.Config.{Config}
 use Rattle.hm_large.specs.Blocks.{Block, Blocks, size_for, new_block, is_quarantined, spans, covers, how_many, covered, overlay, written_over, mark, marked}
 use Rattle.hm_large.specs.State.{State, start, step, moved, takes_back, releases, free_of}
-use Rattle.hm_large.specs.Rules.{Terms, Allows, Allowed, Asks, IsAlignment, state, taken, IsCandidate}
+use Rattle.hm_large.specs.Rules.{Terms, Allows, Allowed, Asks, state, taken, IsCandidate}
 use Rattle.hm_large.specs.Laws.{IsPlaced, IsSound, Sound, Prefixes, OneMore, OneLess, Apart}
-use Rattle.hm_large.proofs.BlockLists.{how_many_removed, how_many_same, at_covered, times_covered, placed_at, placed_removed, placed_same, placed_overlay, placed_mark, covers_own, at_removed}
+use Rattle.hm_large.proofs.BlockLists.{weight, how_many_removed, how_many_same, at_covered, times_covered, placed_at, placed_removed, placed_same, placed_overlay, placed_mark, covers_own, at_removed}
 
 -- ---- prefixes
 pub prefixes : Prefixes
@@ -80,11 +81,9 @@ sound_gives c s align asked guard a most is k h = record {
   where
     by_cover : (q : ℕ) (b : Bool) → spans a (size_for asked) guard q ≡ b → covered q ((a, new_block asked guard) ∷ s.live) + covered q s.held ≤ 1
     by_cover q true e =
-        let weight : Bool → ℕ = λ b. cond b 1 0 in
         let one : weight (spans a (size_for asked) guard q) ≡ 1 = ap weight e in
         omega (arith, one, k.free q e)
     by_cover q false e =
-        let weight : Bool → ℕ = λ b. cond b 1 0 in
         let none : weight (spans a (size_for asked) guard q) ≡ 0 = ap weight e in
         omega (arith, none, h.once q)
 
@@ -176,7 +175,6 @@ apart t es a b x y legal p r ne =
       where
         twice : b < a + x.size → 2 ≤ taken (state t es) b
         twice in_x =
-            let weight : Bool → ℕ = λ v. cond v 1 0 in
             let first : covers b (a, x) ≡ true = and_from _ _ (le-leb a (b + 4096 * x.guard) (omega arith)) (lt-ltb b (a + x.size + 4096 * x.guard) (omega arith)) in
             let one : weight (covers b (a, x)) ≡ 1 = ap weight first in
             let second = covers_own t.config (b, y) (placed_at t.config b y live h.live r) in

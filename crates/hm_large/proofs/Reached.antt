@@ -4,6 +4,7 @@ use Rattle.std.specs.FinMap as finite
 use Rattle.std.specs.FinMap.{get-insert}
 use Rattle.std.proofs.lemmas.Bool.{cases_eq, cases_lt}
 use Rattle.std.proofs.lemmas.Cmp.{nat_cmp_total}
+use Rattle.std.proofs.lemmas.Option.{none-some, same_Some}
 use Rattle.hm_model.specs.declared.entry.Entry.{Entry}
 use Rattle.hm_model.specs.declared.entry.Who.{Who}
 use Rattle.hm_model.specs.declared.entry.Call.{Call}
@@ -73,15 +74,9 @@ kept_guarded meaning p c n es k h =
 run_of : (live : Blocks) (runs : PageRuns) (a : ℕ) (bytes : List ℕ) → HoldsBlocks live runs → finite.get runs a ≡ Some bytes → (x : Block) × (at a live ≡ Some x) × (x.bytes ≡ bytes)
 run_of live runs a bytes holds is = by_block (at a live) refl (sym (holds a) ∙ is)
   where
-    none_some : None ≡ Some bytes → ⊥
-    none_some e = cc
-
-    same_bytes : (b : List ℕ) → Some b ≡ Some bytes → b ≡ bytes
-    same_bytes b e = cc
-
     by_block : (o : Option Block) → at a live ≡ o → option_map (λ (b : Block). b.bytes) (at a live) ≡ Some bytes → (x : Block) × (at a live ≡ Some x) × (x.bytes ≡ bytes)
-    by_block None e f = absurd (none_some (sym (ap (option_map (λ (b : Block). b.bytes)) e) ∙ f))
-    by_block (Some x) e f = (x, e, same_bytes x.bytes (sym (ap (option_map (λ (b : Block). b.bytes)) e) ∙ f))
+    by_block None e f = absurd (none-some bytes (sym (ap (option_map (λ (b : Block). b.bytes)) e) ∙ f))
+    by_block (Some x) e f = (x, e, same_Some x.bytes bytes (sym (ap (option_map (λ (b : Block). b.bytes)) e) ∙ f))
 
 -- what the pages read is what the blocks have
 pub reads_blocks : (c : Config) (s : State) (runs : PageRuns) (a len : ℕ) (w : List ℕ) → IsSound c s → HoldsBlocks s.live runs → Reads runs a len w → (first_trap s.live a len ≡ None) × (w ≡ bytes_read s.live a len)

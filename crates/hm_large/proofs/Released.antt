@@ -4,10 +4,11 @@ use Rattle.std.specs.FinMap as map
 use Rattle.std.specs.Bool.{MatchBool}
 use Rattle.std.specs.Option.{IfSome}
 use Rattle.std.proofs.lemmas.Bool.{cases_eq, cases_Bool}
+use Rattle.std.proofs.lemmas.Option.{same_Some}
 use Rattle.hm_choice.specs.Stream.{Words, next_word, after_word, drawn}
 use Rattle.hm_model.specs.Maps.{at, removed, keys, among}
 use Rattle.hm_model.proofs.Lists.{same_eq, other_eq, keys_removed, has_keys}
-use Rattle.hm_quarantine.specs.Delay.{held, AreNew, IsDelayed, slots_of, delay}
+use Rattle.hm_quarantine.specs.Delay.{held, AreNew, IsDelayed}
 use Rattle.hm_quarantine.specs.Delay as late
 use Rattle.hm_quarantine.specs.LookingBack.{Free, released, ArePlaces, kept_after}
 use Rattle.hm_quarantine.specs.Quarantine.{Kept, let_go, kept_with}
@@ -27,16 +28,10 @@ use Rattle.hm_large.specs.Draws.{word_after}
 use Rattle.hm_large.specs.Kept.{kept_of, kept_or, kept_at, IsOpen, Shows}
 use Rattle.hm_large.specs.BlockTable.{Updates}
 use Rattle.hm_large.specs.Stored.{GoesBack, GaveBack, Frees}
-use Rattle.hm_large.proofs.BlockLists.{how_many_removed, at_covered, at_removed, at_removed_same, length_removed, placed_at}
+use Rattle.hm_large.proofs.BlockLists.{weight, how_many_removed, at_covered, at_removed, at_removed_same, length_removed, placed_at}
 use Rattle.hm_large.proofs.Legal.{live_once, held_once, sound_takes_back}
 use Rattle.hm_large.proofs.Delay.{apart_keys}
 use Rattle.hm_large.proofs.Places.{FreeIsOpen, in_space_from, within_spans, spans_within}
-
-abbrev weight : Bool → ℕ
-weight b = cond b 1 0
-
-none_some : {X : Type 0} (x : X) → None ≡ Some x → ⊥
-none_some x e = cc
 
 -- ---- a range that can be put back
 module _ (c : Config) (s : State) (space : FreeSpace) (a : ℕ) (x : Block) where
@@ -173,10 +168,6 @@ length_keys [] = refl
 length_keys (y ∷ m) = ap suc (length_keys m)
 
 module _ (c : Config) (n : ℕ) (s : State) (k : Store) (a word : ℕ) (x : Block) where
-  -- the state with the block in quarantine
-  abbrev pub pushed : State
-  pushed = record s { live = removed a s.live; held = (a, x) ∷ s.held; frees = free_of a word ∷ s.frees }
-
   pub places_more : Shows c n s k → drawn array_length word < array_length → ArePlaces array_length (free_of a word ∷ s.frees)
   places_more h lt = (lt, h.places)
 
@@ -220,12 +211,9 @@ kept_held_at c s k a y sound h e = h.blocks_are a ∙ (ap (λ (o : Option Block)
     no_live None f = f
     no_live (Some x) f = absurd (apart_keys c s a x y sound f e)
 
-some_same : {X : Type 0} (x y : X) → Some x ≡ Some y → x ≡ y
-some_same x y e = cc
-
 -- the block that is kept is that of the state
 pub same_block : (c : Config) (n : ℕ) (s : State) (k : Store) (a : ℕ) (x : Block) (b : KeptBlock) → Shows c n s k → at a s.live ≡ Some x → map.get k.blocks.blocks a ≡ Some b → b ≡ kept_of false x
-same_block c n s k a x b h e is = some_same b (kept_of false x) (sym is ∙ kept_live c n s k a x h e)
+same_block c n s k a x b h e is = same_Some b (kept_of false x) (sym is ∙ kept_live c n s k a x h e)
 
 pub owed_some : (c : Config) (s : State) (a : ℕ) (x : Block) → IsSound c s → at a s.live ≡ Some x → x.failed ≡ false → 1 ≤ owed s.live
 owed_some c s a x sound e fresh = omega (arith, how_many_removed is_owed a x s.live e (live_once c s a sound), ap (λ f. weight (not f)) fresh)

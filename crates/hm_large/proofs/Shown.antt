@@ -2,6 +2,7 @@
 use Rattle.std.proofs.Common.{◌≡◌, ⊎_elim, ℕ, ◌+◌, ◌-◌, ◌*◌, ◌≤◌, ◌↔◌, ◌==◌, Bool, true, false, cond, not, List, [], ◌∷◌, ◌||◌, Option, Some, None, option_map, sym, ◌∙◌, ap, subst, refl, arith}
 use Rattle.std.specs.FinMap as map
 use Rattle.std.proofs.lemmas.Bool.{cases_eq, cases_Bool}
+use Rattle.std.proofs.lemmas.Option.{none-some, same_Some}
 use Rattle.hm_model.specs.Maps.{at, keys, times}
 use Rattle.hm_model.proofs.Lists.{same_eq, other_eq}
 use Rattle.hm_space.specs.Ranges.{IsWithin, IsInSome}
@@ -17,7 +18,7 @@ use Rattle.hm_large.specs.Kept.{kept_of, kept_or, kept_at, IsOpen, Shows}
 use Rattle.hm_large.specs.Stored.{SameStore}
 use Rattle.hm_large.proofs.Places.{FreeIsOpen, within_spans, spans_within}
 use Rattle.hm_large.proofs.Tables.{at_marked}
-use Rattle.hm_large.proofs.BlockLists.{how_many_same, length_same}
+use Rattle.hm_large.proofs.BlockLists.{weight, how_many_same, length_same}
 use Rattle.hm_large.proofs.Legal.{live_once}
 
 pub shows_same : (c : Config) (n : ℕ) (s : State) (k new : Store) (words : ℕ) → Shows c n s k → SameStore k new → new.words ≡ stream_after n words → Shows c n (record s { words = words }) new
@@ -40,9 +41,6 @@ pub record Gives (old new : Store) (a asked size guard : ℕ) : Type 0 where
   pub out : new.space.out ≡ old.space.out + 1
   pub quarantine : new.quarantine ≡ old.quarantine
   pub owed_more : new.owed ≡ old.owed + 1
-
-abbrev weight : Bool → ℕ
-weight b = cond b 1 0
 
 -- a range that is taken out is that of a new block
 pub open_given : (c : Config) (s : State) (old new : FreeSpace) (a words : ℕ) (x : Block) → 4096 * x.guard ≤ a → ((q : ℕ) → spans a x.size x.guard q ≡ true → taken s q ≡ 0) → FreeIsOpen c s old
@@ -88,18 +86,12 @@ marked_none a (y ∷ m) e =
       | false ↦ λ is h. ap (λ t. (y.0, record y.1 { failed = t || y.1.failed }) ∷ marked a m) is ∙ ap (λ l. y ∷ l) (marked_none a m (omega arith))
     ] refl e
 
-some_block : (x y : Block) → Some x ≡ Some y → x ≡ y
-some_block x y e = cc
-
-no_block : (x : Block) → None ≡ Some x → ⊥
-no_block x e = cc
-
 owed_marked : (a : ℕ) (x : Block) (m : Blocks) → at a m ≡ Some x → times a (keys m) ≤ 1 → owed (marked a m) + cond x.failed 0 1 ≡ owed m
-owed_marked a x [] e once = absurd (no_block x e)
+owed_marked a x [] e once = absurd (none-some x e)
 owed_marked a x (y ∷ m) e once =
     elim (y.0 == a) as (λ t. (y.0 == a) ≡ t → cond t (Some y.1) (at a m) ≡ Some x → weight t + times a (keys m) ≤ 1
     → (weight (not (t || y.1.failed)) + owed (marked a m)) + cond x.failed 0 1 ≡ weight (not y.1.failed) + owed m) [
-      | true ↦ λ is h u. here y.1.failed (ap (λ (b : Block). b.failed) (some_block y.1 x h)) (ap owed (marked_none a m (omega arith)))
+      | true ↦ λ is h u. here y.1.failed (ap (λ (b : Block). b.failed) (same_Some y.1 x h)) (ap owed (marked_none a m (omega arith)))
       | false ↦ λ is h u. omega (arith, owed_marked a x m h (omega arith))
     ] refl e once
   where

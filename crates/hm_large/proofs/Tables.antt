@@ -6,6 +6,7 @@ use Rattle.std.specs.FinMap.{get-insert, get-remove}
 use Rattle.std.proofs.lemmas.Bool.{cases_eq, cases_lt}
 use Rattle.std.proofs.lemmas.Bool.Decides.{nat_tests}
 use Rattle.std.proofs.lemmas.Cmp.{nat_cmp_total}
+use Rattle.std.proofs.lemmas.Option.{none-some, same_Some}
 use Rattle.hm_model.specs.Maps.{at, removed}
 use Rattle.hm_model.proofs.Lists.{same_eq, other_eq, eq_same}
 use Rattle.hm_outside.specs.PageRuns.{PageRuns, MeetsNone}
@@ -24,12 +25,6 @@ tree_test k q = grind (arith, nat_tests)
 
 pub map_test : (q k : ℕ) → eq_by_cmp nat_cmp q k ≡ (k == q)
 map_test q k = grind (arith, nat_tests)
-
-none_some : {X : Type 0} (x : X) → None ≡ Some x → ⊥
-none_some x e = cc
-
-some_same : {X : Type 0} (x y : X) → Some x ≡ Some y → x ≡ y
-some_same x y e = cc
 
 -- ---- the runs
 -- a new run is that of a new block
@@ -101,8 +96,8 @@ module _ (c : Config) (s : State) (align size guard a : ℕ) where
       none (Some x) e = absurd (not_live some h k x e)
 
       by_block : (q : ℕ) (b : List ℕ) (o : Option Block) → at q s.live ≡ o → option_map (λ (x : Block). x.bytes) (at q s.live) ≡ Some b → (q + length b ≤ a) ⊎ (a + size ≤ q)
-      by_block q b None e f = absurd (none_some b (sym (ap (option_map (λ (x : Block). x.bytes)) e) ∙ f))
+      by_block q b None e f = absurd (none-some b (sym (ap (option_map (λ (x : Block). x.bytes)) e) ∙ f))
       by_block q b (Some x) e f =
-          let same : x.bytes ≡ b = some_same x.bytes b (sym (ap (option_map (λ (y : Block). y.bytes)) e) ∙ f) in
+          let same : x.bytes ≡ b = same_Some x.bytes b (sym (ap (option_map (λ (y : Block). y.bytes)) e) ∙ f) in
           let count : length b ≡ x.size = ap length (sym same) ∙ (placed_at c q x s.live h.live e).whole in
           subst (λ (n : ℕ). (q + n ≤ a) ⊎ (a + size ≤ q)) (sym count) (bytes_apart some h k q x e)

@@ -1,7 +1,8 @@
 -- Large blocks: where they and their guards lie, and their bytes.
-use Rattle.std.specs.Prelude.{ℕ, zero, suc, unwrap_or, ◌+◌, ◌-◌, ◌*◌, ◌/◌, nat_lt, nat_le, ◌&&◌, ◌||◌, ◌==◌, not, max, Bool, false, if◌then◌else◌, List, [], ◌∷◌, map, length, replicate, slice_get, Option, Some, None, is_some}
+use Rattle.std.specs.Prelude.{ℕ, zero, suc, unwrap_or, ◌+◌, ◌-◌, ◌*◌, ◌/◌, nat_lt, nat_le, ◌&&◌, ◌||◌, ◌==◌, not, max, Bool, false, if◌then◌else◌, List, [], ◌∷◌, map, length, slice_get, Option, Some, None, is_some}
 use Rattle.hm_choice.specs.Stream.{drawn}
 use Rattle.hm_model.specs.Overlaid.{overlaid}
+use Rattle.hm_outside.specs.PageRuns.{zeros}
 use Rattle.hm_sizes.specs.Sizes.{raised, large_size}
 
 -- a block: the size that was asked for, its size, the pages of its guard on each side, whether a page failed as it was
@@ -12,9 +13,6 @@ pub record Block : Type 0 where
   pub guard : ℕ
   pub failed : Bool
   pub bytes : List ℕ
-
-abbrev pub zeros : ℕ → List ℕ
-zeros n = replicate n 0
 
 -- the size of the block for a request
 abbrev pub size_for : ℕ → ℕ

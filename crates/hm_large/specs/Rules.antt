@@ -13,6 +13,7 @@ use Rattle.hm_model.specs.Machine.{run, Legal}
 use Rattle.hm_model.specs.Maps.{at, has, among, removed}
 use Rattle.hm_model.specs.Runs.{expand}
 use Rattle.hm_quarantine.specs.Delay.{delay, slots_of}
+use Rattle.hm_sizes.specs.Aligned.{IsAlignment}
 use Rattle.hm_sizes.specs.Homes.{large_start}
 use Rattle.hm_sizes.specs.Sizes.{block_size}
 use Rattle.hm_sizes.specs.declared.config.Config.{Config}
@@ -97,10 +98,6 @@ pub record AllowsFreed (s : State) (word : ℕ) (c : Choices) (a : ℕ) (stated 
   pub choices : c ≡ chose c.released None
 
 -- ---- what each call asks of its arguments
--- a power of two up to 2 ^ 21
-abbrev pub IsAlignment : ℕ → Type 0
-IsAlignment align = (k : ℕ) × (k ≤ 21) × (align ≡ 2 ^ k)
-
 abbrev pub Asks : Call → Type 0
 Asks (Allot asked align) = (asked ≤ 2 ^ 30) × IsAlignment align
 Asks call = AsksRange call

@@ -6,20 +6,20 @@ ghost use Rattle.hm_choice.specs.Stream.{next_word, after_word};
 ghost use Rattle.hm_outside.specs.PageRuns.{MeetsNone, zeros};
 ghost use Rattle.hm_outside.specs.Causes.{HasRefusalCause};
 ghost use Rattle.hm_space.specs.Space.{IsFreeRange, TakesRange};
+ghost use Rattle.hm_sizes.specs.Aligned.{IsAlignment};
 ghost use Rattle.hm_sizes.specs.declared.config.Config.{Config};
 ghost use Rattle.hm_large.specs.Blocks.{size_for, guard_of};
 ghost use Rattle.hm_large.specs.State.{State};
-ghost use Rattle.hm_large.specs.Rules.{IsAlignment};
 ghost use Rattle.hm_large.specs.BlockTable.{Updates};
 ghost use Rattle.hm_large.specs.Kept.{Shows};
 ghost use Rattle.hm_large.specs.Stored.{SameStore, Allots, Declines, Stands};
 ghost use Rattle.hm_region_table.specs.declared.entry.Block.{Block as KeptBlock};
 
 use crate::block_table::BlockTable;
-use crate::store::{PAGE, Store, span};
+use crate::store::{Store, span};
 use hm_outside::{NoMemory, PageRefusal, Pages};
 use hm_region_table::Block as KeptBlock;
-use hm_sizes::{large_size, raised};
+use hm_sizes::{PAGE, large_size, raised};
 
 /// What came of allotting.
 #[derive(Clone, Copy, Debug, Drop)]
@@ -38,7 +38,7 @@ pub struct Attempt {
     pub outcome: Outcome,
 }
 
-// The size of the block for a request.
+/// The size of the block for a request.
 pub fn size_of_block(asked: u64) -> u64
     requires { asked ≤ 2 ^ 30 }
     ensures value { result ≡ size_for asked }

@@ -1,10 +1,9 @@
 //! The region's blocks by their addresses, and beside them the starts of the live ones in order: the block
 //! that has an address is found in logarithmic time.
-ghost use Rattle.std.specs.Prelude.{◌≡◌, ◌≤◌, ℕ, false, IfOk, OnOk, OnErr, IfSome, IfNone, IsSome, Some, None};
+ghost use Rattle.std.specs.Prelude.{◌≡◌, ◌+◌, ◌≤◌, ℕ, false, IfOk, IsOk, OnOk, OnErr, IfSome, IfNone, IsSome, Some, None, is_some, if◌then◌else◌};
 ghost use Rattle.std.specs.Ordering.{nat_cmp};
 ghost use Rattle.std.specs.BTreeMap as tree;
 ghost use Rattle.std.specs.FinMap as map;
-ghost use Rattle.hm_region_table.specs.declared.entry.Block.{Block as KeptBlock};
 ghost use Rattle.hm_large.specs.BlockTable.{Updates, live_size};
 
 use hm_outside::NoMemory;
@@ -49,7 +48,8 @@ fn last_begun(live: &BTreeMap<u64, u64>, addr: u64) -> Option<(u64, u64)>
 // Changes what the table has at a key that is there. It takes no memory.
 fn exchange(table: &mut RegionTable, addr: u64, block: Block)
     requires { IsSome (map.get table.old.blocks addr) }
-    ensures { Updates table.old table.new addr (Some block) }
+    ensures put { Updates table.old table.new addr (Some block) }
+    ensures spare { table.new.spare ≡ table.old.spare }
 {
     let _before = table.remove(addr);
     table.insert(addr, block);
@@ -58,7 +58,8 @@ fn exchange(table: &mut RegionTable, addr: u64, block: Block)
 impl BlockTable {
     /// A table with no blocks.
     pub fn build(alloc: Global) -> Result<BlockTable, NoMemory>
-        ensures { IfOk result (λ t. (a : ℕ) → map.get t.blocks a ≡ None) }
+        ensures blocks { IfOk result (λ t. (a : ℕ) → map.get t.blocks a ≡ None) }
+        ensures spare { IfOk result (λ t. t.spare ≡ 8) }
     {
         let table = RegionTable::build(alloc)?;
         Ok(BlockTable {
@@ -71,6 +72,9 @@ impl BlockTable {
     pub fn reserve_one(&mut self) -> Result<(), NoMemory>
         ensures blocks { self.new.blocks ≡ self.old.blocks }
         ensures room { OnOk result (1 ≤ self.new.spare) }
+        ensures more { self.old.spare ≤ self.new.spare }
+        ensures err { OnErr result (self.new ≡ self.old) }
+        ensures enough { 1 ≤ self.old.spare → IsOk result }
     {
         self.table.reserve_one()
     }
@@ -88,6 +92,7 @@ impl BlockTable {
         requires room { 1 ≤ self.old.spare }
         requires live { block.held ≡ false }
         ensures put { OnOk result (Updates self.old self.new addr (Some block)) }
+        ensures spare { OnOk result (self.new.spare + 1 ≡ self.old.spare) }
         ensures stays { OnErr result (self.new ≡ self.old) }
     {
         self.live.insert(addr, block.size)?;
@@ -100,7 +105,8 @@ impl BlockTable {
     pub fn replace(&mut self, addr: u64, block: Block)
         requires there { IsSome (map.get self.old.blocks addr) }
         requires same { block.held ≡ false → live_size (map.get self.old.blocks addr) ≡ Some block.size }
-        ensures { Updates self.old self.new addr (Some block) }
+        ensures put { Updates self.old self.new addr (Some block) }
+        ensures spare { self.new.spare ≡ self.old.spare }
     {
         exchange(&mut self.table, addr, block);
         if block.held {
@@ -112,6 +118,7 @@ impl BlockTable {
     pub fn remove(&mut self, addr: u64) -> Option<Block>
         ensures value { result ≡ map.get self.old.blocks addr }
         ensures blocks { Updates self.old self.new addr None }
+        ensures spare { self.new.spare ≡ (if is_some result then self.old.spare + 1 else self.old.spare) }
     {
         let _size = self.live.remove(&addr);
         self.table.remove(addr)

@@ -6,22 +6,23 @@ ghost use Rattle.hm_model.specs.Maps.{at};
 ghost use Rattle.hm_model.specs.Calls.{entry_of, one_word};
 ghost use Rattle.hm_model.specs.Replies.{IsLargeReply};
 ghost use Rattle.hm_model.specs.Runs.{expand};
+ghost use Rattle.hm_sizes.specs.Aligned.{IsAlignment};
 ghost use Rattle.hm_sizes.specs.Configs.{IsValid};
 ghost use Rattle.hm_large.specs.Blocks.{Block};
-ghost use Rattle.hm_large.specs.Rules.{IsAlignment, chose, chose_guard, wrong_size};
+ghost use Rattle.hm_large.specs.Rules.{chose, chose_guard, wrong_size};
 ghost use Rattle.hm_large.specs.Region.{region_state, origin, IsRegion};
 ghost use Rattle.hm_large.specs.Calls.{Added, IsBuilt, TrapsIn};
 ghost use Rattle.hm_large.specs.Stored.{attempt_reply, free_draws, measured_reply};
 
 use crate::access::{read, trap_from, write};
 use crate::allot::{Attempt, Outcome, allot, size_of_block};
-use crate::judge::{Refusal, Verdict, judge, live_block};
+use crate::judge::{Verdict, judge, live_block};
 use crate::release::{Freeing, mark_failed, release};
-use crate::store::{PAGE, Store};
+use crate::store::Store;
 use hm_model::{Call, Choices, Counted, Draws, Entry, Reply, Runs, Who};
 use hm_outside::{NoMemory, PageFault, Pages};
 use hm_region_table::Block as KeptBlock;
-use hm_sizes::Config;
+use hm_sizes::{Config, PAGE};
 use std::alloc::Global;
 use std::marker::Model;
 
@@ -207,6 +208,7 @@ impl<P: Pages> LargeHeap<P> {
         self.pages.faults()
     }
 
+    /// The pages that hold the bytes of the blocks.
     pub fn pages(&self) -> &P
         ensures value { result.now ≡ self.now.pages }
         ensures region { IsRegion P.Pages self.now }

@@ -20,6 +20,7 @@ pub enum Refusal {
 }
 
 impl Refusal {
+    /// The reply of a free that is refused so.
     pub fn reply(self) -> Reply
         ensures { result ≡ refused_reply self }
     {

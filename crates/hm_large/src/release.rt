@@ -12,8 +12,9 @@ ghost use Rattle.hm_large.specs.Kept.{Shows};
 ghost use Rattle.hm_large.specs.Stored.{GoesBack, GaveBack, StandsLive, Frees};
 ghost use Rattle.hm_region_table.specs.declared.entry.Block.{Block as KeptBlock};
 
-use crate::store::{ARRAY_LENGTH, PAGE, Store, span};
+use crate::store::{ARRAY_LENGTH, Store, span};
 use hm_region_table::Block as KeptBlock;
+use hm_sizes::PAGE;
 
 // A freed block below this size stays in quarantine.
 const QUARANTINED_BELOW: u64 = 1 << 25;

@@ -11,12 +11,9 @@ use crate::block_table::BlockTable;
 use hm_choice::Stream;
 use hm_outside::NoMemory;
 use hm_quarantine::Quarantine;
-use hm_sizes::{Config, LARGE_START};
+use hm_sizes::{Config, LARGE_START, PAGE};
 use hm_space::Space;
 use std::alloc::Global;
-
-/// The bytes of a page.
-pub const PAGE: u64 = 4096;
 
 // The number of the region's stream.
 const STREAM: u64 = 196;

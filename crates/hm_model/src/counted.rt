@@ -1,5 +1,5 @@
 //! Values that count the entries of their history.
-ghost use Rattle.std.specs.Prelude.{◌≡◌, ℕ, List, length};
+ghost use Rattle.std.specs.Prelude.{◌≡◌, List, length};
 ghost use Rattle.hm_model.specs.declared.entry.Entry.{Entry};
 
 /// A value with a history of entries.

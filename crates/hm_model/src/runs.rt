@@ -187,6 +187,7 @@ mod tests {
             let runs = Runs::of(rt.alloc(), bytes)?;
             assert_eq!(rt; runs.pairs(), pairs);
             assert_eq!(rt; runs.copy()?.pairs(), pairs);
+            assert_eq!(rt; runs.to_vec(rt.alloc())?.as_slice(), bytes);
             assert_eq!(rt; runs.len(), bytes.len() as u64);
         }
         Ok(())
@@ -194,7 +195,9 @@ mod tests {
 
     #[test]
     fn runs_of_one_byte(rt: HostRuntime) -> Result<(), Fail> {
-        assert!(rt; Runs::same(rt.alloc(), 7, 0)?.pairs().is_empty());
+        let none = Runs::same(rt.alloc(), 7, 0)?;
+        assert!(rt; none.pairs().is_empty());
+        assert!(rt; none.to_vec(rt.alloc())?.is_empty());
         let longest = Runs::same(rt.alloc(), 7, u64::MAX)?;
         assert_eq!(rt; longest.pairs(), [(7, u64::MAX)].as_slice());
         assert_eq!(rt; longest.len(), u64::MAX);

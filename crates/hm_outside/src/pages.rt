@@ -1,5 +1,5 @@
 //! Pages of memory as a region sees them, and who makes them. An address is a number, never a pointer.
-ghost use Rattle.std.specs.Prelude.{◌≡◌, ◌+◌, ◌*◌, ◌%◌, ◌^◌, ◌<◌, ◌≤◌, ℕ, Bool, IsTrue, ◌↔◌, List, length, OnOk, OnErr, IfOk, IfSome};
+ghost use Rattle.std.specs.Prelude.{◌≡◌, ◌+◌, ◌*◌, ◌%◌, ◌^◌, ◌≤◌, ℕ, Bool, IsTrue, ◌↔◌, List, length, OnOk, OnErr, IfOk, IfSome};
 ghost use Rattle.std.specs.FinMap as map;
 ghost use Rattle.std.specs.Borrow.{sem, Lends, Array, u8};
 ghost use Rattle.hm_outside.specs.PageRuns.{PageRuns, zeros, MeetsNone, IsRun, Reads, ReadGives, IsHeld};
@@ -8,7 +8,7 @@ ghost use Rattle.hm_outside.specs.Lends.{EndsWritten};
 ghost use Rattle.hm_outside.specs.declared.pages.PageRefusal.TheVariants.{NoMemory};
 
 use crate::RegionId;
-use std::alloc::{AllocError, AllocFailed, Global};
+use std::alloc::{AllocError, Global};
 
 /// Why pages were not made accessible.
 #[derive(Clone, Copy, Debug, PartialEq, Eq)]
@@ -25,14 +25,6 @@ impl From<AllocError> for PageRefusal {
     }
 }
 
-impl<T: Drop> From<AllocFailed<T>> for PageRefusal {
-    ghost from_gives = { λ _ e. e ≡ NoMemory };
-
-    fn from(_: AllocFailed<T>) -> Self {
-        PageRefusal::NoMemory
-    }
-}
-
 impl From<crate::NoMemory> for PageRefusal {
     ghost from_gives = { λ _ e. e ≡ NoMemory };
 
@@ -45,6 +37,7 @@ impl From<crate::NoMemory> for PageRefusal {
 #[derive(Clone, Copy, Debug, PartialEq, Eq)]
 pub struct PageFault;
 
+/// The pages of one region, each accessible or not.
 pub trait Pages: Send + Drop {
     /// Whether they tell their runs. No call changes it.
     ghost told: { Self → Bool };
@@ -118,6 +111,7 @@ pub trait Pages: Send + Drop {
         → EndsWritten told runs faults s addr w (after_write s addr (length w) w) };
 }
 
+/// Who makes the pages of each region.
 pub trait PageMaker {
     type P: Pages;
 

@@ -45,7 +45,7 @@ impl<R: HasRun> RunMap<R> {
         }
     }
 
-    /// Takes a run that is not empty and meets no other.
+    /// Takes a run that is not empty and meets no other. Its time grows with the runs above it.
     pub fn insert(&mut self, run: R) -> Result<(), NoMemory>
         requires some { 0 < length (R.entry run).1 }
         requires apart { MeetsNone self.old (R.entry run).0 (length (R.entry run).1) }
@@ -57,7 +57,7 @@ impl<R: HasRun> RunMap<R> {
         Ok(())
     }
 
-    /// Gives the run that begins there.
+    /// Gives the run that begins there. Its time grows with the runs above it.
     pub fn remove(&mut self, first: u64) -> R
         requires { IsSome (map.get self.old first) }
         ensures gone { self.new ≡ map.remove self.old first }

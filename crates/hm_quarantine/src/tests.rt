@@ -1,3 +1,5 @@
+//! What a quarantine releases, with and without an array and a ring.
+
 use crate::Quarantine;
 use std::test::Fail;
 

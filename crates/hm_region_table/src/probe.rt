@@ -1,5 +1,5 @@
 //! Searches of the cells, from a key's home on and round their end.
-ghost use Rattle.std.specs.Prelude.{◌≡◌, ◌<◌, length, IfSome, IfNone};
+ghost use Rattle.std.specs.Prelude.{◌≡◌, ◌<◌, IfSome, IfNone};
 ghost use Rattle.hm_region_table.specs.Cells.{home, next, IsKept, IsThere, IsNotThere, HasRoom, IsPlaceFor};
 
 use crate::entry::Entry;

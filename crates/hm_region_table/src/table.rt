@@ -1,5 +1,5 @@
 //! The table: its cells, at most half of which are in use.
-ghost use Rattle.std.specs.Prelude.{◌≡◌, ◌+◌, ◌<◌, ◌≤◌, length, replicate, None, IfOk, OnOk, is_some, if◌then◌else◌};
+ghost use Rattle.std.specs.Prelude.{◌≡◌, ◌+◌, ◌<◌, ◌≤◌, length, replicate, None, IfOk, IsOk, OnOk, OnErr, is_some, if◌then◌else◌};
 ghost use Rattle.std.specs.FinMap as map;
 ghost use Rattle.hm_region_table.specs.Cells.{IsKept, entries_of};
 ghost use Rattle.hm_region_table.specs.Table.{blocks_of};
@@ -64,7 +64,8 @@ fn spread(from: &[Option<Entry>], into: &mut [Option<Entry>])
 impl RegionTable {
     /// An empty table.
     pub fn build(alloc: Global) -> Result<RegionTable, NoMemory>
-        ensures { IfOk result (λ t. t.blocks ≡ map.empty) }
+        ensures blocks { IfOk result (λ t. t.blocks ≡ map.empty) }
+        ensures spare { IfOk result (λ t. t.spare ≡ 8) }
     {
         let cells = empty_cells(alloc, 16)?;
         Ok(RegionTable {
@@ -79,6 +80,8 @@ impl RegionTable {
         ensures blocks { self.new.blocks ≡ self.old.blocks }
         ensures room { OnOk result (1 ≤ self.new.spare) }
         ensures more { self.old.spare ≤ self.new.spare }
+        ensures err { OnErr result (self.new ≡ self.old) }
+        ensures enough { 1 ≤ self.old.spare → IsOk result }
     {
         let count = self.cells.len();
         if self.used < count / 2 {

@@ -44,9 +44,7 @@ fn colliding(after: u64) -> u64 {
 
 #[test]
 fn one_block(rt: HostRuntime) -> Result<(), Fail> {
-    let Ok(mut table) = RegionTable::build(rt.alloc()) else {
-        return Ok(());
-    };
+    let mut table = RegionTable::build(rt.alloc())?;
     assert!(rt; put(&mut table, 4096, 7));
     assert_eq!(rt; asked(&table, 4096), Some(7));
     assert_eq!(rt; asked(&table, 8192), None);
@@ -57,9 +55,7 @@ fn one_block(rt: HostRuntime) -> Result<(), Fail> {
 
 #[test]
 fn one_home(rt: HostRuntime) -> Result<(), Fail> {
-    let Ok(mut table) = RegionTable::build(rt.alloc()) else {
-        return Ok(());
-    };
+    let mut table = RegionTable::build(rt.alloc())?;
     let mut first = colliding(0);
     let mut last = first;
     for i in 0..10_000u64 {

@@ -1,7 +1,7 @@
 -- The results of rounds ascend by round, and within a round by thread.
-use Rattle.std.proofs.Common.{◌≡◌, ◌⊎◌, ℕ, ◌+◌, ◌<◌, ◌≤◌, ◌&&◌, nat_lt, nat_le, Bool, true, List, [], ◌∷◌, ◌++◌, length, arith, refl, ap, ◌∙◌, sym, subst}
+use Rattle.std.proofs.Common.{◌≡◌, ◌⊎◌, ℕ, ◌+◌, ◌<◌, ◌≤◌, ◌&&◌, nat_lt, nat_le, true, List, [], ◌∷◌, ◌++◌, length, arith, refl, sym, subst}
 use Rattle.std.specs.List.{list_all}
-use Rattle.std.proofs.lemmas.Bool.{and_parts}
+use Rattle.std.proofs.lemmas.Bool.{and_from, and_parts}
 use mathlib.Core.Logic.{inl, inr}
 use Rattle.hm_report.specs.declared.results.Results.{Results}
 use Rattle.hm_report.specs.Findings.{ascends, precedes}
@@ -24,13 +24,10 @@ before : (s r : Results) → IsAfter s.round s.thread r → precedes s r ≡ tru
 before s r (inl l) = grind (arith, l)
 before s r (inr e) = let same : s.round ≡ r.round = e.0 in let less : s.thread < r.thread = e.1 in grind (arith, same, less)
 
-joined : (a b : Bool) → a ≡ true → b ≡ true → (a && b) ≡ true
-joined a b p q = ap (λ (x : Bool). x && b) p ∙ q
-
 they_ascend : (round thread : ℕ) (rs : List Results) → AreAfter round thread rs → ascends rs ≡ true
 they_ascend round thread [] a = refl
 they_ascend round thread (r ∷ []) a = refl
-they_ascend round thread (s ∷ r ∷ rs) a = joined (precedes s r) (ascends (r ∷ rs)) (before s r a.1.0) (they_ascend s.round s.thread (r ∷ rs) a.1)
+they_ascend round thread (s ∷ r ∷ rs) a = and_from (precedes s r) (ascends (r ∷ rs)) (before s r a.1.0) (they_ascend s.round s.thread (r ∷ rs) a.1)
 
 -- what stands after a later round stands after an earlier one
 earlier : (round later thread least : ℕ) (rs : List Results) → round < later → AreAfter later least rs → AreAfter round thread rs

@@ -6,7 +6,7 @@ use Rattle.hm_model.specs.declared.entry.Entry.{Entry}
 use Rattle.hm_turn.specs.Known.{Known}
 use Rattle.hm_turn.specs.Callers.{ended_of, is_among}
 use Rattle.hm_heap.specs.Passes.{met, all_met}
-use Rattle.hm_replay.proofs.Turns.{met_index, met_long}
+use Rattle.hm_heap.proofs.Splitting.{met_index, met_long}
 use Rattle.hm_replay.specs.declared.round.Worker.{Worker}
 use Rattle.hm_replay.specs.Workers.{after_joins}
 

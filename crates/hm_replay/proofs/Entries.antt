@@ -18,6 +18,7 @@ use Rattle.hm_replay.specs.Rounds.{RunsRound, RunsRounds, AreOfCallers, InRounds
 use Rattle.hm_replay.specs.Scripts.{Runs}
 use Rattle.hm_replay.specs.Steps.{Terms, who_at, Steps, base_of, names_after}
 use Rattle.hm_replay.specs.Uses.{Own, Uses, used_up}
+use Rattle.hm_replay.proofs.Gaining.{same_place}
 use Rattle.hm_replay.proofs.Turns.{map_index}
 
 module _ (P : Entry → Type 0) where
@@ -78,13 +79,10 @@ module _ (P : Entry → Type 0) where
   tail_of true e es all = all.1
   tail_of false e es all = all
 
-  itself : (n : ℕ) → (n == n) ≡ true
-  itself n = grind arith
-
   all_of : (first count : ℕ) (es : List Entry) → ((k : ℕ) → first ≤ k → k < first + count → EachIs P (calls_of es k)) → AreOfCallers first count es → EachIs P es
   all_of first count [] each of = tt
   all_of first count (e ∷ es) each of = (
-    head_of (e.who.caller == e.who.caller) e (calls_of es e.who.caller) (itself e.who.caller) (each e.who.caller of.0 of.1),
+    head_of (e.who.caller == e.who.caller) e (calls_of es e.who.caller) (same_place e.who.caller) (each e.who.caller of.0 of.1),
     all_of first count es (λ k l m. tail_of (e.who.caller == k) e (calls_of es k) (each k l m)) of.2,
   )
 

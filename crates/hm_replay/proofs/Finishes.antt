@@ -1,11 +1,10 @@
 -- One more pass is joined.
 use Rattle.std.proofs.Common.{◌≡◌, ◌-◌, List, [], ◌∷◌, ◌++◌, length-append, slice_index_or, map, arith, ap, ◌∙◌, sym, subst, suc, append_assoc}
-use Rattle.std.proofs.lemmas.List.{append-nil}
 use Rattle.hm_turn.specs.Known.{Lock, Known, IsOf}
 use Rattle.hm_heap.specs.Passes.{PassView, AreOf, AllKnow, all_met}
-use Rattle.hm_replay.proofs.Turns.{met_index, met_long}
+use Rattle.hm_heap.proofs.Splitting.{met_index, met_long}
 use Rattle.hm_replay.specs.declared.round.Worker.{Worker}
-use Rattle.hm_replay.specs.Workers.{FinishedTo, FinishingFrom, after_joins}
+use Rattle.hm_replay.specs.Workers.{FinishingFrom, after_joins}
 
 pub met_of : (locks : List Lock) (ts us : List Known) → AreOf locks ts → AreOf locks us → AreOf locks (all_met ts us)
 met_of locks ts us a b = record {
@@ -26,11 +25,3 @@ finishing_more {X} result_of locks p q q' workers rest w results i e known = let
       knows = λ l. known;
       count = omega (arith, i.count, length-append results (result_of w ∷ []));
     }
-
-pub finishes : {X : Type 0} (result_of : Worker → X) (locks : List Lock) (p q : PassView) (workers : List Worker) (results : List X) → FinishingFrom result_of locks p q workers [] results → FinishedTo result_of locks p q workers results
-finishes {X} result_of locks p q workers results i = record {
-  same = grind (arith, i.same, i.turns_are, i.out_is);
-  of = i.of;
-  results_are = sym (append-nil results) ∙ i.results_are;
-  knows = i.knows;
-}

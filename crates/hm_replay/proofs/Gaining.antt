@@ -49,7 +49,7 @@ gains_as ts us A B f a = record { own = a.own; mine = a.mine; is = λ left. f (�
 abbrev pub one_at : ℕ → Entry → Own
 one_at place e other = cond (other == place) (e ∷ []) []
 
-same_place : (place : ℕ) → (place == place) ≡ true
+pub same_place : (place : ℕ) → (place == place) ≡ true
 same_place place = grind arith
 
 other_place : (other place : ℕ) → other ≢ place → (other == place) ≡ false

@@ -7,7 +7,7 @@ use Rattle.hm_model.specs.Entries.{calls_of}
 use Rattle.hm_turn.specs.Known.{Known}
 use Rattle.hm_turn.specs.Histories.{longer, StartsWith}
 use Rattle.hm_heap.specs.Passes.{met, all_met}
-use Rattle.hm_replay.proofs.Turns.{met_index, met_long}
+use Rattle.hm_heap.proofs.Splitting.{met_index, met_long}
 use Rattle.hm_replay.specs.declared.round.Worker.{Worker}
 use Rattle.hm_replay.specs.Workers.{after_joins}
 
@@ -29,3 +29,7 @@ no_more (x ∷ xs) ys e = no_more xs ys cc
 pub calls_append : (a b : List Entry) (c : ℕ) → calls_of (a ++ b) c ≡ calls_of a c ++ calls_of b c
 calls_append [] b c = refl
 calls_append (e ∷ a) b c = let ih : calls_of (a ++ b) c ≡ calls_of a c ++ calls_of b c = calls_append a b c in grind (arith, common_steps, ih)
+
+-- the caller of an entry has made a call
+pub has_one : (e : Entry) (es : List Entry) → calls_of (e ∷ es) e.who.caller ≡ [] → ⊥
+has_one e es h = grind (arith, common_steps, h)

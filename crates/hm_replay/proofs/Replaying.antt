@@ -1,6 +1,5 @@
 -- Rounds one after another.
 use Rattle.std.proofs.Common.{◌≡◌, ◌≢◌, ℕ, ◌+◌, ◌<◌, ◌≤◌, false, List, [], ◌∷◌, ◌++◌, append_assoc, length, slice_index_or, Option, Some, None, arith, refl, ap, ◌∙◌, sym, subst, zero, suc}
-use Rattle.std.proofs.lemmas.Grind.{common_steps}
 use Rattle.std.proofs.lemmas.Bool.{cases_lt}
 use Rattle.std.proofs.lemmas.List.{append-nil}
 use mathlib.Core.Logic.{inl, inr}
@@ -22,7 +21,7 @@ use Rattle.hm_replay.specs.Replays.{HasReplayed, AreReplayed}
 use Rattle.hm_replay.specs.Scripts.{IsRun}
 use Rattle.hm_replay.specs.Uses.{Own}
 use Rattle.hm_replay.proofs.Gaining.{ext}
-use Rattle.hm_replay.proofs.Order.{no_more, calls_append}
+use Rattle.hm_replay.proofs.Order.{no_more, calls_append, has_one}
 use Rattle.hm_replay.proofs.Turns.{map_index, map_past, some_of}
 
 -- ---- the entries of callers elsewhere do not matter
@@ -172,9 +171,6 @@ seen_calls k c (Some calls) some w free e = w.of_ended c calls e
 none_left : (es : List Entry) → ((c : ℕ) → calls_of es c ≡ []) → es ≡ []
 none_left [] none = refl
 none_left (e ∷ es) none = absurd (has_one e es (none e.who.caller))
-  where
-    has_one : (e : Entry) (es : List Entry) → calls_of (e ∷ es) e.who.caller ≡ [] → ⊥
-    has_one e es h = grind (arith, common_steps, h)
 
 -- the history is what was seen
 all_seen : (h : List Entry) (k : Knowledge) → k.caller ≡ 0 → IsWhole h k → KnowsCallers k → ((c : ℕ) → ended_of c k.ended ≡ None → is_among c k.used ≡ false) → h ≡ k.seen

@@ -1,6 +1,5 @@
 -- A whole round.
 use Rattle.std.proofs.Common.{◌≡◌, ◌≢◌, ℕ, ◌+◌, ◌-◌, ◌<◌, ◌≤◌, ◌⊎◌, Bool, true, false, ◌==◌, cond, List, [], ◌∷◌, length, slice_index_or, map, Option, Some, None, IfSome, Result, Ok, Err, IfOk, arith, refl, ap, ◌∙◌, sym, subst, zero, suc}
-use Rattle.std.proofs.lemmas.Grind.{common_steps}
 use Rattle.std.proofs.lemmas.Bool.{cases_lt}
 use Rattle.std.proofs.lemmas.List.{length-map}
 use Rattle.std.specs.Result.{result_ok}
@@ -27,7 +26,7 @@ use Rattle.hm_replay.specs.Uses.{Own}
 use Rattle.hm_replay.specs.Workers.{AllCalledBy, HasRun, HasMade, HasParted, IsStarted, FinishedTo, after_joins, all_settled}
 use Rattle.hm_replay.proofs.Ends.{InOrder, keeps, knows, used_stays, own_stays}
 use Rattle.hm_replay.proofs.Gaining.{ext, starts_itself, starts_trans}
-use Rattle.hm_replay.proofs.Order.{joins_start, no_more, calls_append}
+use Rattle.hm_replay.proofs.Order.{joins_start, no_more, calls_append, has_one}
 use Rattle.hm_replay.proofs.Turns.{map_index, map_past, some_of, all_same}
 
 -- ---- the passes that are to be joined
@@ -142,9 +141,6 @@ of_callers first count (e ∷ es) none =
     let above : c < first + count = elim (cases_lt c (first + count)) [ inl l ↦ l | inr l ↦ absurd (has_one e es (none c (inr l))) ] in
     (below, above, of_callers first count es (λ d o. rest_none e es d (none d o)))
   where
-    has_one : (e : Entry) (es : List Entry) → calls_of (e ∷ es) e.who.caller ≡ [] → ⊥
-    has_one e es h = grind (arith, common_steps, h)
-
     rest_by : (b : Bool) (e : Entry) (xs : List Entry) → cond b (e ∷ xs) xs ≡ [] → xs ≡ []
     rest_by true e xs h = absurd cc
     rest_by false e xs h = h

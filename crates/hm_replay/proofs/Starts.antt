@@ -8,7 +8,8 @@ use mathlib.Core.Logic.{inl, inr}
 use Rattle.hm_turn.specs.Known.{Lock, Known}
 use Rattle.hm_turn.specs.Callers.{is_among}
 use Rattle.hm_heap.specs.Passes.{PassView, AreOf, cut, born}
-use Rattle.hm_replay.proofs.Turns.{map_index, map_long, of_cut, of_born}
+use Rattle.hm_heap.proofs.Splitting.{map_long}
+use Rattle.hm_replay.proofs.Turns.{map_index, of_cut, of_born}
 use Rattle.hm_trace.specs.Views.{ScriptView}
 use Rattle.hm_replay.specs.Names.{Names, held}
 use Rattle.hm_replay.specs.Gains.{mine_of}

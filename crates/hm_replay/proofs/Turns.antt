@@ -1,8 +1,8 @@
 -- The turns of a pass after a split or a join of all of them.
-use Rattle.std.proofs.Common.{◌≡◌, ℕ, ◌<◌, ◌≤◌, List, [], ◌∷◌, length, map, slice_index_or, arith, refl, ap, zero, suc, ◌∙◌, sym, subst}
-use Rattle.std.proofs.lemmas.Grind.{common_steps}
+use Rattle.std.proofs.Common.{◌≡◌, ℕ, ◌<◌, ◌≤◌, List, [], ◌∷◌, length, map, slice_index_or, arith, refl, zero, suc, ◌∙◌, sym, subst}
 use Rattle.hm_turn.specs.Known.{Lock, Known, IsOf}
-use Rattle.hm_heap.specs.Passes.{AreOf, cut, born, met, all_met}
+use Rattle.hm_heap.specs.Passes.{AreOf, cut, born}
+use Rattle.hm_heap.proofs.Splitting.{map_long}
 
 pub map_index : {X Y : Type 0} (f : X → Y) (xs : List X) (k : ℕ) (x : X) (y : Y) → k < length xs → slice_index_or (map f xs) k y ≡ f (slice_index_or xs k x)
 map_index f [] k x y b = absurd (omega arith)
@@ -13,20 +13,6 @@ pub map_past : {X Y : Type 0} (f : X → Y) (xs : List X) (k : ℕ) (y : Y) → 
 map_past f [] k y b = refl
 map_past f (z ∷ zs) zero y b = absurd (omega arith)
 map_past f (z ∷ zs) (suc k) y b = map_past f zs k y (omega arith)
-
-pub map_long : {X : Type 0} (f : X → X) (xs : List X) → length (map f xs) ≡ length xs
-map_long f xs = grind (arith, common_steps)
-
-pub met_long : (ts us : List Known) → length (all_met ts us) ≡ length ts
-met_long [] us = refl
-met_long (t ∷ ts) [] = refl
-met_long (t ∷ ts) (u ∷ us) = ap suc (met_long ts us)
-
-pub met_index : (ts us : List Known) (k : ℕ) (t u : Known) → length us ≡ length ts → k < length ts → slice_index_or (all_met ts us) k t ≡ met (slice_index_or ts k t) (slice_index_or us k u)
-met_index [] us k t u p b = absurd (omega arith)
-met_index (t ∷ ts) [] k d e p b = absurd (omega arith)
-met_index (t ∷ ts) (u ∷ us) zero d e p b = refl
-met_index (t ∷ ts) (u ∷ us) (suc k) d e p b = met_index ts us k d e (omega arith) (omega arith)
 
 pub of_cut : (locks : List Lock) (c : ℕ) (ts : List Known) → AreOf locks ts → AreOf locks (map (cut c) ts)
 of_cut locks c ts of = record {

@@ -1,5 +1,5 @@
 //! The addresses that the names of a script hold.
-ghost use Rattle.std.specs.Prelude.{◌≡◌, IfSome, IfOk, OnOk};
+ghost use Rattle.std.specs.Prelude.{◌≡◌, IfSome, IfNone, IsOk, IfOk, OnOk, OnErr};
 ghost use Rattle.hm_trace.specs.Views.{name_view};
 ghost use Rattle.hm_heap.specs.Requests.{IsInReach};
 ghost use Rattle.hm_replay.specs.Names.{no_names, held, with_name};
@@ -46,10 +46,12 @@ impl Env {
         self.addresses.get(name).copied()
     }
 
-    /// Sets a name to an address, or unsets it.
+    /// Sets a name to an address, or unsets it, which takes no memory.
     pub(crate) fn set(&mut self, name: Name, given: Option<u64>) -> Result<(), NoMemory>
         requires reach { IfSome given IsInReach }
         ensures value { OnOk result (held self.new ≡ with_name (held self.old) (name_view name) given) }
+        ensures memory { OnErr result (self.new ≡ self.old) }
+        ensures unset { IfNone given (IsOk result) }
     {
         match given {
             Some(addr) => {

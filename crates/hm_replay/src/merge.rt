@@ -1,8 +1,7 @@
 //! The names that a script sets are merged with those of the round.
 ghost use Rattle.std.specs.Prelude.{◌≡◌, ◌||◌, ℕ, List, OnOk, IfOk};
-ghost use Rattle.std.specs.Option.{option_map};
-ghost use Rattle.hm_trace.specs.Traces.{name_set, sets_name};
-ghost use Rattle.hm_trace.specs.Views.{name_view, step_view, steps_view};
+ghost use Rattle.hm_trace.specs.Traces.{sets_name};
+ghost use Rattle.hm_trace.specs.Views.{step_view, steps_view};
 ghost use Rattle.hm_replay.specs.Names.{held, is_one_of, merged, AreSetBy};
 
 use crate::env::Env;
@@ -11,25 +10,12 @@ use hm_trace::{Name, Step};
 use std::alloc::Global;
 use std::collections::BTreeSet;
 
-// The name that a step sets.
-fn name_set(step: &Step) -> Option<Name>
-    ensures { option_map name_view result ≡ name_set (step_view step.now) }
-{
-    match step {
-        Step::Malloc { name, .. }
-        | Step::Calloc { name, .. }
-        | Step::Aligned { name, .. }
-        | Step::Realloc { name, .. } => Some(*name),
-        _ => None,
-    }
-}
-
 // The name that a step sets joins the others.
 fn take_name(names: &mut BTreeSet<Name>, step: &Step) -> Result<(), NoMemory>
     ensures { OnOk result ((q : List ℕ) → is_one_of q names.new.keys
         ≡ (is_one_of q names.old.keys || sets_name q (step_view step.now))) }
 {
-    let Some(name) = name_set(step) else {
+    let Some(name) = step.name_set() else {
         return Ok(());
     };
     let _ = names.insert(name)?;

@@ -1,5 +1,5 @@
 //! A round: one pass for each script, each run in a thread of its own.
-ghost use Rattle.std.specs.Prelude.{◌≡◌, ℕ, ◌+◌, ◌<◌, ◌≤◌, ◌^◌, [], length, map, slice_index_or, vec_len, vec_capacity, Some, IfSome, IfOk, OnOk, OnErr};
+ghost use Rattle.std.specs.Prelude.{◌≡◌, ℕ, ◌+◌, ◌<◌, ◌≤◌, ◌^◌, [], length, map, slice_index_or, vec_len, vec_capacity, Some, IfOk, OnOk, OnErr};
 ghost use Rattle.hm_heap.specs.Passes.{AreOf};
 ghost use Rattle.hm_replay.specs.Names.{held};
 ghost use Rattle.hm_replay.specs.RoundOf.{LeavesRoot, ended_in};

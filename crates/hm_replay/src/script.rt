@@ -78,7 +78,8 @@ fn run_steps<R: Wait, P: Pages, G: Gate>(
     Ok(results)
 }
 
-/// Runs a script under a pass that has made no call yet.
+/// Runs a script under a pass that has made no call yet. For want of memory it ends at a step in the middle: the
+/// names are then as the steps before have left them, and no clause says how many those are.
 pub fn run_script<R: Wait, P: Pages, G: Gate>(
     rt: &R,
     alloc: Global,

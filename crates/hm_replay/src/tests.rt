@@ -5,16 +5,15 @@ ghost use Rattle.hm_heap.specs.Passes.{AreOf};
 use crate::{Env, run_round, small_rounds};
 use hm_heap::{Heap, Pass};
 use hm_model::{Answer, Entry, Reply};
-use hm_outside::{Gate, NoGate, NoMemory, Pages, PlainMaker, RegionId};
+use hm_outside::{Gate, NoGate, NoMemory, Pages, PlainMaker};
 use hm_report::{Results, StepResult, report};
 use hm_sizes::Config;
 use hm_trace::{Round, read_trace};
 use std::alloc::Global;
 use std::slice;
 use std::sync::Wait;
-use std::sync::atomic::{AtomicU64, Ordering};
 use std::test::Fail;
-use std::thread::{self, Threads};
+use std::thread::Threads;
 
 /// Runs the rounds in order.
 fn run_rounds<R: Threads + Wait + Sync, P: Pages, G: Gate>(
@@ -43,16 +42,15 @@ fn run_rounds<R: Threads + Wait + Sync, P: Pages, G: Gate>(
 }
 
 /// The reports of the scripts of a trace, one after another.
-fn report_of<R: Threads + Wait + Sync, G: Gate>(
+fn report_of<R: Threads + Wait + Sync>(
     rt: &R,
     alloc: Global,
-    gate: &G,
     text: &[u8],
 ) -> Result<Vec<u8>, NoMemory> {
     let Ok(trace) = read_trace(alloc, text) else {
         return Err(NoMemory);
     };
-    let (heap, mut root) = Heap::build(alloc, Config::standard(), 1, &mut PlainMaker, gate)?;
+    let (heap, mut root) = Heap::build(alloc, Config::standard(), 1, &mut PlainMaker, &NoGate)?;
     let results = run_rounds(rt, alloc, &heap, &mut root, trace.rounds())?;
     let mut told = Vec::new(alloc);
     for of_script in &results {
@@ -98,56 +96,9 @@ const TABLE: [(&[u8], &[u8], &[u8]); 5] = [
 #[test]
 fn reports_of_rounds(rt: HostRuntime) -> Result<(), Fail> {
     for (text, one, other) in &TABLE {
-        let told = report_of(&rt, rt.alloc(), &NoGate, text)?;
+        let told = report_of(&rt, rt.alloc(), text)?;
         assert!(rt; told.as_slice() == *one || told.as_slice() == *other);
     }
-    Ok(())
-}
-
-/// A gate that holds the first call in each of two regions until both were entered, or for 10,000,000 turns.
-#[derive(Drop)]
-struct Meeting {
-    small: AtomicU64,
-    great: AtomicU64,
-    missed: AtomicU64,
-}
-
-impl Meeting {
-    fn wait_for(&self, word: &AtomicU64) {
-        for _ in 0u32..10_000_000 {
-            if word.load(Ordering::SeqCst) > 0 {
-                return;
-            }
-            thread::yield_now();
-        }
-        self.missed.fetch_add(1, Ordering::SeqCst);
-    }
-}
-
-impl Gate for Meeting {
-    fn inside(&self, region: RegionId, _caller: u32) {
-        if region.0 == 1 {
-            self.small.fetch_add(1, Ordering::SeqCst);
-            self.wait_for(&self.great);
-        }
-        if region.0 == 77 {
-            self.great.fetch_add(1, Ordering::SeqCst);
-            self.wait_for(&self.small);
-        }
-    }
-}
-
-#[test]
-fn threads_of_a_round_run_at_once(rt: HostRuntime) -> Result<(), Fail> {
-    let gate = Meeting {
-        small: AtomicU64::new(0),
-        great: AtomicU64::new(0),
-        missed: AtomicU64::new(0),
-    };
-    let text = b"hmtrace 1\nround\nthread 1\nmalloc a 8\nthread 2\nmalloc b 4000\nend\n";
-    let told = report_of(&rt, rt.alloc(), &gate, text)?;
-    assert!(rt; gate.missed.load(Ordering::SeqCst) == 0);
-    assert!(rt; told.as_slice() == b"1.1.1 given 8\n1.2.1 given 4088\n".as_slice());
     Ok(())
 }
 

@@ -1,6 +1,6 @@
 //! The lines of a report: each has the round, thread and step of a result, and its text.
 ghost use Rattle.std.specs.Prelude.{◌≡◌, ◌++◌, true, OnOk, IfOk, string_bytes};
-ghost use Rattle.hm_report.specs.Text.{line_text, lines_text, script_text, report_text};
+ghost use Rattle.hm_report.specs.Text.{line_text, lines_text, report_text};
 ghost use Rattle.hm_report.specs.Findings.{ascends};
 
 use crate::text::push_result;

@@ -1,3 +1,4 @@
+//! The text of each answer and whether it is a finding, the lines of reports, and what summaries count.
 use crate::{Results, StepResult, has_finding, report, summary};
 use hm_model::{Answer, Reply, Runs};
 use hm_outside::List;

@@ -1,12 +1,16 @@
 //! The configuration of an allocator.
 
-const PAGE: u64 = 4096;
+/// The bytes of a page.
+pub const PAGE: u64 = 4096;
 
-const LEAST_SPACE: u64 = 1 << 20;
+/// The fewest bytes of a class region, and of the large one.
+pub const LEAST_SPACE: u64 = 1 << 20;
 
-const MOST_CLASS_REGION: u64 = 1 << 35;
+/// The most bytes of a class region, which it has in the standard configuration.
+pub const MOST_CLASS_REGION: u64 = 1 << 35;
 
-const MOST_LARGE_SPACE: u64 = 1 << 40;
+/// The most bytes of the large region, which it has in the standard configuration.
+pub const MOST_LARGE_SPACE: u64 = 1 << 40;
 
 /// The configuration of an allocator.
 #[derive(Clone, Copy, Debug, PartialEq, Eq, Drop)]
@@ -41,8 +45,8 @@ impl Config {
     {
         Config {
             arenas: 4,
-            class_region: 1 << 35,
-            large_space: 1 << 40,
+            class_region: MOST_CLASS_REGION,
+            large_space: MOST_LARGE_SPACE,
             guard_interval: 1,
             array_base: 1,
             ring_base: 1,

@@ -1,3 +1,5 @@
+//! The table of classes, where requests go, the shapes of regions, and the home of an address.
+
 use crate::{
     ClassId, Config, Home, Kind, Shape, class_aligned, class_of, home_of, place_of, shape_of,
 };

@@ -1,6 +1,6 @@
 //! Slabs in the order in which they were first opened, in four lists that are linked through their records.
 //! Contracts see lists of indices and say nothing of links; a slab may be in no list.
-ghost use Rattle.std.specs.Prelude.{◌≡◌, ◌<◌, ◌≤◌, length, slice_get, Some, IsOk, OnOk};
+ghost use Rattle.std.specs.Prelude.{◌≡◌, ◌<◌, ◌≤◌, length, slice_get, Some, IsOk, OnOk, OnErr};
 ghost use Rattle.std.specs.Option.{option_copied, option_copied_mut};
 ghost use Rattle.std.specs.Borrow.{sem};
 ghost use Rattle.hm_slab_lists.specs.Links.{front};
@@ -92,6 +92,7 @@ impl Chains {
     pub(crate) fn reserve_one(&mut self) -> Result<(), AllocError>
         ensures room { OnOk result (1 ≤ self.new.room) }
         ensures more { self.old.room ≤ self.new.room }
+        ensures err { OnErr result (self.new ≡ self.old) }
         ensures enough { 1 ≤ self.old.room → IsOk result }
         ensures metas { self.new.metas ≡ self.old.metas }
         ensures lists { self.new.lists ≡ self.old.lists }

@@ -1,6 +1,6 @@
 //! The slabs of a region by number.
 //! A slab that was opened is in one of four lists or in the parking array.
-ghost use Rattle.std.specs.Prelude.{◌≡◌, ◌<◌, ◌≤◌, ◌^◌, ℕ, length, replicate, slice_index_or, Some, None, true, IfOk, IsOk, OnOk};
+ghost use Rattle.std.specs.Prelude.{◌≡◌, ◌<◌, ◌≤◌, ◌^◌, ℕ, length, replicate, slice_index_or, Some, None, true, IfOk, IsOk, OnOk, OnErr};
 ghost use Rattle.std.specs.Option.{option_copied, option_copied_mut};
 ghost use Rattle.std.specs.Borrow.{sem};
 ghost use Rattle.std.specs.FinMap as map;
@@ -173,6 +173,7 @@ impl SlabLists {
         ensures rest { self.new ≡ with_spare self.new.spare self.old }
         ensures room { OnOk result (1 ≤ self.new.spare) }
         ensures more { self.old.spare ≤ self.new.spare }
+        ensures err { OnErr result (self.new ≡ self.old) }
         ensures enough { 1 ≤ self.old.spare → IsOk result }
     {
         self.chains.reserve_one()?;

@@ -61,18 +61,21 @@ impl SlabMeta {
         }
     }
 
+    /// The number that stands behind the usable bytes of each slot that is given.
     pub fn canary(&self) -> u64
         ensures { result ≡ self.now.canary }
     {
         self.canary
     }
 
+    /// Sets that number. It writes no byte of a slot.
     pub fn set_canary(&mut self, canary: u64)
         ensures { self.new ≡ with_canary self.old canary }
     {
         self.canary = canary;
     }
 
+    /// How a slot is used. Of a condemned one it does not say whether it was ever given.
     pub fn state(&self, slot: u32) -> SlotState
         requires { slot < length self.now.slots }
         ensures { option_map state_of (slice_get self.now.slots slot) ≡ Some result }

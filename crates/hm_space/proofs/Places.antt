@@ -4,24 +4,11 @@ use Rattle.std.specs.Prelude.{IfSome}
 use Rattle.std.specs.List.{insert, remove}
 use Rattle.std.specs.Result.{is_ok}
 use Rattle.std.specs.List.Sorted.{IsPartitionedBy, IsPartitionPoint, IsNonDecreasingBy}
-use Rattle.std.proofs.lemmas.Bool.{cases_lt}
+use Rattle.std.proofs.lemmas.Bool.{cases_lt, leb-true, leb-false, le-leb, lt-leb}
 use Rattle.std.proofs.lemmas.Option.{none-some, same_Some}
-use Rattle.std.proofs.lemmas.Bool.Decides.{nat_tests}
 use Rattle.hm_space.specs.declared.free_range.FreeRange.{FreeRange}
 use Rattle.hm_space.specs.Ranges.{end_of, IsWithin, IsInSome, IsRangeFrom, AreApart, LiesIn, begun}
 use Rattle.hm_space.proofs.Apart.{behind, lower_from, in_from}
-
-le_is : (a b : ℕ) → nat_le a b ≡ true → a ≤ b
-le_is a b e = grind (arith, nat_tests)
-
-is_le : (a b : ℕ) → a ≤ b → nat_le a b ≡ true
-is_le a b e = grind (arith, nat_tests)
-
-not_le : (a b : ℕ) → nat_le a b ≡ false → b < a
-not_le a b e = grind (arith, nat_tests)
-
-is_not_le : (a b : ℕ) → b < a → nat_le a b ≡ false
-is_not_le a b e = grind (arith, nat_tests)
 
 -- the range at a place
 pub range_at : (low : ℕ) (rs : List FreeRange) (i : ℕ) (r : FreeRange) → AreApart low rs → slice_get rs i ≡ Some r → IsRangeFrom low r
@@ -87,7 +74,7 @@ begun_within (x ∷ xs) at = elim (nat_le x.start at) as (λ b. cond b (suc (beg
 
 begun_none : (low : ℕ) (rs : List FreeRange) (at : ℕ) → AreApart low rs → at < low → begun rs at ≡ 0
 begun_none low [] at h lt = refl
-begun_none low (x ∷ xs) at h lt = ap (λ (b : Bool). cond b (suc (begun xs at)) 0) (is_not_le x.start at (omega (arith, h.0.from)))
+begun_none low (x ∷ xs) at h lt = ap (λ (b : Bool). cond b (suc (begun xs at)) 0) (lt-leb x.start at (omega (arith, h.0.from)))
 
 -- the range at that place begins past the address
 pub begun_past : (rs : List FreeRange) (at : ℕ) → IfSome (slice_get rs (begun rs at)) (λ r. at < r.start)
@@ -95,12 +82,12 @@ begun_past [] at = tt
 begun_past (x ∷ xs) at =
     elim (nat_le x.start at) as (λ b. nat_le x.start at ≡ b → IfSome (slice_get (x ∷ xs) (cond b (suc (begun xs at)) 0)) (λ r. at < r.start)) [
       | true ↦ λ e. begun_past xs at
-      | false ↦ λ e. not_le x.start at e
+      | false ↦ λ e. leb-false x.start at e
     ] refl
 
 begun_front :
     (x : FreeRange) (xs : List FreeRange) (at i : ℕ) (r : FreeRange) → nat_le x.start at ≡ true → i < suc (begun xs at) → slice_get (x ∷ xs) i ≡ Some r → ((j : ℕ) → j < begun xs at → slice_get xs j ≡ Some r → r.start ≤ at) → r.start ≤ at
-begun_front x xs at zero r e less is rest = subst (λ (y : FreeRange). y.start ≤ at) (same_Some x r is) (le_is x.start at e)
+begun_front x xs at zero r e less is rest = subst (λ (y : FreeRange). y.start ≤ at) (same_Some x r is) (leb-true x.start at e)
 begun_front x xs at (suc i) r e less is rest = rest i (omega (arith, less)) is
 
 -- and those before it do not
@@ -127,7 +114,7 @@ rises low (x ∷ xs) h (suc i) zero d le lt = absurd (omega arith)
 rises low (x ∷ xs) h (suc i) (suc j) d le lt = rises (end_of x + 1) xs h.1 i j d (omega arith) (omega arith)
 
 pub is_parted : (rs : List FreeRange) (at : ℕ) → AreApart 0 rs → IsPartitionedBy (λ (r : FreeRange). nat_le r.start at) rs
-is_parted rs at h i j d le lt is = is_le _ _ (omega (arith, rises 0 rs h i j d le lt, le_is _ _ is))
+is_parted rs at h i j d le lt is = le-leb _ _ (omega (arith, rises 0 rs h i j d le lt, leb-true _ _ is))
 
 pub point_is : (rs : List FreeRange) (at n : ℕ) → n ≤ length rs → IsPartitionPoint (λ (r : FreeRange). nat_le r.start at ≡ true) (λ r. nat_le r.start at ≡ false) rs n → n ≡ begun rs at
 point_is [] at n le p = omega arith
@@ -183,7 +170,7 @@ found_at : (low : ℕ) (rs : List FreeRange) (at len : ℕ) → AreApart low rs 
 found_at low [] at len h some l = absurd l
 found_at low (x ∷ xs) at len h some (inl l) = record {
   place = 0;
-  last = ap (λ (b : Bool). cond b (suc (begun xs at)) 0) (is_le x.start at l.from) ∙ ap suc (begun_none (end_of x + 1) xs at h.1 (omega (arith, l.to)));
+  last = ap (λ (b : Bool). cond b (suc (begun xs at)) 0) (le-leb x.start at l.from) ∙ ap suc (begun_none (end_of x + 1) xs at h.1 (omega (arith, l.to)));
   range = x;
   here = refl;
   holds = l;
@@ -191,7 +178,7 @@ found_at low (x ∷ xs) at len h some (inl l) = record {
 found_at low (x ∷ xs) at len h some (inr l) =
     let f = found_at (end_of x + 1) xs at len h.1 some l in record {
       place = suc f.place;
-      last = ap (λ (b : Bool). cond b (suc (begun xs at)) 0) (is_le x.start at (omega (arith, lies_from (end_of x + 1) xs at len h.1 l))) ∙ ap suc f.last;
+      last = ap (λ (b : Bool). cond b (suc (begun xs at)) 0) (le-leb x.start at (omega (arith, lies_from (end_of x + 1) xs at len h.1 l))) ∙ ap suc f.last;
       range = f.range;
       here = f.here;
       holds = f.holds;

@@ -44,7 +44,8 @@ impl Space {
         Ok(Space { ranges, out: 0 })
     }
 
-    /// The lowest address from which `len` are free, such that `front` past it is a multiple of `align`.
+    /// The lowest address from which `len` are free, such that `front` past it is a multiple of `align`. It looks
+    /// at the free ranges in order, so its time grows with their number.
     pub fn find(&self, len: u64, align: u64, front: u64) -> Option<u64>
         requires some { 1 ≤ len }
         requires align { 1 ≤ align }

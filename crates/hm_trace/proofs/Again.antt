@@ -2,7 +2,7 @@
 use Rattle.std.proofs.Common.{◌≡◌, ⊎_elim, ℕ, zero, suc, ◌≤◌, ◌<◌, ◌^◌, true, false, not, ◌&&◌, eqb, leb, List, [], ◌∷◌, ◌++◌, length, take, codes, Ok, ℤ, pos, negsuc, refl, ◌∙◌, ap, subst, arith}
 use Rattle.std.specs.List.{list_all}
 use Rattle.std.specs.Fmt.{decimal}
-use Rattle.std.proofs.lemmas.Bool.{leb-true, le-leb}
+use Rattle.std.proofs.lemmas.Bool.{leb-true, le-leb, and_parts, cases_Bool}
 use Rattle.std.proofs.lemmas.Bool.Decides.{nat_tests}
 use Rattle.std.proofs.lemmas.List.{take_at, drop_at}
 use Rattle.hm_trace.specs.Lines.{is_sign, sign_place}
@@ -10,7 +10,7 @@ use Rattle.hm_trace.specs.Names.{is_letter, is_name, is_name_byte, is_word}
 use Rattle.hm_trace.specs.ReadWords.{distance_at, name_at, named_at, offset_at, size_at}
 use Rattle.hm_trace.specs.Spelling.{offset_word}
 use Rattle.hm_trace.specs.Views.{Named}
-use Rattle.hm_trace.proofs.Choices.{both, told, word_is}
+use Rattle.hm_trace.proofs.Choices.{word_is}
 use Rattle.hm_trace.proofs.Fits.{FitsOffset}
 use Rattle.hm_trace.proofs.Numerals.{again}
 
@@ -35,9 +35,9 @@ pub name_bytes : (name : List ℕ) → is_name name ≡ true → (list_all is_na
 unfolding is_name
 name_bytes [] h = absurd cc
 name_bytes (c ∷ cs) h =
-    let a = both (is_letter c && list_all is_name_byte cs && leb (length cs) 31) (not (is_word (c ∷ cs) (codes "null"))) h in
-    let b = both (is_letter c && list_all is_name_byte cs) (leb (length cs) 31) a.0 in
-    let d = both (is_letter c) (list_all is_name_byte cs) b.0 in
+    let a = and_parts (is_letter c && list_all is_name_byte cs && leb (length cs) 31) (not (is_word (c ∷ cs) (codes "null"))) h in
+    let b = and_parts (is_letter c && list_all is_name_byte cs) (leb (length cs) 31) a.0 in
+    let d = and_parts (is_letter c) (list_all is_name_byte cs) b.0 in
     let short : length cs ≤ 31 = leb-true _ _ b.1 in
     let letter : is_letter c ≡ true = d.0 in
     let all : list_all is_name_byte cs ≡ true = d.1 in
@@ -54,7 +54,7 @@ sign_at_end : (name : List ℕ) (z : ℤ) → list_all is_name_byte name ≡ tru
 sign_at_end [] (pos zero) h = refl
 sign_at_end [] (pos (suc n)) h = refl
 sign_at_end [] (negsuc n) h = refl
-sign_at_end (c ∷ cs) z h = let b = both (is_name_byte c) (list_all is_name_byte cs) h in let n : is_sign c ≡ false = no_sign c b.0 in let r = sign_at_end cs z b.1 in rw n (omega (arith, r))
+sign_at_end (c ∷ cs) z h = let b = and_parts (is_name_byte c) (list_all is_name_byte cs) h in let n : is_sign c ≡ false = no_sign c b.0 in let r = sign_at_end cs z b.1 in rw n (omega (arith, r))
 
 pub named_again : (name : List ℕ) (z : ℤ) → is_name name ≡ true → FitsOffset z → named_at (name ++ offset_word z) ≡ Ok (Named name z)
 unfolding named_at
@@ -72,7 +72,7 @@ not_null name z h =
     let is : codes "null" ≡ name = subst (λ (w : List ℕ). take (sign_place w) w ≡ name) (word_is word (codes "null") t) front in
     let bad : is_name name ≡ false = subst (λ (w : List ℕ). is_name w ≡ false) is null_no_name in absurd cc)
     (λ (t : is_word word (codes "null") ≡ false). t)
-    (told (is_word word (codes "null")))
+    (cases_Bool (is_word word (codes "null")))
 
 -- a name begins with a letter
 abbrev pub NotAt : List ℕ → Type 0
@@ -86,6 +86,6 @@ pub first_letter : (name : List ℕ) → is_name name ≡ true → NotAt name
 unfolding is_name
 first_letter [] h = absurd cc
 first_letter (c ∷ cs) h =
-    let a = both (is_letter c && list_all is_name_byte cs && leb (length cs) 31) (not (is_word (c ∷ cs) (codes "null"))) h in
-    let b = both (is_letter c && list_all is_name_byte cs) (leb (length cs) 31) a.0 in
-    letter c (both (is_letter c) (list_all is_name_byte cs) b.0).0
+    let a = and_parts (is_letter c && list_all is_name_byte cs && leb (length cs) 31) (not (is_word (c ∷ cs) (codes "null"))) h in
+    let b = and_parts (is_letter c && list_all is_name_byte cs) (leb (length cs) 31) a.0 in
+    letter c (and_parts (is_letter c) (list_all is_name_byte cs) b.0).0

@@ -2,6 +2,7 @@
 use Rattle.std.proofs.Common.{◌≡◌, ⊎_elim, ℕ, suc, ◌≤◌, Bool, true, false, not, ◌&&◌, cond, eqb, ltb, leb, min, List, [], ◌∷◌, length, drop, codes, Option, Some, None, Result, Ok, Err, refl, sym, ◌∙◌, ap, subst, arith}
 use Rattle.std.specs.List.{list_all}
 use Rattle.std.proofs.lemmas.Bool.Decides.{nat_tests}
+use Rattle.std.proofs.lemmas.Bool.{cases_Bool}
 use Rattle.hm_trace.specs.declared.fault.FaultKind.{FaultKind}
 use Rattle.hm_trace.specs.declared.fault.FaultKind.TheVariants.{BadName, BadNumber, BadWord, LineTooLong, NameSetTwice, NotAscii, TooManyRounds, TooManySteps, TooManyThreads}
 use Rattle.hm_trace.specs.declared.progress.Open.{Open}
@@ -18,7 +19,7 @@ use Rattle.hm_trace.specs.Spelling.{step_words}
 use Rattle.hm_trace.specs.Traces.{is_set, sets_again}
 use Rattle.hm_trace.specs.Views.{Aligned, Calloc, Free, Malloc, Read, Realloc, ScriptView, Sfree, Size, StepView, Write}
 use Rattle.hm_trace.proofs.Agreeing.{Agrees, PartAgrees, seen_of}
-use Rattle.hm_trace.proofs.Choices.{told, word_is}
+use Rattle.hm_trace.proofs.Choices.{word_is}
 use Rattle.hm_trace.proofs.GoodLines.{after_step}
 use Rattle.hm_trace.proofs.Numerals.{a_thread, no_thread}
 use Rattle.hm_trace.proofs.Parts.{aligned_form, calloc_form, free_form, malloc_form, read_form, realloc_form, sfree_form, size_form, write_form}
@@ -220,7 +221,7 @@ unknown stage first rest r t h e =
     ⊎_elim
     (λ k. let is : first ≡ codes "end" = word_is first (codes "end") k in subst (λ (w : List ℕ). is_formed stage (w ∷ rest) ≡ false) (sym is) (end_more stage rest (λ s. e (ap (λ (w : List ℕ). w ∷ rest) is ∙ s))))
     (λ (k : is_word first (codes "end") ≡ false). let h0 = h.no_malloc in let h1 = h.no_calloc in let h2 = h.no_aligned in let h3 = h.no_realloc in let h4 = h.no_free in let h5 = h.no_sfree in let h6 = h.no_write in let h7 = h.no_read in let h8 = h.no_size in rw (r, t, k, h0, h1, h2, h3, h4, h5, h6, h7, h8) refl)
-    (told (is_word first (codes "end")))
+    (cases_Bool (is_word first (codes "end")))
 
 no_step_known : (stage : Open) (p : Progress) (first : List ℕ) (rest : List (List ℕ)) → IsNoStep first → step_line_at (state stage p) (first ∷ rest) ≡ Err BadWord
 unfolding step_line_at next_step_at step_at
@@ -244,15 +245,15 @@ step_agrees p line first rest r t e =
     (λ k6. ⊎_elim (λ h. here (codes "read") (read_line p.stage p line rest) h)
     (λ k7. ⊎_elim (λ h. here (codes "size") (size_line p.stage p line rest) h)
     (λ k8. other (record { no_malloc = k0; no_calloc = k1; no_aligned = k2; no_realloc = k3; no_free = k4; no_sfree = k5; no_write = k6; no_read = k7; no_size = k8 }))
-    (told (is_word first (codes "size"))))
-    (told (is_word first (codes "read"))))
-    (told (is_word first (codes "write"))))
-    (told (is_word first (codes "sfree"))))
-    (told (is_word first (codes "free"))))
-    (told (is_word first (codes "realloc"))))
-    (told (is_word first (codes "aligned"))))
-    (told (is_word first (codes "calloc"))))
-    (told (is_word first (codes "malloc")))
+    (cases_Bool (is_word first (codes "size"))))
+    (cases_Bool (is_word first (codes "read"))))
+    (cases_Bool (is_word first (codes "write"))))
+    (cases_Bool (is_word first (codes "sfree"))))
+    (cases_Bool (is_word first (codes "free"))))
+    (cases_Bool (is_word first (codes "realloc"))))
+    (cases_Bool (is_word first (codes "aligned"))))
+    (cases_Bool (is_word first (codes "calloc"))))
+    (cases_Bool (is_word first (codes "malloc")))
 
 words_agree : (p : Progress) (line : List ℕ) (words : List (List ℕ)) → former p.stage ≤ 16 → (words ≡ codes "end" ∷ [] → ⊥) → Agrees (words_line_at p words) (rows p line words)
 unfolding words_line_at
@@ -262,8 +263,8 @@ words_agree p line (first ∷ rest) small e =
     ⊎_elim (λ h. subst goal (sym (word_is first (codes "round") h)) (round_line p line rest))
     (λ h. ⊎_elim (λ k. subst goal (sym (word_is first (codes "thread") k)) (thread_agrees p line rest small))
     (λ k. subst (λ (x : Result Progress FaultKind). Agrees x (rows p line (first ∷ rest))) (sym (goes_on p first rest h k)) (step_agrees p line first rest h k e))
-    (told (is_word first (codes "thread"))))
-    (told (is_word first (codes "round")))
+    (cases_Bool (is_word first (codes "thread"))))
+    (cases_Bool (is_word first (codes "round")))
   where
     round_line : (p : Progress) (line : List ℕ) (rest : List (List ℕ)) → Agrees (words_line_at p (codes "round" ∷ rest)) (rows p line (codes "round" ∷ rest))
     round_line p line [] = round_agrees p line

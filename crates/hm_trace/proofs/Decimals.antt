@@ -2,13 +2,13 @@
 use Rattle.std.proofs.Common.{◌≡◌, ℕ, ◌+◌, ◌-◌, ◌*◌, ◌^◌, ◌<◌, ◌≤◌, true, ◌&&◌, eqb, leb, min, List, [], ◌∷◌, length, get_or, Option, Some, None, option_and_then, ⊎_elim, refl, sym, ◌∙◌, ap, subst, arith, rules}
 use Rattle.std.specs.Str.{all_ascii_digits}
 use Rattle.std.specs.Fmt.{decimal}
-use Rattle.std.proofs.lemmas.Bool.{leb-true}
+use Rattle.std.proofs.lemmas.Bool.{leb-true, and_parts}
 use Rattle.std.proofs.lemmas.Bool.Decides.{nat_tests}
 use Rattle.std.proofs.lemmas.Str.Parse.{IsNumeralModel, numerals_by_fold}
 use Rattle.std.proofs.lemmas.Fmt.{decimal-digits_value}
 use Rattle.hm_trace.specs.Numbers.{value_from}
 use Rattle.hm_trace.specs.ReadNumbers.{next_value, number_at, thread_after, thread_at, value_after}
-use Rattle.hm_trace.proofs.Choices.{both, chosen}
+use Rattle.hm_trace.proofs.Choices.{chosen}
 
 pub own : IsNumeralModel (λ ds. all_ascii_digits ds ≡ true) (value_from 0)
 own = numerals_by_fold _ (search rules) value_from (search rules)
@@ -62,7 +62,7 @@ pub thread_valued : (k n : ℕ) (ds : List ℕ) (m : ℕ) → n ≡ min k 17 →
 thread_valued k n [] m is e = let same : n ≡ m = cc in record { digits = refl; value = sym same ∙ is }
 thread_valued k n (c ∷ cs) m is e =
     ⊎_elim
-    (λ h. let t = both (leb 48 c) (leb c 57) h.0 in
+    (λ h. let t = and_parts (leb 48 c) (leb c 57) h.0 in
     let low : 48 ≤ c = leb-true _ _ t.0 in
     let high : c ≤ 57 = leb-true _ _ t.1 in
     let r = thread_valued (10 * k + (c - 48)) (min (10 * n + (c - 48)) 17) cs m (omega arith) h.1 in

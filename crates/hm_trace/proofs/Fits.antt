@@ -1,11 +1,10 @@
 -- Which values a part may have, as facts, and that they are what the grammar says.
 use Rattle.std.proofs.Common.{◌≡◌, ℕ, suc, ◌≤◌, ◌<◌, ◌^◌, true, ◌&&◌, leb, List, [], ◌∷◌, ℤ, pos, negsuc, refl, arith}
-use Rattle.std.proofs.lemmas.Bool.{leb-true, le-leb}
+use Rattle.std.proofs.lemmas.Bool.{leb-true, le-leb, and_parts, and_from}
 use Rattle.hm_trace.specs.Lines.{BytePart, LengthPart, NamePart, Part, RefPart, SizePart}
 use Rattle.hm_trace.specs.Names.{is_name}
 use Rattle.hm_trace.specs.Traces.{is_length, is_offset, is_place, is_step, is_u64}
 use Rattle.hm_trace.specs.Views.{Aligned, At, Calloc, Free, Malloc, Named, Null, PlaceView, Read, Realloc, Sfree, Size, StepView, Write}
-use Rattle.hm_trace.proofs.Choices.{both, joined}
 use Rattle.hm_trace.proofs.Parts.{ByteOf, NameOf, NumberOf, PlaceOf, Value, aligned_form, calloc_form, free_form, malloc_form, read_form, realloc_form, sfree_form, size_form, write_form}
 
 abbrev pub FitsOffset : ℤ → Type 0
@@ -53,7 +52,7 @@ byte_fits : (n : ℕ) → leb n 255 ≡ true → n < 256
 byte_fits n h = omega (arith, leb-true _ _ h)
 
 length_fits : (n : ℕ) → is_length n ≡ true → FitsLength n
-length_fits n h = let b = both (leb 1 n) (leb n 1048576) h in (leb-true _ _ b.0, leb-true _ _ b.1)
+length_fits n h = let b = and_parts (leb 1 n) (leb n 1048576) h in (leb-true _ _ b.0, leb-true _ _ b.1)
 
 offset_fits : (z : ℤ) → is_offset z ≡ true → FitsOffset z
 offset_fits (pos n) h = leb-true _ _ h
@@ -62,17 +61,17 @@ offset_fits (negsuc n) h = leb-true _ _ h
 place_fits : (p : PlaceView) → is_place p ≡ true → FitsPlace p
 place_fits Null h = tt
 place_fits (At address) h = u64_fits address h
-place_fits (Named name offset) h = let b = both (is_name name) (is_offset offset) h in (b.0, offset_fits offset b.1)
+place_fits (Named name offset) h = let b = and_parts (is_name name) (is_offset offset) h in (b.0, offset_fits offset b.1)
 
 pub step_fits : (s : StepView) → is_step s ≡ true → FitsStep s
-step_fits (Malloc x0 x1) h = let a = both (is_name x0) (is_u64 x1) h in (a.0, (u64_fits x1 a.1, tt))
-step_fits (Calloc x0 x1 x2) h = let a = both (is_name x0 && is_u64 x1) (is_u64 x2) h in let b = both (is_name x0) (is_u64 x1) a.0 in (b.0, (u64_fits x1 b.1, (u64_fits x2 a.1, tt)))
-step_fits (Aligned x0 x1 x2) h = let a = both (is_name x0 && is_u64 x1) (is_u64 x2) h in let b = both (is_name x0) (is_u64 x1) a.0 in (b.0, (u64_fits x1 b.1, (u64_fits x2 a.1, tt)))
-step_fits (Realloc x0 x1 x2) h = let a = both (is_name x0 && is_place x1) (is_u64 x2) h in let b = both (is_name x0) (is_place x1) a.0 in (b.0, (place_fits x1 b.1, (u64_fits x2 a.1, tt)))
+step_fits (Malloc x0 x1) h = let a = and_parts (is_name x0) (is_u64 x1) h in (a.0, (u64_fits x1 a.1, tt))
+step_fits (Calloc x0 x1 x2) h = let a = and_parts (is_name x0 && is_u64 x1) (is_u64 x2) h in let b = and_parts (is_name x0) (is_u64 x1) a.0 in (b.0, (u64_fits x1 b.1, (u64_fits x2 a.1, tt)))
+step_fits (Aligned x0 x1 x2) h = let a = and_parts (is_name x0 && is_u64 x1) (is_u64 x2) h in let b = and_parts (is_name x0) (is_u64 x1) a.0 in (b.0, (u64_fits x1 b.1, (u64_fits x2 a.1, tt)))
+step_fits (Realloc x0 x1 x2) h = let a = and_parts (is_name x0 && is_place x1) (is_u64 x2) h in let b = and_parts (is_name x0) (is_place x1) a.0 in (b.0, (place_fits x1 b.1, (u64_fits x2 a.1, tt)))
 step_fits (Free x0) h = (place_fits x0 h, tt)
-step_fits (Sfree x0 x1) h = let a = both (is_place x0) (is_u64 x1) h in (place_fits x0 a.0, (u64_fits x1 a.1, tt))
-step_fits (Write x0 x1 x2) h = let a = both (is_place x0 && is_length x1) (leb x2 255) h in let b = both (is_place x0) (is_length x1) a.0 in (place_fits x0 b.0, (length_fits x1 b.1, (byte_fits x2 a.1, tt)))
-step_fits (Read x0 x1) h = let a = both (is_place x0) (is_length x1) h in (place_fits x0 a.0, (length_fits x1 a.1, tt))
+step_fits (Sfree x0 x1) h = let a = and_parts (is_place x0) (is_u64 x1) h in (place_fits x0 a.0, (u64_fits x1 a.1, tt))
+step_fits (Write x0 x1 x2) h = let a = and_parts (is_place x0 && is_length x1) (leb x2 255) h in let b = and_parts (is_place x0) (is_length x1) a.0 in (place_fits x0 b.0, (length_fits x1 b.1, (byte_fits x2 a.1, tt)))
+step_fits (Read x0 x1) h = let a = and_parts (is_place x0) (is_length x1) h in (place_fits x0 a.0, (length_fits x1 a.1, tt))
 step_fits (Size x0) h = (place_fits x0 h, tt)
 
 -- ---- and back
@@ -84,7 +83,7 @@ fits_byte : (n : ℕ) → n < 256 → leb n 255 ≡ true
 fits_byte n h = le-leb _ _ (omega arith)
 
 fits_length : (n : ℕ) → FitsLength n → is_length n ≡ true
-fits_length n h = joined _ _ (le-leb _ _ h.0) (le-leb _ _ h.1)
+fits_length n h = and_from _ _ (le-leb _ _ h.0) (le-leb _ _ h.1)
 
 fits_offset : (z : ℤ) → FitsOffset z → is_offset z ≡ true
 fits_offset (pos n) h = le-leb _ _ h
@@ -93,15 +92,15 @@ fits_offset (negsuc n) h = le-leb _ _ h
 fits_place : (p : PlaceView) → FitsPlace p → is_place p ≡ true
 fits_place Null h = refl
 fits_place (At address) h = fits_u64 address h
-fits_place (Named name offset) h = joined _ _ h.0 (fits_offset offset h.1)
+fits_place (Named name offset) h = and_from _ _ h.0 (fits_offset offset h.1)
 
 pub fits_step : (s : StepView) → FitsStep s → is_step s ≡ true
-fits_step (Malloc x0 x1) h = joined _ _ h.0 (fits_u64 x1 h.1.0)
-fits_step (Calloc x0 x1 x2) h = joined _ _ (joined _ _ h.0 (fits_u64 x1 h.1.0)) (fits_u64 x2 h.1.1.0)
-fits_step (Aligned x0 x1 x2) h = joined _ _ (joined _ _ h.0 (fits_u64 x1 h.1.0)) (fits_u64 x2 h.1.1.0)
-fits_step (Realloc x0 x1 x2) h = joined _ _ (joined _ _ h.0 (fits_place x1 h.1.0)) (fits_u64 x2 h.1.1.0)
+fits_step (Malloc x0 x1) h = and_from _ _ h.0 (fits_u64 x1 h.1.0)
+fits_step (Calloc x0 x1 x2) h = and_from _ _ (and_from _ _ h.0 (fits_u64 x1 h.1.0)) (fits_u64 x2 h.1.1.0)
+fits_step (Aligned x0 x1 x2) h = and_from _ _ (and_from _ _ h.0 (fits_u64 x1 h.1.0)) (fits_u64 x2 h.1.1.0)
+fits_step (Realloc x0 x1 x2) h = and_from _ _ (and_from _ _ h.0 (fits_place x1 h.1.0)) (fits_u64 x2 h.1.1.0)
 fits_step (Free x0) h = fits_place x0 h.0
-fits_step (Sfree x0 x1) h = joined _ _ (fits_place x0 h.0) (fits_u64 x1 h.1.0)
-fits_step (Write x0 x1 x2) h = joined _ _ (joined _ _ (fits_place x0 h.0) (fits_length x1 h.1.0)) (fits_byte x2 h.1.1.0)
-fits_step (Read x0 x1) h = joined _ _ (fits_place x0 h.0) (fits_length x1 h.1.0)
+fits_step (Sfree x0 x1) h = and_from _ _ (fits_place x0 h.0) (fits_u64 x1 h.1.0)
+fits_step (Write x0 x1 x2) h = and_from _ _ (and_from _ _ (fits_place x0 h.0) (fits_length x1 h.1.0)) (fits_byte x2 h.1.1.0)
+fits_step (Read x0 x1) h = and_from _ _ (fits_place x0 h.0) (fits_length x1 h.1.0)
 fits_step (Size x0) h = fits_place x0 h.0

@@ -1,6 +1,6 @@
 -- What is read has a spelling.
 use Rattle.std.proofs.Common.{◌≡◌, ⊎_elim, ℕ, zero, suc, ◌≤◌, ◌<◌, ◌^◌, Bool, true, false, ◌&&◌, cond, eqb, leb, List, [], ◌∷◌, take, drop, Ok, Err, ℤ, pos, neg_ℤ, subst, arith}
-use Rattle.std.proofs.lemmas.Bool.{leb-true}
+use Rattle.std.proofs.lemmas.Bool.{leb-true, and_parts}
 use Rattle.hm_trace.specs.declared.fault.FaultKind.TheVariants.{BadName, BadNumber}
 use Rattle.hm_trace.specs.Gives.{◌>>=◌}
 use Rattle.hm_trace.specs.Lines.{sign_place}
@@ -8,7 +8,7 @@ use Rattle.hm_trace.specs.Names.{is_name}
 use Rattle.hm_trace.specs.ReadNumbers.{number_at}
 use Rattle.hm_trace.specs.ReadWords.{distance_at, name_at, named_at, offset_at, size_at}
 use Rattle.hm_trace.specs.Views.{Named, PlaceView}
-use Rattle.hm_trace.proofs.Choices.{bind_ok, both, chosen, ok, ok_is, some_is}
+use Rattle.hm_trace.proofs.Choices.{bind_ok, chosen, ok, ok_is, some_is}
 use Rattle.hm_trace.proofs.Fits.{FitsOffset, FitsPlace}
 use Rattle.hm_trace.proofs.Numerals.{a_number}
 
@@ -22,7 +22,7 @@ distance_fits : (word : List ℕ) (n : ℕ) → distance_at word ≡ Ok n → (1
 unfolding distance_at
 distance_fits word n e =
     let b = bind_ok (size_at word) (λ m. cond (leb 1 m && leb m 1099511627776) (Ok m) (Err BadNumber)) n e in
-    ⊎_elim (λ h. let t = both (leb 1 b.0) (leb b.0 1099511627776) h.0 in subst (λ m. (1 ≤ m) × (m ≤ 1099511627776)) (ok_is b.0 n h.1) (leb-true _ _ t.0, leb-true _ _ t.1)) (λ h. absurd cc)
+    ⊎_elim (λ h. let t = and_parts (leb 1 b.0) (leb b.0 1099511627776) h.0 in subst (λ m. (1 ≤ m) × (m ≤ 1099511627776)) (ok_is b.0 n h.1) (leb-true _ _ t.0, leb-true _ _ t.1)) (λ h. absurd cc)
     (chosen (leb 1 b.0 && leb b.0 1099511627776) (ok b.0) (Err BadNumber) (Ok n) b.2)
 
 signed_fits : (plus : Bool) (n : ℕ) → 1 ≤ n → n ≤ 1099511627776 → FitsOffset (cond plus (pos n) (neg_ℤ (pos n)))

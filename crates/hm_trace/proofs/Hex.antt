@@ -1,13 +1,13 @@
 -- A hexadecimal number that was read is what its word spells, and what is written is read.
 use Rattle.std.proofs.Common.{◌≡◌, ◌⊎◌, inl, inr, ⊎_elim, ℕ, zero, suc, ◌+◌, ◌-◌, ◌*◌, ◌/◌, ◌%◌, ◌^◌, ◌<◌, ◌≤◌, Bool, true, false, ◌&&◌, ◌||◌, cond, eqb, ltb, leb, List, [], ◌∷◌, ◌++◌, length, get_or, Option, Some, None, option_and_then, refl, sym, ◌∙◌, ap, subst, arith}
 use Rattle.std.specs.Fmt.{digits_onto, digit_glyph}
-use Rattle.std.proofs.lemmas.Bool.{leb-true, le-leb, lt-leb, ltb-true, ltb-false, lt-ltb, le-ltb}
+use Rattle.std.proofs.lemmas.Bool.{leb-true, le-leb, lt-leb, ltb-true, ltb-false, lt-ltb, le-ltb, and_parts, cases_Bool}
 use Rattle.std.proofs.lemmas.Bool.Decides.{nat_tests}
 use Rattle.std.proofs.lemmas.List.{append-nil}
 use Rattle.std.proofs.DigitsParse.{digits_onto-nil, digits_onto_step, digits_onto_last}
 use Rattle.hm_trace.specs.ReadNumbers.{hex_after, hex_at, hex_digit}
 use Rattle.hm_trace.specs.Spelling.{hexadecimal}
-use Rattle.hm_trace.proofs.Choices.{both, chosen, told}
+use Rattle.hm_trace.proofs.Choices.{chosen}
 use Rattle.hm_trace.proofs.Powers.{grows}
 
 -- a digit that was read
@@ -18,13 +18,13 @@ pub record IsDigit (c d : ℕ) : Type 0 where
 pub digit_is : (c d : ℕ) → hex_digit c ≡ Some d → IsDigit c d
 digit_is c d e =
     ⊎_elim
-    (λ (h : ((leb 48 c && leb c 57) ≡ true) × (Option.Some (c - 48) ≡ Some d)). let t = both (leb 48 c) (leb c 57) h.0 in
+    (λ (h : ((leb 48 c && leb c 57) ≡ true) × (Option.Some (c - 48) ≡ Some d)). let t = and_parts (leb 48 c) (leb c 57) h.0 in
     let low : 48 ≤ c = leb-true _ _ t.0 in let high : c ≤ 57 = leb-true _ _ t.1 in
     let is : c - 48 ≡ d = cc in
     let small : ltb d 10 ≡ true = lt-ltb _ _ (omega arith) in
     record { small = omega arith; glyph = rw small (omega arith) })
     (λ (h : ((leb 48 c && leb c 57) ≡ false) × (cond (leb 97 c && leb c 102) (Some (c - 87)) None ≡ Option.Some d)). ⊎_elim
-    (λ (k : ((leb 97 c && leb c 102) ≡ true) × (Option.Some (c - 87) ≡ Some d)). let t = both (leb 97 c) (leb c 102) k.0 in
+    (λ (k : ((leb 97 c && leb c 102) ≡ true) × (Option.Some (c - 87) ≡ Some d)). let t = and_parts (leb 97 c) (leb c 102) k.0 in
     let low : 97 ≤ c = leb-true _ _ t.0 in let high : c ≤ 102 = leb-true _ _ t.1 in
     let is : c - 87 ≡ d = cc in
     let large : ltb d 10 ≡ false = le-ltb _ _ (omega arith) in
@@ -123,7 +123,7 @@ glyph_read d h =
     ⊎_elim
     (λ (t : ltb d 10 ≡ true). rw t (glyph_low d (ltb-true _ _ t)))
     (λ (t : ltb d 10 ≡ false). rw t (glyph_high d (ltb-false _ _ t) h))
-    (told (ltb d 10))
+    (cases_Bool (ltb d 10))
 
 one_read : (m d : ℕ) (acc : List ℕ) → d < 16 → hex_after m (digit_glyph false d ∷ acc) ≡ hex_after (16 * m + d) acc
 one_read m d acc h = ap (λ o. option_and_then (λ x. hex_after (16 * m + x) acc) o) (glyph_read d h)
@@ -151,7 +151,7 @@ no_zero d h some is =
     ⊎_elim
     (λ (t : ltb d 10 ≡ true). let e : 48 + d ≡ 48 = rw t at is in omega (arith, e))
     (λ (t : ltb d 10 ≡ false). let e : 87 + d ≡ 48 = rw t at is in omega (arith, e))
-    (told (ltb d 10))
+    (cases_Bool (ltb d 10))
 
 written_end : (j k n : ℕ) (acc : List ℕ) → n / 16 ≡ 0 → IsWritten (suc k) n (digits_onto (suc j) 16 false n acc) (length acc)
 written_end j k n acc z = let e = digits_onto_last 16 false n acc (suc j) (omega arith) z in

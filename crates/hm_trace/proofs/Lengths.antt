@@ -3,10 +3,10 @@ use Rattle.std.proofs.Common.{◌≡◌, ℕ, ◌+◌, ◌*◌, ◌≤◌, true,
 use Rattle.std.specs.List.{list_all, flat_map}
 use Rattle.std.proofs.lemmas.List.{map-append}
 use Rattle.std.proofs.lemmas.Grind.{flat_map-append}
+use Rattle.std.proofs.lemmas.Bool.{and_parts}
 use Rattle.hm_trace.specs.Spelling.{line_of, lines_text, round_lines, script_lines, spelling, step_words, text_of, trace_lines}
 use Rattle.hm_trace.specs.Traces.{IsTrace, are_scripts, is_round, is_script, is_step, step_count}
 use Rattle.hm_trace.specs.Views.{ScriptView, StepView}
-use Rattle.hm_trace.proofs.Choices.{both}
 use Rattle.hm_trace.proofs.Fits.{step_fits}
 use Rattle.hm_trace.proofs.Scripts.{steps_valid, thread_range}
 use Rattle.hm_trace.proofs.Stays.{test_follows}
@@ -25,13 +25,14 @@ appended some more =
 steps_short : (steps : List StepView) → list_all is_step steps ≡ true → length (lines_text (map step_words steps)) ≤ 257 * length steps
 steps_short [] h = omega arith
 steps_short (s ∷ steps) h =
-    let b = both (is_step s) (list_all is_step steps) h in
+    let b = and_parts (is_step s) (list_all is_step steps) h in
     omega (arith, line_adds (step_words s) (map step_words steps) (step_line s (step_fits s b.0)), steps_short steps b.1)
 
 script_short : (s : ScriptView) → is_script s ≡ true → length (lines_text (script_lines s)) ≤ 257 + 257 * length s.steps
 script_short s h = omega (arith, line_adds _ (map step_words s.steps) (thread_line s.thread (thread_range s h).1), steps_short s.steps (steps_valid s h))
 
-abbrev total : List ScriptView → ℕ
+-- how many steps the scripts have in all
+abbrev pub total : List ScriptView → ℕ
 total scripts = length (flat_map (λ (s : ScriptView). s.steps) scripts)
 
 -- threads ascend to 16, so there are at most 16 scripts
@@ -51,7 +52,7 @@ round_short r h = omega (arith, line_adds _ (flat_map script_lines r) round_line
 rounds_short : (rounds : List (List ScriptView)) → list_all is_round rounds ≡ true → length (lines_text (trace_lines rounds)) ≤ 257 * (17 * length rounds) + 257 * step_count rounds
 rounds_short [] h = omega arith
 rounds_short (r ∷ rounds) h =
-    let b = both (is_round r) (list_all is_round rounds) h in
+    let b = and_parts (is_round r) (list_all is_round rounds) h in
     let steps : List ScriptView → List StepView = λ x. flat_map (λ (s : ScriptView). s.steps) x in
     omega (arith, appended (round_lines r) (trace_lines rounds), round_short r b.0, rounds_short rounds b.1, length-append (steps r) (flat_map steps rounds))
 

@@ -2,12 +2,12 @@
 use Rattle.std.proofs.Common.{◌≡◌, ⊎_elim, ℕ, zero, suc, ◌+◌, ◌-◌, ◌*◌, ◌^◌, ◌<◌, ◌≤◌, Bool, true, false, not, ◌&&◌, cond, eqb, leb, min, List, [], ◌∷◌, length, get_or, Option, Some, None, option_and_then, refl, sym, ◌∙◌, ap, subst, arith}
 use Rattle.std.specs.Str.{all_ascii_digits}
 use Rattle.std.specs.Fmt.{decimal}
-use Rattle.std.proofs.lemmas.Bool.{leb-true}
+use Rattle.std.proofs.lemmas.Bool.{leb-true, and_parts}
 use Rattle.std.proofs.lemmas.Bool.Decides.{nat_tests}
 use Rattle.std.proofs.lemmas.Fmt.{digits_decimal, digits_value-decimal, decimal_nonempty, first_decimal, decimal_digit}
 use Rattle.hm_trace.specs.Numbers.{is_decimal, value, value_from}
 use Rattle.hm_trace.specs.ReadNumbers.{next_value, number_at, thread_after, thread_at, value_after}
-use Rattle.hm_trace.proofs.Choices.{both, chosen}
+use Rattle.hm_trace.proofs.Choices.{chosen}
 use Rattle.hm_trace.proofs.Decimals.{next, own, thread_valued, valued}
 
 grows : (n : ℕ) (cs : List ℕ) → n ≤ value_from n cs
@@ -15,7 +15,7 @@ grows n [] = omega arith
 grows n (c ∷ cs) = omega (arith, grows (10 * n + (c - 48)) cs)
 
 pub digits_parts : (c : ℕ) (cs : List ℕ) → all_ascii_digits (c ∷ cs) ≡ true → (48 ≤ c) × (c ≤ 57) × (all_ascii_digits cs ≡ true)
-digits_parts c cs e = let b = both (leb 48 c && leb c 57) (all_ascii_digits cs) e in let d = both (leb 48 c) (leb c 57) b.0 in (leb-true _ _ d.0, leb-true _ _ d.1, b.1)
+digits_parts c cs e = let b = and_parts (leb 48 c && leb c 57) (all_ascii_digits cs) e in let d = and_parts (leb 48 c) (leb c 57) b.0 in (leb-true _ _ d.0, leb-true _ _ d.1, b.1)
 
 -- digits that give no value are too great
 too_great_at : (n c : ℕ) (cs : List ℕ) (o : Option ℕ) → next_value n c ≡ o → ((m : ℕ) → value_after m cs ≡ None → 2 ^ 64 ≤ value_from m cs) → option_and_then (λ k. value_after k cs) o ≡ None → 48 ≤ c → c ≤ 57 → 2 ^ 64 ≤ value_from (10 * n + (c - 48)) cs
@@ -31,7 +31,7 @@ unfolding number_at is_decimal
 no_number [] e d = absurd cc
 no_number (c ∷ []) e d = too_great 0 (c ∷ []) d e
 no_number (c ∷ d ∷ cs) e t =
-    let b = both (not (eqb c 48)) (all_ascii_digits (c ∷ d ∷ cs)) t in
+    let b = and_parts (not (eqb c 48)) (all_ascii_digits (c ∷ d ∷ cs)) t in
     ⊎_elim (λ h. absurd (grind (arith, nat_tests, h.0, b.0))) (λ h. too_great 0 (c ∷ d ∷ cs) b.1 h.1) (chosen (eqb c 48) None (value_after 0 (c ∷ d ∷ cs)) None e)
 
 pub record IsTheNumber (word : List ℕ) (n : ℕ) : Type 0 where

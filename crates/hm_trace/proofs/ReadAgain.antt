@@ -2,7 +2,7 @@
 use Rattle.std.proofs.Common.{◌≡◌, ℕ, ◌+◌, ◌≤◌, ◌<◌, true, false, not, eqb, ltb, leb, List, [], ◌∷◌, ◌++◌, length, map, codes, Ok, refl, sym, ◌∙◌, ap, subst, arith, append_assoc, length-append}
 use Rattle.std.specs.List.{slice_split, list_all, AllByRecursion, flat_map}
 use Rattle.std.specs.Fmt.{decimal}
-use Rattle.std.proofs.lemmas.Bool.{lt-leb, le-ltb, lt-ltb}
+use Rattle.std.proofs.lemmas.Bool.{lt-leb, le-ltb, lt-ltb, and_parts, not-true}
 use Rattle.std.proofs.lemmas.List.{append-nil}
 use Rattle.std.proofs.lemmas.List.Elements.{All-from_recursion}
 use Rattle.std.proofs.lemmas.List.Splits.{slice_split_at}
@@ -12,9 +12,9 @@ use Rattle.hm_trace.specs.ReadLines.{Progress, former_thread, header_at, line_at
 use Rattle.hm_trace.specs.Spelling.{line_of, round_lines, script_lines, spelling, step_words, text_of, trace_lines}
 use Rattle.hm_trace.specs.Traces.{IsTrace, are_scripts, avoids, is_round, is_step, sets_again, step_count}
 use Rattle.hm_trace.specs.Views.{Aligned, Calloc, Free, Malloc, Read, Realloc, ScriptView, Sfree, Size, StepView, Write}
-use Rattle.hm_trace.proofs.Choices.{both, not_true}
 use Rattle.hm_trace.proofs.Decimals.{next}
 use Rattle.hm_trace.proofs.Fits.{FitsStep, step_fits}
+use Rattle.hm_trace.proofs.Lengths.{total}
 use Rattle.hm_trace.proofs.Numerals.{thread_again}
 use Rattle.hm_trace.proofs.Scripts.{steps_valid, thread_range}
 use Rattle.hm_trace.proofs.Stays.{Follows, test_follows}
@@ -73,8 +73,8 @@ steps_reach : (t : ℕ) (rs : List (List ScriptView)) (ss : List ScriptView) (do
     → Reaches (at_stage (InScript t) rs ss done count) (map step_words more) (at_stage (InScript t) rs ss (done ++ more) (count + length more))
 steps_reach t rs ss done count [] h a room = let x = append-nil done in let y : count ≡ count + length {A = StepView} [] = omega arith in λ i. at_stage (InScript t) rs ss (sym x i) (y i)
 steps_reach t rs ss done count (s ∷ more) h a room =
-    let b = both (not (sets_again ss s)) (avoids ss more) a in
-    let f = both (is_step s) (list_all is_step more) h in
+    let b = and_parts (not (sets_again ss s)) (avoids ss more) a in
+    let f = and_parts (is_step s) (list_all is_step more) h in
     let fits = step_fits s f.0 in
     let less : count < 200000 = omega arith in
     let rest = steps_reach t rs ss (done ++ s ∷ []) (count + 1) more f.1 b.1 (omega arith) in
@@ -82,7 +82,7 @@ steps_reach t rs ss done count (s ∷ more) h a room =
     let y : (count + 1) + length more ≡ count + length (s ∷ more) = omega arith in (
       step_line s fits,
       at_stage (InScript t) rs ss (done ++ s ∷ []) (count + 1),
-      step_goes t rs ss done count s fits (not_true _ b.0) less,
+      step_goes t rs ss done count s fits (not-true _ b.0) less,
       subst (λ (q : Progress). Reaches (at_stage (InScript t) rs ss (done ++ s ∷ []) (count + 1)) (map step_words more) q) (λ i. at_stage (InScript t) rs ss (x i) (y i)) rest,
     )
 
@@ -103,9 +103,6 @@ script_reach stage rs ss steps count f s e h room =
       thread_goes stage rs ss steps count s.thread f e h.later small,
       steps_reach s.thread rs (scripts_after stage ss steps) [] count s.steps (steps_valid s h.fits) h.apart room,
     )
-
-abbrev total : List ScriptView → ℕ
-total r = length (flat_map (λ (s : ScriptView). s.steps) r)
 
 record Reads (p : Progress) (ws : List (List (List ℕ))) (rounds : List (List ScriptView)) (count : ℕ) : Type 0 where
   state : Progress
@@ -151,7 +148,7 @@ regrouped rs mid all rounds r e f = f ∙ ap (λ (x : List (List ScriptView)). x
 rounds_reach : (p : Progress) (rounds : List (List ScriptView)) → list_all is_round rounds ≡ true → length (rounds_of p) + length rounds ≤ 1024 → p.count + step_count rounds ≤ 200000 → Reads p (trace_lines rounds) (rounds_of p ++ rounds) (p.count + step_count rounds)
 rounds_reach p [] a room fit = record { state = p; reaches = refl; rounds_are = sym (append-nil (rounds_of p)); count_is = omega arith }
 rounds_reach p (r ∷ rounds) a room fit =
-    let b = both (is_round r) (list_all is_round rounds) a in
+    let b = and_parts (is_round r) (list_all is_round rounds) a in
     let steps : List ScriptView → List StepView = λ x. flat_map (λ (s : ScriptView). s.steps) x in
     let l = length-append (steps r) (flat_map steps rounds) in
     let fit_here : p.count + total r ≤ 200000 = omega (arith, l, fit) in

@@ -2,7 +2,7 @@
 use Rattle.std.proofs.Common.{◌≡◌, ⊎_elim, ℕ, zero, suc, ◌+◌, ◌≤◌, Bool, true, false, ◌&&◌, cond, eqb, leb, List, [], ◌∷◌, ◌++◌, take, drop, Ok, Err, ℤ, pos, neg_ℤ, refl, sym, ◌∙◌, ap, subst, arith, add-one, take-append-drop}
 use Rattle.std.specs.Fmt.{decimal}
 use Rattle.std.proofs.lemmas.Bool.Decides.{nat_tests}
-use Rattle.std.proofs.lemmas.Bool.{leb-true}
+use Rattle.std.proofs.lemmas.Bool.{leb-true, and_parts}
 use Rattle.hm_trace.specs.declared.fault.FaultKind.TheVariants.{BadName, BadNumber}
 use Rattle.hm_trace.specs.Gives.{◌>>=◌}
 use Rattle.hm_trace.specs.Lines.{is_sign, sign_place}
@@ -11,7 +11,7 @@ use Rattle.hm_trace.specs.ReadNumbers.{number_at}
 use Rattle.hm_trace.specs.ReadWords.{distance_at, name_at, named_at, offset_at, size_at}
 use Rattle.hm_trace.specs.Spelling.{offset_word, place_word}
 use Rattle.hm_trace.specs.Views.{Named, PlaceView}
-use Rattle.hm_trace.proofs.Choices.{bind_ok, both, chosen, ok, ok_is, some_is}
+use Rattle.hm_trace.proofs.Choices.{bind_ok, chosen, ok, ok_is, some_is}
 use Rattle.hm_trace.proofs.Decimals.{spelled}
 
 pub name_is : (word n : List ℕ) → name_at word ≡ Ok n → word ≡ n
@@ -24,7 +24,7 @@ distance_is : (word : List ℕ) (n : ℕ) → distance_at word ≡ Ok n → (wor
 unfolding distance_at
 distance_is word n e =
     let b = bind_ok (size_at word) (λ m. cond (leb 1 m && leb m 1099511627776) (Ok m) (Err BadNumber)) n e in
-    ⊎_elim (λ h. (size_is word n (b.1 ∙ ap (λ z. ok z) (ok_is b.0 n h.1)), subst (λ m. 1 ≤ m) (ok_is b.0 n h.1) (leb-true _ _ (both _ _ h.0).0))) (λ h. absurd cc) (chosen (leb 1 b.0 && leb b.0 1099511627776) (ok b.0) (Err BadNumber) (Ok n) b.2)
+    ⊎_elim (λ h. (size_is word n (b.1 ∙ ap (λ z. ok z) (ok_is b.0 n h.1)), subst (λ m. 1 ≤ m) (ok_is b.0 n h.1) (leb-true _ _ (and_parts _ _ h.0).0))) (λ h. absurd cc) (chosen (leb 1 b.0 && leb b.0 1099511627776) (ok b.0) (Err BadNumber) (Ok n) b.2)
 
 -- what follows a name is nothing, or begins with a sign
 pub record IsBack (word : List ℕ) : Type 0 where

@@ -1,7 +1,7 @@
 -- The reader's state stays valid.
 use Rattle.std.proofs.Common.{◌≡◌, ℕ, ◌+◌, ◌≤◌, ◌<◌, Bool, true, false, not, ◌&&◌, ltb, leb, List, [], ◌∷◌, ◌++◌, length, Ok, refl, sym, ◌∙◌, ap, subst, arith, append_assoc, length-append}
 use Rattle.std.specs.List.{list_all}
-use Rattle.std.proofs.lemmas.Bool.{ltb-true, le-leb, lt-ltb}
+use Rattle.std.proofs.lemmas.Bool.{ltb-true, le-leb, lt-ltb, and_parts, and_from}
 use Rattle.std.proofs.lemmas.List.{append-nil}
 use Rattle.std.proofs.lemmas.Grind.{flat_map-append}
 use Rattle.hm_trace.specs.declared.progress.Open.{Open}
@@ -11,13 +11,13 @@ use Rattle.hm_trace.specs.ReadLines.{Progress, former_thread, in_script, line_at
 use Rattle.hm_trace.specs.ReadState.{IsProgress}
 use Rattle.hm_trace.specs.Traces.{IsTrace, are_scripts, avoids, is_round, is_script, is_step, sets_again, step_count}
 use Rattle.hm_trace.specs.Views.{ScriptView, StepView}
-use Rattle.hm_trace.proofs.Choices.{both, joined, ok_is}
+use Rattle.hm_trace.proofs.Choices.{ok_is}
 use Rattle.hm_trace.proofs.Fits.{fits_step}
 use Rattle.hm_trace.proofs.GoodLines.{after_round, by_line, line_good, script}
 
 list_all_push : {X : Type 0} (p : X → Bool) (xs : List X) (x : X) → list_all p xs ≡ true → p x ≡ true → list_all p (xs ++ x ∷ []) ≡ true
-list_all_push p [] x h k = joined (p x) true k refl
-list_all_push p (y ∷ xs) x h k = let b = both (p y) (list_all p xs) h in joined _ _ b.0 (list_all_push p xs x b.1 k)
+list_all_push p [] x h k = and_from (p x) true k refl
+list_all_push p (y ∷ xs) x h k = let b = and_parts (p y) (list_all p xs) h in and_from _ _ b.0 (list_all_push p xs x b.1 k)
 
 abbrev pub last_of : ℕ → List ScriptView → ℕ
 last_of last [] = last
@@ -34,13 +34,13 @@ pub record Follows (before : List ScriptView) (last : ℕ) (s : ScriptView) : Ty
   pub apart : avoids before s.steps ≡ true
 
 follows_test : (before : List ScriptView) (last : ℕ) (s : ScriptView) (rest : Bool) → Follows before last s → rest ≡ true → (ltb last s.thread && is_script s && avoids before s.steps && rest) ≡ true
-follows_test before last s rest f r = joined _ _ (joined _ _ (joined _ _ (lt-ltb _ _ f.later) f.fits) f.apart) r
+follows_test before last s rest f r = and_from _ _ (and_from _ _ (and_from _ _ (lt-ltb _ _ f.later) f.fits) f.apart) r
 
 pub test_follows : (before : List ScriptView) (last : ℕ) (s : ScriptView) (rest : Bool) → (ltb last s.thread && is_script s && avoids before s.steps && rest) ≡ true → Follows before last s × (rest ≡ true)
 test_follows before last s rest e =
-    let a = both _ rest e in
-    let b = both _ (avoids before s.steps) a.0 in
-    let c = both (ltb last s.thread) (is_script s) b.0 in
+    let a = and_parts _ rest e in
+    let b = and_parts _ (avoids before s.steps) a.0 in
+    let c = and_parts (ltb last s.thread) (is_script s) b.0 in
     (record { later = ltb-true _ _ c.0; fits = c.1; apart = b.1 }, a.1)
 
 pub are_push : (before : List ScriptView) (last : ℕ) (ss : List ScriptView) (s : ScriptView) → are_scripts before last ss ≡ true → Follows (before ++ ss) (last_of last ss) s → are_scripts before last (ss ++ s ∷ []) ≡ true
@@ -57,10 +57,10 @@ are_split before last (x ∷ ss) s h =
     (follows_test before last x (are_scripts (before ++ x ∷ []) x.thread ss) t.0 r.0, subst (λ (b : List ScriptView). Follows b (last_of x.thread ss) s) (append_assoc before (x ∷ []) ss) r.1)
 
 script_begins : (n : ℕ) → 0 < n → n ≤ 16 → is_script (script n []) ≡ true
-script_begins n low high = joined _ _ (joined _ _ (le-leb _ _ (omega arith)) (le-leb _ _ high)) refl
+script_begins n low high = and_from _ _ (and_from _ _ (le-leb _ _ (omega arith)) (le-leb _ _ high)) refl
 
 script_grows : (t : ℕ) (steps : List StepView) (s : StepView) → is_script (script t steps) ≡ true → is_step s ≡ true → is_script (script t (steps ++ s ∷ [])) ≡ true
-script_grows t steps s h k = let b = both (leb 1 t && leb t 16) (list_all is_step steps) h in joined _ _ b.0 (list_all_push is_step steps s b.1 k)
+script_grows t steps s h k = let b = and_parts (leb 1 t && leb t 16) (list_all is_step steps) h in and_from _ _ b.0 (list_all_push is_step steps s b.1 k)
 
 -- the open round is a round, so all are
 all_rounds : (stage : Open) (rs : List (List ScriptView)) (ss : List ScriptView) (steps : List StepView) → list_all is_round rs ≡ true → is_round (scripts_after stage ss steps) ≡ true → list_all is_round (rounds_after stage rs ss steps) ≡ true

@@ -4,7 +4,7 @@ use Rattle.std.specs.Option.{option_map}
 use Rattle.std.specs.Str.{all_ascii_digits}
 use Rattle.std.specs.List.{list_all}
 use Rattle.std.specs.Fmt.{decimal}
-use Rattle.std.proofs.lemmas.Bool.{le-leb}
+use Rattle.std.proofs.lemmas.Bool.{le-leb, and_from, cases_Bool}
 use Rattle.std.proofs.lemmas.Bool.Decides.{nat_tests}
 use Rattle.std.proofs.lemmas.Fmt.{decimal_injective, digits_decimal, length-decimal-le}
 use Rattle.std.proofs.lemmas.List.Folds.{list_all-append}
@@ -13,19 +13,19 @@ use Rattle.hm_trace.specs.declared.names.Name.{Name}
 use Rattle.hm_trace.specs.Names.{is_name, is_name_byte, is_word}
 use Rattle.hm_trace.specs.Stress.{name_at}
 use Rattle.hm_trace.specs.Views.{name_view}
-use Rattle.hm_trace.proofs.Choices.{joined, told, word_is}
+use Rattle.hm_trace.proofs.Choices.{word_is}
 use Rattle.hm_trace.proofs.Decimals.{own}
 use Rattle.hm_trace.proofs.Numerals.{digits_parts}
 
 pub list_all_both : {X : Type 0} (p : X → Bool) (xs ys : List X) → list_all p xs ≡ true → list_all p ys ≡ true → list_all p (xs ++ ys) ≡ true
-list_all_both p xs ys h k = list_all-append p xs ys ∙ joined _ _ h k
+list_all_both p xs ys h k = list_all-append p xs ys ∙ and_from _ _ h k
 
 name_digit : (c : ℕ) → 48 ≤ c → c ≤ 57 → is_name_byte c ≡ true
 name_digit c low high = grind (arith, nat_tests)
 
 name_digits : (ds : List ℕ) → all_ascii_digits ds ≡ true → list_all is_name_byte ds ≡ true
 name_digits [] h = refl
-name_digits (c ∷ cs) h = let p = digits_parts c cs h in joined _ _ (name_digit c p.0 p.1) (name_digits cs p.2)
+name_digits (c ∷ cs) h = let p = digits_parts c cs h in and_from _ _ (name_digit c p.0 p.1) (name_digits cs p.2)
 
 name_decimal : (n : ℕ) → n < 2 ^ 64 → list_all is_name_byte (decimal n) ≡ true
 name_decimal n small = name_digits (decimal n) (digits_decimal own n small)
@@ -42,7 +42,7 @@ unfolding is_name
 is_name_at t i few small =
     let front = list_all_both is_name_byte (decimal t) (110 ∷ []) (name_decimal t (omega arith)) refl in
     let all = list_all_both is_name_byte (decimal t ++ 110 ∷ []) (decimal i) front (name_decimal i small) in
-    joined _ _ (joined _ _ all (le-leb _ _ (short t i few small))) refl
+    and_from _ _ (and_from _ _ all (le-leb _ _ (short t i few small))) refl
 
 -- what is written of a name
 pub name_text : (t i : ℕ) → 116 ∷ (decimal t ++ (110 ∷ decimal i)) ≡ name_at t i
@@ -69,7 +69,7 @@ same_thread t u i k few small h =
 
 pub names_differ : (t u i k : ℕ) → t < 2 ^ 32 → u < 2 ^ 32 → t ≢ u → is_word (name_at t i) (name_at u k) ≡ false
 names_differ t u i k few small other =
-    ⊎_elim (λ h. absurd (other (same_thread t u i k few small (word_is (name_at t i) (name_at u k) h)))) (λ h. h) (told (is_word (name_at t i) (name_at u k)))
+    ⊎_elim (λ h. absurd (other (same_thread t u i k few small (word_is (name_at t i) (name_at u k) h)))) (λ h. h) (cases_Bool (is_word (name_at t i) (name_at u k)))
 
 -- what is read of a list of a thread's names
 pub read_name : (names : List Name) (t i : ℕ) (name : Name) → length names ≡ 50 → EachIndex names (λ k. option_map name_view (slice_get names k) ≡ Some (name_at t k)) → i < 50 → name ≡ get_or names i name → name_view name ≡ name_at t i

@@ -1,7 +1,7 @@
 -- A stress trace is a trace.
 use Rattle.std.proofs.Common.{◌≡◌, ◌≢◌, ℕ, zero, suc, ◌+◌, ◌*◌, ◌%◌, ◌^◌, ◌<◌, ◌≤◌, Bool, true, false, not, ◌||◌, cond, List, [], ◌∷◌, ◌++◌, length, refl, sym, ◌∙◌, ap, add-one, append_assoc, arith, length-append, pos}
 use Rattle.std.specs.List.{list_all, list_any, flat_map}
-use Rattle.std.proofs.lemmas.Bool.{le-leb}
+use Rattle.std.proofs.lemmas.Bool.{le-leb, and_from}
 use Rattle.std.proofs.lemmas.Grind.{flat_map-append}
 use Rattle.std.proofs.lemmas.List.{append-nil, length-map}
 use Rattle.std.proofs.lemmas.List.Folds.{list_any-append}
@@ -10,7 +10,6 @@ use Rattle.hm_trace.specs.Stress.{drawn, group, groups, name_at, script, scripts
 use Rattle.hm_trace.specs.Traces.{IsTrace, avoids, is_round, is_script, is_set, is_step, is_u64, sets_again, sets_name, step_count}
 use Rattle.hm_trace.specs.declared.step.Step.{Step}
 use Rattle.hm_trace.specs.Views.{Free, Malloc, Named, Read, ScriptView, Size, Write, step_view, steps_view}
-use Rattle.hm_trace.proofs.Choices.{joined}
 use Rattle.hm_trace.proofs.Stays.{are_push, last_of, last_push}
 use Rattle.hm_trace.proofs.StressNames.{is_name_at, list_all_both, names_differ}
 
@@ -36,7 +35,7 @@ groups_fit number t zero few = refl
 groups_fit number t (suc j) few = list_all_both is_step (groups number t j) (group t j (drawn number t j)) (groups_fit number t j few) (group_fits t j (drawn number t j) few)
 
 pub script_fits : (number t : ℕ) → 1 ≤ t → t ≤ 16 → is_script (script number t) ≡ true
-script_fits number t low high = joined _ _ (joined _ _ (le-leb _ _ low) (le-leb _ _ high)) (groups_fit number t 2500 (omega arith))
+script_fits number t low high = and_from _ _ (and_from _ _ (le-leb _ _ low) (le-leb _ _ high)) (groups_fit number t 2500 (omega arith))
 
 -- ---- how many steps there are
 
@@ -117,7 +116,7 @@ count_is number = ap length (append-nil (flat_map (λ (s : ScriptView). s.steps)
 
 pub traces : (number : ℕ) → IsTrace (stress number)
 traces number = record {
-  each = joined _ _ (round_fits number 16 (omega arith)) refl;
+  each = and_from _ _ (round_fits number 16 (omega arith)) refl;
   rounds_fit = omega arith;
   steps_fit = omega (arith, count_is number);
 }

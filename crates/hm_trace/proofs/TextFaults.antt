@@ -2,6 +2,7 @@
 use Rattle.std.proofs.Common.{◌≡◌, ⊎_elim, ℕ, ◌+◌, Bool, true, false, not, cond, eqb, ltb, List, [], ◌∷◌, length, codes, Option, Some, None, Result, Ok, Err, refl, sym, ◌∙◌, ap, subst, arith}
 use Rattle.std.specs.List.{slice_split, list_all}
 use Rattle.std.proofs.lemmas.List.Splits.{join_with_byte-slice_split}
+use Rattle.std.proofs.lemmas.Bool.{cases_Bool}
 use Rattle.hm_trace.specs.declared.fault.FaultKind.{FaultKind}
 use Rattle.hm_trace.specs.declared.fault.FaultKind.TheVariants.{AfterEnd, BadHeader, LineTooLong, NoEnd, NotAscii}
 use Rattle.hm_trace.specs.declared.fault.TraceFault.{TraceFault}
@@ -15,7 +16,7 @@ use Rattle.hm_trace.specs.Spelling.{line_of}
 use Rattle.hm_trace.specs.Views.{ScriptView}
 use Rattle.hm_trace.proofs.Agree.{line_agrees, plain_test}
 use Rattle.hm_trace.proofs.Agreeing.{Agrees, AgreesText, seen_of}
-use Rattle.hm_trace.proofs.Choices.{told, word_is}
+use Rattle.hm_trace.proofs.Choices.{word_is}
 use Rattle.hm_trace.proofs.Decimals.{next}
 use Rattle.hm_trace.proofs.Tracks.{Tracks, line_tracks, starts_tracked}
 
@@ -68,7 +69,7 @@ pieces_agree n lines p (line ∷ next ∷ more) e h =
     one_line n lines (line_at p line) (line_fault (seen_of p) line) go_on (pieces_fault (words_at line ∷ lines) (next ∷ more)) e (line_agrees p line h.small (not_end line t)) (λ q k. pieces_agree (n + 1) (words_at line ∷ lines) q (next ∷ more) (omega arith) (line_tracks lines p q line k h)) in
     subst (λ (b : Before). AgreesText (reader (is_word line (codes "end"))) (table_at b line)) (sym h.seen)
     (subst (λ (b : Bool). AgreesText (reader b) (table_at (seen_of p) line)) (sym t) goes))
-    (told (is_word line (codes "end")))
+    (cases_Bool (is_word line (codes "end")))
 
 -- the first line
 header_good : line_fault (before_of []) (codes "hmtrace 1") ≡ None
@@ -99,7 +100,7 @@ text_pieces (line ∷ next ∷ more) =
     ⊎_elim
     (λ (t : is_word line (codes "hmtrace 1") ≡ true). subst (λ (l : List ℕ). AgreesText (in_line 1 (header_at l) >>= go) (or_later (with_line [] (line_fault (before_of []) l)) (pieces_fault (words_at l ∷ []) (next ∷ more)))) (sym (word_is line (codes "hmtrace 1") t)) (begun next more))
     (λ (t : is_word line (codes "hmtrace 1") ≡ false). header_bad line go (pieces_fault (words_at line ∷ []) (next ∷ more)) t)
-    (told (is_word line (codes "hmtrace 1")))
+    (cases_Bool (is_word line (codes "hmtrace 1")))
   where
     begun : (next : List ℕ) (more : List (List ℕ)) → AgreesText (in_line 1 (header_at (codes "hmtrace 1")) >>= λ _. read_lines 2 start (next ∷ more)) (or_later (with_line [] (line_fault (before_of []) (codes "hmtrace 1"))) (pieces_fault (words_at (codes "hmtrace 1") ∷ []) (next ∷ more)))
     begun next more = rw (header_good, header_fine) (pieces_agree 2 (words_at (codes "hmtrace 1") ∷ []) start (next ∷ more) refl starts_tracked)

@@ -1,6 +1,6 @@
 -- The words of a step by their parts: what is read is spelled so and fits, and what fits is read again.
 use Rattle.std.proofs.Common.{◌≡◌, ⊎_elim, ℕ, true, ◌&&◌, leb, List, [], ◌∷◌, map, Result, Ok, Err, refl, ◌∙◌, ap, subst, arith}
-use Rattle.std.proofs.lemmas.Bool.{leb-true, le-leb}
+use Rattle.std.proofs.lemmas.Bool.{leb-true, le-leb, and_parts}
 use Rattle.hm_trace.specs.declared.fault.FaultKind.{FaultKind}
 use Rattle.hm_trace.specs.declared.fault.FaultKind.TheVariants.{BadNumber, BadWord}
 use Rattle.hm_trace.specs.Gives.{◌>>=◌}
@@ -9,7 +9,7 @@ use Rattle.hm_trace.specs.ReadWords.{byte_at, length_at, name_at, place_at, size
 use Rattle.hm_trace.specs.Views.{StepView}
 use Rattle.hm_trace.proofs.Again.{name_again, size_again}
 use Rattle.hm_trace.proofs.Bytes.{byte_again, byte_is}
-use Rattle.hm_trace.proofs.Choices.{bind_ok, both, chosen, ok, ok_is}
+use Rattle.hm_trace.proofs.Choices.{bind_ok, chosen, ok, ok_is}
 use Rattle.hm_trace.proofs.Fits.{FitValues, FitsValue}
 use Rattle.hm_trace.proofs.Fitting.{name_fits, size_fits}
 use Rattle.hm_trace.proofs.Parts.{ByteOf, NameOf, NumberOf, PlaceOf, Value, form_at, value_at, value_word, values_at}
@@ -20,7 +20,7 @@ length_is : (word : List ℕ) (n : ℕ) → length_at word ≡ Ok n → (word �
 unfolding length_at
 length_is word n e =
     let b = bind_ok (size_at word) (λ m. within 1 1048576 m) n e in
-    ⊎_elim (λ h. let t = both (leb 1 b.0) (leb b.0 1048576) h.0 in subst (λ m. (word ≡ value_word (NumberOf m)) × FitsValue LengthPart (NumberOf m)) (ok_is b.0 n h.1) (size_is word b.0 b.1, (leb-true _ _ t.0, leb-true _ _ t.1))) (λ h. absurd cc)
+    ⊎_elim (λ h. let t = and_parts (leb 1 b.0) (leb b.0 1048576) h.0 in subst (λ m. (word ≡ value_word (NumberOf m)) × FitsValue LengthPart (NumberOf m)) (ok_is b.0 n h.1) (size_is word b.0 b.1, (leb-true _ _ t.0, leb-true _ _ t.1))) (λ h. absurd cc)
     (chosen (leb 1 b.0 && leb b.0 1048576) (ok b.0) (Err BadNumber) (Ok n) b.2)
 
 length_again : (n : ℕ) → FitsValue LengthPart (NumberOf n) → length_at (value_word (NumberOf n)) ≡ Ok n

@@ -2,7 +2,7 @@
 ghost use Rattle.std.specs.Prelude.{◌≡◌};
 ghost use Rattle.hm_trace.specs.declared.fault.LineRefusal.TheVariants as line;
 
-use std::alloc::{AllocError, AllocFailed};
+use std::alloc::AllocError;
 
 /// What is wrong with a line.
 #[derive(Clone, Copy, Debug, PartialEq, Eq)]
@@ -59,14 +59,6 @@ impl From<AllocError> for LineRefusal {
     ghost from_gives = { λ _ e. e ≡ line.NoMemory };
 
     fn from(_error: AllocError) -> LineRefusal {
-        LineRefusal::NoMemory
-    }
-}
-
-impl<T: Drop> From<AllocFailed<T>> for LineRefusal {
-    ghost from_gives = { λ _ e. e ≡ line.NoMemory };
-
-    fn from(_error: AllocFailed<T>) -> LineRefusal {
         LineRefusal::NoMemory
     }
 }

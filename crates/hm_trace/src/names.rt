@@ -1,5 +1,5 @@
 //! Names of at most 32 bytes, each kept in itself, in the order of their bytes.
-ghost use Rattle.std.specs.Prelude.{◌≡◌, ◌≤◌, ◌-◌, ◌++◌, List, ℕ, length, take, replicate, true, false, nat_eq, IfSome, IfNone};
+ghost use Rattle.std.specs.Prelude.{◌≡◌, ◌≤◌, ◌-◌, ◌++◌, length, take, replicate, true, false, nat_eq, IfSome, IfNone};
 ghost use Rattle.std.specs.List.{list_all};
 ghost use Rattle.hm_trace.specs.Names.{is_name, is_name_byte};
 ghost use Rattle.std.proofs.Common.{rules};

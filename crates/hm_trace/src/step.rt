@@ -37,8 +37,8 @@ pub enum Step {
 }
 
 impl Step {
-    /// The name that it sets.
-    pub(crate) fn name_set(&self) -> Option<Name>
+    /// The name that it sets, which is none where it asks for no block.
+    pub fn name_set(&self) -> Option<Name>
         ensures { option_map name_view result ≡ name_set (step_view self.now) }
     {
         match self {

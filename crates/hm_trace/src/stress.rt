@@ -1,8 +1,8 @@
 //! The stress trace of a number: one round in which each thread makes groups of five steps, whose sizes follow
 //! from the number.
-ghost use Rattle.std.specs.Prelude.{◌≡◌, ◌+◌, ◌%◌, ◌≤◌, ◌<◌, ◌^◌, ◌++◌, length, slice_get, EachIndex, IfOk, OnOk, Some};
+ghost use Rattle.std.specs.Prelude.{◌≡◌, ◌+◌, ◌%◌, ◌≤◌, ◌<◌, ◌++◌, length, slice_get, EachIndex, IfOk, OnOk, Some};
 ghost use Rattle.std.specs.Option.{option_map};
-ghost use Rattle.hm_trace.specs.Stress.{first, next, size_for, name_at, group, groups, script, scripts, stress};
+ghost use Rattle.hm_trace.specs.Stress.{first, next, size_for, name_at, group, groups, scripts, stress};
 ghost use Rattle.hm_trace.specs.Views.{name_view, steps_view};
 
 use crate::limits::MAX_THREADS;

@@ -239,6 +239,3 @@ module _ {T : Type 0} (entries : T → List Entry) (origin_of : T → List ℕ) 
   finishes words slots id v views k f one known lives rests zero_is all_in = let same : v ≡ view_in views = sym one in let is : knowledge v ≡ k = ap knowledge same ∙ known in
       let c = closes f.0 f.1.0 id v f.1.1 (ap (λ (u : View). u.spent) same ∙ lives) (ap (λ (u : View). u.holds) same ∙ rests) (ap (λ (u : Knowledge). u.caller) is ∙ zero_is) (ap (λ (u : Knowledge). u.out) is ∙ all_in) in
       record { value = c.value; there = f.4 0 (Some c.value) (ap (λ (l : List (Place (Option T))). get_elem? l 0) c.homes); origin_is = c.origin_is; whole = subst (IsWhole (entries c.value)) is c.whole }
-
-pub some_value : {T : Type 0} (x y : T) → Some x ≡ Some y → x ≡ y
-some_value x y e = cc

@@ -1,5 +1,6 @@
 -- Each step keeps the rule.
 use Rattle.std.proofs.Common.{◌≡◌, ◌≢◌, ℕ, ◌+◌, ◌%◌, ◌^◌, ◌<◌, le_refl, Bool, true, false, cond, eqb, eq-eqb, ne_eqb, List, [], ◌∷◌, ◌++◌, length, length-append, set, get_or, sym, refl, ap, ◌∙◌, subst, inl, inr, ⊎_elim, arith, Option, None, Some}
+use Rattle.std.proofs.lemmas.Option.{same_Some}
 use mathlib.Core.Option.{Option as Place, none}
 use mathlib.Core.Logic.{dite}
 use native.Mathlib.Decide.{ℕ_discrete}
@@ -19,7 +20,7 @@ use Rattle.hm_turn.specs.Views.{founder, drawing, noting, outrun, last_number, h
 use Rattle.hm_turn.specs.Sound.{IsSound, IsIdle, MayAsk, IsWaiting}
 use Rattle.hm_turn.specs.Steps.{Wins, drawn, awaited, observed, asked, counted, added, freed, informed}
 use Rattle.hm_turn.proofs.Views.{at_one, set_at, one_at, not_true, apart_bools, calls_by-other, rebuilt, backwards, forwards}
-use Rattle.hm_turn.proofs.Queues.{some_number, no_number, queue_kept, queue_drawn, queue_served}
+use Rattle.hm_turn.proofs.Queues.{no_number, queue_kept, queue_drawn, queue_served}
 
 module _ {T : Type 0} (entries : T → List Entry) (origin_of : T → List ℕ) (origin : List ℕ) where
   abbrev St : Type 0
@@ -252,8 +253,8 @@ module _ {T : Type 0} (entries : T → List Entry) (origin_of : T → List ℕ) 
     w,
     keeps,
     tt,
-    waits_on s r id v w r.ticket at lives rests (noting_alike v r.serving) (queue_kept r.ticket r.serving s.views id v w r.queue at refl (λ n e. let q = some_number r.serving n e in omega arith)),
-    ((λ e. absurd (miss (some_number t r.serving (sym mine ∙ e)))), λ _. refl),
+    waits_on s r id v w r.ticket at lives rests (noting_alike v r.serving) (queue_kept r.ticket r.serving s.views id v w r.queue at refl (λ n e. let q = same_Some r.serving n e in omega arith)),
+    ((λ e. absurd (miss (same_Some t r.serving (sym mine ∙ e)))), λ _. refl),
   )
 
   pub awaits : (slots id t : ℕ) (v : View) → v.spent ≡ false → v.holds ≡ false → v.ticket ≡ Some t → Allows Rule slots id (v, []) 1 (λ n. n) (awaited entries origin_of (step slots 1 0 0 none) (v, []))
@@ -266,7 +267,7 @@ module _ {T : Type 0} (entries : T → List Entry) (origin_of : T → List ℕ) 
     w,
     keeps,
     tt,
-    waits_on s r id v w r.ticket at lives rests (noting_alike v r.serving) (queue_kept r.ticket r.serving s.views id v w r.queue at refl (λ n e. let q = some_number r.serving n e in omega arith)),
+    waits_on s r id v w r.ticket at lives rests (noting_alike v r.serving) (queue_kept r.ticket r.serving s.views id v w r.queue at refl (λ n e. let q = same_Some r.serving n e in omega arith)),
     refl,
   )
   observes_at s r id v at lives rests false = let w : View = outrun v in (
@@ -377,7 +378,7 @@ module _ {T : Type 0} (entries : T → List Entry) (origin_of : T → List ℕ) 
   rests : (s : St) (r : Rule s) (o : IsOut entries origin_of r.serving r.history s) (slots id t : ℕ) (v : View) (x : T) → At s.views id v → v.spent ≡ false → v.holds ≡ true → v.ticket ≡ Some t
       → entries x ≡ v.seen → origin_of x ≡ v.origin → Rests slots id (t + 1) v x (in_parts (r.ticket ∷ r.serving ∷ length r.history ∷ []) (none ∷ []) s.views)
   rests s r o slots id t v x at lives held mine has from = let w : View = resting v in let k = r.callers in let fits = r.each id v at lives in let same = holder_is s r o id v at held in
-      let served : v.ticket ≡ Some r.serving = ap (λ (u : View). u.ticket) (sym same) ∙ o.served in let now : r.serving ≡ t = some_number r.serving t (sym served ∙ mine) in (
+      let served : v.ticket ≡ Some r.serving = ap (λ (u : View). u.ticket) (sym same) ∙ o.served in let now : r.serving ≡ t = same_Some r.serving t (sym served ∙ mine) in (
         w,
         gives,
         tt,

@@ -1,13 +1,11 @@
 -- The tickets and notes after a change of one view.
 use Rattle.std.proofs.Common.{◌≡◌, ◌≢◌, ◌≤◌, ◌<◌, ◌+◌, le_refl, ℕ, zero, suc, List, [], ◌∷◌, ◌++◌, length, set, sym, ap, ◌∙◌, ⊎_elim, arith, Option, None, Some}
 use mathlib.Core.Option.{some-injective, some-ne-none}
+use Rattle.std.proofs.lemmas.Option.{same_Some}
 use Rattle.atomic_table.proofs.Lists.{at_set}
 use Rattle.hm_turn.specs.declared.view.View.{View}
 use Rattle.hm_turn.specs.Rule.{At, one_for, tickets_out, AreQueued}
 use Rattle.hm_turn.proofs.Views.{at_snoc}
-
-pub some_number : (a b : ℕ) → Some a ≡ Some b → a ≡ b
-some_number a b e = cc
 
 pub no_number : (o : Option ℕ) (t : ℕ) → o ≡ None → o ≡ Some t → ⊥
 no_number o t p q = cc
@@ -54,7 +52,7 @@ queue_kept ticket serving views id v w l at same note = queue_set ticket serving
 pub queue_drawn : (ticket serving : ℕ) (views : List View) (id : ℕ) (v w : View) → AreQueued ticket serving views → At views id v → v.ticket ≡ None
     → w.ticket ≡ Some ticket → w.note ≡ None → AreQueued (ticket + 1) serving (set views id w)
 queue_drawn ticket serving views id v w l at none is no_note = let order = l.in_order in queue_set ticket serving (ticket + 1) serving views id w l (omega arith)
-    (λ t e. let same = some_number ticket t (sym is ∙ e) in (omega arith, omega arith, λ j u n p h. let x = l.between j u t p h in absurd (omega arith)))
+    (λ t e. let same = same_Some ticket t (sym is ∙ e) in (omega arith, omega arith, λ j u n p h. let x = l.between j u t p h in absurd (omega arith)))
     (λ j u t n p h. let x = l.between j u t p h in (x.0, omega arith)) (λ n e. absurd (no_number w.note n no_note e)) (le_refl serving)
     (let c = out_set views id v w at in let m = l.many in let e = ap one_for none in let f = ap one_for is in omega arith)
 

@@ -1,7 +1,9 @@
 -- What an allowed entry refuses has its cause, and where the cause holds nothing else is answered.
-use Rattle.std.proofs.Common.{◌≡◌, ℕ, Bool, true, false, cond, not, ◌||◌, List, [], ◌∷◌, length, Option, Some, None, is_some, unwrap_or, refl, sym, ◌∙◌, ap, subst, true≢false}
+use Rattle.std.proofs.Common.{◌≡◌, ℕ, Bool, true, false, cond, List, [], ◌∷◌, length, Option, Some, None, is_some, unwrap_or, refl, sym, ◌∙◌, ap, subst, true≢false}
 use Rattle.std.specs.Prelude.{◌↔◌, IsTrue, ◌==◌, option_map}
 use Rattle.std.specs.List.{list_any}
+use Rattle.std.proofs.lemmas.Bool.{not-true, or_left, or_right}
+use Rattle.std.proofs.lemmas.Option.{none-some, same_Some}
 use mathlib.Core.Logic.{inl, inr}
 use Rattle.hm_model.specs.declared.entry.Call.{Call}
 use Rattle.hm_model.specs.declared.entry.Call.TheVariants.{Allot, GiveBack, Measure, Fetch, Fill}
@@ -20,23 +22,19 @@ use Rattle.hm_large.specs.Blocks as blocks
 use Rattle.hm_large.specs.Rules as large
 use Rattle.hm_large.specs.State as large_state
 use Rattle.hmreplay.specs.Refusals.{RefusesFree, RefusesMeasure, RefusesAllot, Traps, RefusesClass, RefusesLargeAllot, RefusesLargeFree, TrapsLarge, RefusesLarge}
-use Rattle.hmreplay.proofs.Completed.{none_some}
 
 -- ---- equations
 not_both : (b : Bool) → b ≡ true → b ≡ false → ⊥
 not_both b t f = true≢false (sym t ∙ f)
 
-some_same : {X : Type 0} (x y : X) → Some x ≡ Some y → x ≡ y
-some_same x y e = cc
-
 wrong_by : (x y : ℕ × ℕ) → Some x ≡ Some y → WrongSize x.0 x.1 ≡ WrongSize y.0 y.1
-wrong_by x y e = ap (λ (p : ℕ × ℕ). WrongSize p.0 p.1) (some_same x y e)
+wrong_by x y e = ap (λ (p : ℕ × ℕ). WrongSize p.0 p.1) (same_Some x y e)
 
 canary_by : (x y : ℕ × ℕ) → Some x ≡ Some y → Canary x.0 x.1 ≡ Canary y.0 y.1
-canary_by x y e = ap (λ (p : ℕ × ℕ). Canary p.0 p.1) (some_same x y e)
+canary_by x y e = ap (λ (p : ℕ × ℕ). Canary p.0 p.1) (same_Some x y e)
 
 trap_by : (x y : ℕ) → Some x ≡ Some y → Trap x ≡ Trap y
-trap_by x y e = ap (λ (q : ℕ). Trap q) (some_same x y e)
+trap_by x y e = ap (λ (q : ℕ). Trap q) (same_Some x y e)
 
 abbrev sizes_of : Reply → Option (ℕ × ℕ)
 sizes_of (WrongSize block other) = Some (block, other)
@@ -53,26 +51,14 @@ abbrev trap_of : Reply → Option ℕ
 trap_of (Trap q) = Some q
 trap_of reply = None
 
-either_first : (a b : Bool) → a ≡ true → (a || b) ≡ true
-either_first true b e = refl
-either_first false b e = absurd cc
-
-either_second : (a b : Bool) → b ≡ true → (a || b) ≡ true
-either_second true b e = refl
-either_second false b e = e
-
 any_key : (f : ℕ → Bool) (n : ℕ) (es : List (ℕ × Slab)) → has n es ≡ true → f n ≡ true → list_any f (keys es) ≡ true
 any_key f n [] h is = absurd cc
 any_key f n (e ∷ es) h is = by_test (λ has_later. any_key f n es has_later is) (e.0 == n) refl
   where
     by_test : (has n es ≡ true → list_any f (keys es) ≡ true) → (b : Bool) → b ≡ (e.0 == n) → list_any f (keys (e ∷ es)) ≡ true
-    by_test later true here = either_first (f e.0) (list_any f (keys es)) (subst (λ (k : ℕ). f k ≡ true) (sym (eq_same e.0 n (sym here))) is)
+    by_test later true here = or_left (f e.0) (list_any f (keys es)) (subst (λ (k : ℕ). f k ≡ true) (sym (eq_same e.0 n (sym here))) is)
     by_test later false past =
-        either_second (f e.0) (list_any f (keys es)) (later (subst (λ (b : Bool). is_some (cond b (Some e.1) (at n es)) ≡ true) (sym past) h))
-
-none_of : (b : Bool) → not b ≡ true → b ≡ false
-none_of true e = sym e
-none_of false e = refl
+        or_right (f e.0) (list_any f (keys es)) (later (subst (λ (b : Bool). is_some (cond b (Some e.1) (at n es)) ≡ true) (sym past) h))
 
 -- ---- a class region
 module _ (t : class.Terms) (s : class_state.State) where
@@ -104,21 +90,21 @@ module _ (t : class.Terms) (s : class_state.State) where
     unused = (λ e. absurd cc, λ is. absurd (not_both _ h.0.given is.1));
     double_free = (λ e. absurd cc, λ is. absurd (not_both _ h.0.live is.2));
     wrong_size = λ block other. (λ e. (h.0, h.1 ∙ ap sizes_of e), λ is. wrong_by (x, y) (block, other) (sym h.1 ∙ is.1));
-    canary = λ told kept found. (λ e. absurd cc, λ is. absurd (none_some (x, y) (sym is.1 ∙ h.1)));
+    canary = λ told kept found. (λ e. absurd cc, λ is. absurd (none-some (x, y) (sym is.1 ∙ h.1)));
   }
   free_refused before now c a stated (Canary x y) h = record {
     no_slot = (λ e. absurd cc, λ is. absurd (is h.0.place));
     unused = (λ e. absurd cc, λ is. absurd (not_both _ h.0.given is.1));
     double_free = (λ e. absurd cc, λ is. absurd (not_both _ h.0.live is.2));
-    wrong_size = λ block other. (λ e. absurd cc, λ is. absurd (none_some (block, other) (sym h.1 ∙ is.1)));
+    wrong_size = λ block other. (λ e. absurd cc, λ is. absurd (none-some (block, other) (sym h.1 ∙ is.1)));
     canary = λ told kept found. (λ e. (h.0, h.1, h.3 told ∙ ap sizes_of e), λ is. canary_by (x, y) (kept, found) (sym (h.3 told) ∙ is.2));
   }
   free_refused before now c a stated Freed h = record {
     no_slot = (λ e. absurd cc, λ is. absurd (is h.block.place));
     unused = (λ e. absurd cc, λ is. absurd (not_both _ h.block.given is.1));
     double_free = (λ e. absurd cc, λ is. absurd (not_both _ h.block.live is.2));
-    wrong_size = λ block other. (λ e. absurd cc, λ is. absurd (none_some (block, other) (sym h.size ∙ is.1)));
-    canary = λ told kept found. (λ e. absurd cc, λ is. absurd (none_some (kept, found) (sym (h.canary told) ∙ is.2)));
+    wrong_size = λ block other. (λ e. absurd cc, λ is. absurd (none-some (block, other) (sym h.size ∙ is.1)));
+    canary = λ told kept found. (λ e. absurd cc, λ is. absurd (none-some (kept, found) (sym (h.canary told) ∙ is.2)));
   }
   free_refused before now c a stated reply h = absurd h
 
@@ -149,10 +135,10 @@ module _ (t : class.Terms) (s : class_state.State) where
   served : (opens : Option ℕ) (canary : Option ℕ) (n : ℕ) → class.Source t.shape s opens n → class_state.is_open (opened t.shape opens canary s) n ≡ true
       → class.NoneServes t.shape s × (class_state.unopened t.shape s.shut s.next ≡ None) → ⊥
   served None canary n (inl partial) stands none =
-      not_both (list_any (class_state.is_partial t.shape s) (keys s.opens)) (any_key (class_state.is_partial t.shape s) n s.opens stands partial) (none_of _ none.0.0)
+      not_both (list_any (class_state.is_partial t.shape s) (keys s.opens)) (any_key (class_state.is_partial t.shape s) n s.opens stands partial) (not-true _ none.0.0)
   served None canary n (inr empty) stands none =
-      not_both (list_any (class_state.is_empty t.shape s) (keys s.opens)) (any_key (class_state.is_empty t.shape s) n s.opens stands empty.1) (none_of _ none.0.1)
-  served (Some m) canary n source stands none = none_some m (sym none.1 ∙ source.2)
+      not_both (list_any (class_state.is_empty t.shape s) (keys s.opens)) (any_key (class_state.is_empty t.shape s) n s.opens stands empty.1) (not-true _ none.0.1)
+  served (Some m) canary n source stands none = none-some m (sym none.1 ∙ source.2)
 
   allot_refused : (before now : ℕ) (c : Choices) (asked align : ℕ) (reply : Reply) → class.Allows t s before now c (Allot asked align) reply
       → RefusesAllot t s c before now reply
@@ -183,13 +169,13 @@ module _ (t : class.Terms) (s : class_state.State) where
   allot_refused before now c asked align reply h = absurd h
 
   fetch_traps : (before now : ℕ) (c : Choices) (a len : ℕ) (reply : Reply) → IsTrue t.told → class.Allows t s before now c (Fetch a len) reply → Traps t s reply a len
-  fetch_traps before now c a len (Bytes runs) told h = λ q. (λ e. absurd cc, λ is. absurd (none_some q (sym (h.1 told).0 ∙ is)))
+  fetch_traps before now c a len (Bytes runs) told h = λ q. (λ e. absurd cc, λ is. absurd (none-some q (sym (h.1 told).0 ∙ is)))
   fetch_traps before now c a len (Trap x) told h = λ q. (λ e. h.0 told ∙ ap trap_of e, λ is. trap_by x q (sym (h.0 told) ∙ is))
   fetch_traps before now c a len reply told h = absurd h
 
   fill_traps : (before now : ℕ) (c : Choices) (a : ℕ) (runs : List (ℕ × ℕ)) (reply : Reply) → IsTrue t.told → class.Allows t s before now c (Fill a runs) reply
       → Traps t s reply a (length (expand runs))
-  fill_traps before now c a runs Filled told h = λ q. (λ e. absurd cc, λ is. absurd (none_some q (sym (h.0 told) ∙ is)))
+  fill_traps before now c a runs Filled told h = λ q. (λ e. absurd cc, λ is. absurd (none-some q (sym (h.0 told) ∙ is)))
   fill_traps before now c a runs (Trap x) told h = λ q. (λ e. h.0 told ∙ ap trap_of e, λ is. trap_by x q (sym (h.0 told) ∙ is))
   fill_traps before now c a runs reply told h = absurd h
 
@@ -220,7 +206,7 @@ module _ (t : large.Terms) (s : large_state.State) where
 
   -- a block that is not live has no wrong size
   size_of_none : (o : Option blocks.Block) (stated : Option ℕ) (p : ℕ × ℕ) → is_some o ≡ false → large.wrong_size o stated ≡ Some p → ⊥
-  size_of_none None stated p none e = none_some p e
+  size_of_none None stated p none e = none-some p e
   size_of_none (Some b) stated p none e = true≢false none
 
   large_free_refused : (e : Entry) (a : ℕ) (stated : Option ℕ) (reply : Reply) → large.Allows t s e (GiveBack a stated) reply
@@ -237,18 +223,18 @@ module _ (t : large.Terms) (s : large_state.State) where
   }
   large_free_refused e a stated PagesFailed h = record {
     not_live = (λ e. absurd cc, λ is. absurd (not_both _ h.0 is));
-    wrong_size = λ block other. (λ e. absurd cc, λ is. absurd (none_some (block, other) (sym h.1 ∙ is)));
+    wrong_size = λ block other. (λ e. absurd cc, λ is. absurd (none-some (block, other) (sym h.1 ∙ is)));
     pages_failed = λ e. h.2;
   }
   large_free_refused e a stated Freed h = record {
     not_live = (λ e. absurd cc, λ is. absurd (not_both _ h.live is));
-    wrong_size = λ block other. (λ e. absurd cc, λ is. absurd (none_some (block, other) (sym h.size ∙ is)));
+    wrong_size = λ block other. (λ e. absurd cc, λ is. absurd (none-some (block, other) (sym h.size ∙ is)));
     pages_failed = λ e. absurd cc;
   }
   large_free_refused e a stated reply h = absurd h
 
   size_told : (o : Option blocks.Block) (size : ℕ) → option_map (λ (b : blocks.Block). b.size) o ≡ Some size → is_some o ≡ false → ⊥
-  size_told None size e none = none_some size e
+  size_told None size e none = none-some size e
   size_told (Some b) size e none = true≢false none
 
   large_measure_refused : (e : Entry) (a : ℕ) (reply : Reply) → large.Allows t s e (Measure a) reply → (reply ≡ NotLive) ↔ (has a s.live ≡ false)
@@ -257,13 +243,13 @@ module _ (t : large.Terms) (s : large_state.State) where
   large_measure_refused e a reply h = absurd h
 
   large_fetch_traps : (e : Entry) (a len : ℕ) (reply : Reply) → IsTrue t.told → large.Allows t s e (Fetch a len) reply → TrapsLarge t s reply a len
-  large_fetch_traps e a len (Bytes runs) told h = λ q. (λ e. absurd cc, λ is. absurd (none_some q (sym (h.1 told).0 ∙ is)))
+  large_fetch_traps e a len (Bytes runs) told h = λ q. (λ e. absurd cc, λ is. absurd (none-some q (sym (h.1 told).0 ∙ is)))
   large_fetch_traps e a len (Trap x) told h = λ q. (λ e. h.0 told ∙ ap trap_of e, λ is. trap_by x q (sym (h.0 told) ∙ is))
   large_fetch_traps e a len reply told h = absurd h
 
   large_fill_traps : (e : Entry) (a : ℕ) (runs : List (ℕ × ℕ)) (reply : Reply) → IsTrue t.told → large.Allows t s e (Fill a runs) reply
       → TrapsLarge t s reply a (length (expand runs))
-  large_fill_traps e a runs Filled told h = λ q. (λ e. absurd cc, λ is. absurd (none_some q (sym (h.0 told) ∙ is)))
+  large_fill_traps e a runs Filled told h = λ q. (λ e. absurd cc, λ is. absurd (none-some q (sym (h.0 told) ∙ is)))
   large_fill_traps e a runs (Trap x) told h = λ q. (λ e. h.0 told ∙ ap trap_of e, λ is. trap_by x q (sym (h.0 told) ∙ is))
   large_fill_traps e a runs reply told h = absurd h
 

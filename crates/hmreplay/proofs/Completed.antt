@@ -1,7 +1,7 @@
 -- A trace is run.
 use Rattle.std.proofs.Common.{◌≡◌, ◌⊎◌, ℕ, ◌≤◌, Bool, true, false, cond, inl, inr, List, ◌++◌, length, Option, Some, None, String, Global, sym, ◌∙◌, ap, arith, append-nil, length-append, true≢false}
+use Rattle.std.proofs.lemmas.Option.{none-some}
 use Rattle.hm_outside.specs.declared.pages.Pages as pages
-use Rattle.hm_trace.specs.declared.fault.TraceFault.{TraceFault}
 use Rattle.hm_trace.specs.Faults.{text_fault}
 use Rattle.hm_trace.specs.Spelling.{spelling}
 use Rattle.hm_trace.specs.Traces.{IsTrace}
@@ -22,9 +22,6 @@ use Rattle.hmreplay.specs.Streams.{IsReadToEnd, IsTakenPast, IsWritten}
 
 abbrev EndsWell : ℕ → Type 0
 EndsWell status = (status ≡ 0) ⊎ (status ≡ 1) ⊎ (status ≡ 6)
-
-pub none_some : {X : Type 0} (x : X) → None ≡ Some x → ⊥
-none_some x e = cc
 
 -- ---- the words ask for one thing
 abbrev is_run : Command → Bool
@@ -85,14 +82,14 @@ module _ {P : Type 0} (meaning : pages.Ghosts P) (status : ℕ) (closed : Option
   complete_stress words left left' held held' source_rose sink_rose (inl run) asks sink = absurd (run_not_stress _ run.options asks.0 run.output asks.1 run.words_are asks.2)
   complete_stress words left left' held held' source_rose sink_rose (inr (inl ended)) asks sink =
       stress_ends ended.options ended.number held held' sink_rose sink ended.ends
-  complete_stress words left left' held held' source_rose sink_rose (inr (inr unasked)) asks sink = absurd (none_some _ (sym unasked.words_are ∙ asks.2))
+  complete_stress words left left' held held' source_rose sink_rose (inr (inr unasked)) asks sink = absurd (none-some _ (sym unasked.words_are ∙ asks.2))
 
   module _ (faultless : Faultless) (short : Short) where
     text_ends : (o : Options) (output : Output) (trace : List (List ScriptView)) (bytes : List ℕ) (held held' : Option (List ℕ)) (sink_rose : Type 0)
         → IsTrace trace → bytes ≡ spelling trace → (sink_rose → ⊥) → TextEnds meaning status closed o output bytes held held' sink_rose → EndsWell status
     text_ends o output trace bytes held held' sink_rose is spelled sink (inl ran) = ran_well o _ _ held held' sink_rose sink ran.runs
     text_ends o output trace bytes held held' sink_rose is spelled sink (inr (inl faulty)) =
-        absurd (none_some faulty.fault (sym (ap text_fault spelled ∙ faultless trace is) ∙ faulty.first))
+        absurd (none-some faulty.fault (sym (ap text_fault spelled ∙ faultless trace is) ∙ faulty.first))
     text_ends o output trace bytes held held' sink_rose is spelled sink (inr (inr none)) = inr (inr none.status_is)
 
     source_ends : (o : Options) (output : Output) (trace : List (List ScriptView)) (bytes : List ℕ) (left' held held' : Option (List ℕ)) (source_rose sink_rose : Type 0)
@@ -113,4 +110,4 @@ module _ {P : Type 0} (meaning : pages.Ghosts P) (status : ℕ) (closed : Option
     complete words trace bytes left' held held' source_rose sink_rose (inr (inl ended)) asks is spelled source sink =
         absurd (run_not_stress _ asks.0 ended.options asks.1 ended.number asks.2 ended.words_are)
     complete words trace bytes left' held held' source_rose sink_rose (inr (inr unasked)) asks is spelled source sink =
-        absurd (none_some _ (sym unasked.words_are ∙ asks.2))
+        absurd (none-some _ (sym unasked.words_are ∙ asks.2))

@@ -1,5 +1,6 @@
 -- Status 7 comes exactly where more bytes are taken than may be.
-use Rattle.std.proofs.Common.{◌≡◌, ◌⊎◌, ℕ, ◌<◌, ◌≤◌, Bool, true, false, cond, inl, inr, List, length, Option, Some, String, Global, refl, sym, ◌∙◌, ap, arith}
+use Rattle.std.proofs.Common.{◌≡◌, ◌⊎◌, ℕ, ◌<◌, Bool, true, false, cond, inl, inr, List, length, Option, Some, String, Global, refl, sym, ◌∙◌, ap, arith}
+use Rattle.std.proofs.lemmas.Option.{none-some}
 use Rattle.hm_outside.specs.declared.pages.Pages as pages
 use Rattle.hm_report.specs.declared.results.Results.{Results}
 use Rattle.hm_report.specs.Findings.{has_finding}
@@ -12,7 +13,7 @@ use Rattle.hmreplay.specs.declared.words.Output.{Output}
 use Rattle.hmreplay.specs.Words.{AsksRun}
 use Rattle.hmreplay.specs.Endings.{Ends, RunsTrace, SourceEnds, StressEnds, TextEnds, IsRefused, status_of, status_after}
 use Rattle.hmreplay.specs.Streams.{IsTakenPast, IsWritten}
-use Rattle.hmreplay.proofs.Completed.{none_some, read_all, run_not_stress}
+use Rattle.hmreplay.proofs.Completed.{read_all, run_not_stress}
 
 -- a status that is not 5 is the one planned
 planned_is : (status planned : ℕ) (held held' : Option (List ℕ)) (rose : Type 0) (text : List ℕ) → IsWritten status planned held held' rose text → status ≡ 7 → planned ≡ 7
@@ -82,4 +83,4 @@ module _ {P : Type 0} (meaning : pages.Ghosts P) (status : ℕ) (closed : Option
   long_refused words bytes left' held held' source_rose sink_rose (inr (inl ended)) asks long source sink =
       absurd (run_not_stress _ asks.0 ended.options asks.1 ended.number asks.2 ended.words_are)
   long_refused words bytes left' held held' source_rose sink_rose (inr (inr unasked)) asks long source sink =
-      absurd (none_some _ (sym unasked.words_are ∙ asks.2))
+      absurd (none-some _ (sym unasked.words_are ∙ asks.2))

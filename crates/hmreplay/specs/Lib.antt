@@ -1,4 +1,5 @@
 pub mod Words
+pub mod Statuses
 pub mod Streams
 pub mod Replayed
 pub mod Handed

@@ -1,5 +1,5 @@
 -- The words after the program's name: a command and its options.
-use Rattle.std.specs.Prelude.{◌≡◌, ℕ, ◌%◌, ◌^◌, Bool, true, false, not, ◌&&◌, ◌||◌, ◌==◌, nat_lt, nat_le, if◌then◌else◌, List, [], ◌∷◌, length, codes, string_bytes, String, Option, Some, None, is_some, unwrap_or, option_and_then}
+use Rattle.std.specs.Prelude.{◌≡◌, ℕ, ◌%◌, ◌^◌, Bool, true, false, not, ◌&&◌, ◌||◌, ◌==◌, nat_lt, nat_le, if◌then◌else◌, List, [], ◌∷◌, length, codes, string_bytes, String, Option, Some, None, is_some, unwrap_or, option_and_then, ⊤}
 use Rattle.std.specs.Char.{is_ascii_digit}
 use Rattle.std.specs.List.{list_all}
 use Rattle.std.specs.Str.Parse.{digits_value}
@@ -117,6 +117,15 @@ abbrev pub AsksStress : List (String Global) → Type 0
 AsksStress words =
     (options : Options) × (number : ℕ)
     × (asked_in words ≡ Some (record { command = Stress number; options = options }))
+
+-- what holds where no source is asked for: they are not accepted, or ask for the trace that a number makes
+abbrev pub IfMade : Command → Type 0 → Type 0
+IfMade (Run output) claim = ⊤
+IfMade (Stress number) claim = claim
+
+abbrev pub IfUnasked : Option Asked → Type 0 → Type 0
+IfUnasked None claim = claim
+IfUnasked (Some asked) claim = IfMade asked.command claim
 
 -- the configuration that they ask for
 abbrev pub config_of : Options → Config

@@ -10,6 +10,7 @@ mod reading;
 mod refusal;
 mod rounds;
 mod run;
+mod status;
 #[cfg(test)]
 mod tests;
 mod trace_fault;
@@ -19,32 +20,33 @@ mod writing;
 use hm_frames::FrameMaker;
 use hm_outside::{NoGate, StdinSource, StdoutSink};
 use run::replay;
+use status::Status;
 use std::io::ErrorKind;
 use std::process::ExitCode;
 use std::{env, mem};
 
 // The words after the program's name, or the status to end with.
-fn take_words(rt: &HostRuntime) -> Result<Vec<String>, u8> {
+fn take_words(rt: &HostRuntime) -> Result<Vec<String>, Status> {
     let mut words = Vec::new(rt.alloc());
     match env::args(rt) {
         Ok(all) => {
             for word in all.skip(1) {
                 if words.push(word).is_err() {
-                    return Err(6);
+                    return Err(Status::NoMemory);
                 }
             }
             Ok(words)
         }
         Err(error) => match error.kind() {
-            ErrorKind::OutOfMemory => Err(6),
-            _ => Err(9),
+            ErrorKind::OutOfMemory => Err(Status::NoMemory),
+            _ => Err(Status::NoWords),
         },
     }
 }
 
 fn main(rt: HostRuntime) -> ExitCode {
     match take_words(&rt) {
-        Err(status) => ExitCode::from(status),
+        Err(status) => ExitCode::from(status.code()),
         Ok(words) => {
             let mut source = StdinSource::new(rt.stdin().lock());
             let mut sink = StdoutSink::new(rt.stdout());

@@ -1,6 +1,8 @@
 //! Why a run is refused before its text is looked at: the status it ends with and the line it writes.
 ghost use Rattle.std.specs.Prelude.{◌≡◌};
 
+use crate::status::Status;
+
 /// Why a run is refused.
 #[derive(Clone, Copy, Debug, PartialEq, Eq)]
 pub enum Refusal {
@@ -15,13 +17,14 @@ pub enum Refusal {
 impl Refusal {
     ghost use Rattle.hmreplay.specs.Endings.{status_of, line_of};
 
+    /// The status that the program ends with, unless the sink fails.
     pub fn status(self) -> u8
         ensures { result ≡ status_of self }
     {
         match self {
-            Refusal::Usage => 2,
-            Refusal::ReadFault => 4,
-            Refusal::TooLong => 7,
+            Refusal::Usage => Status::Usage.code(),
+            Refusal::ReadFault => Status::ReadFault.code(),
+            Refusal::TooLong => Status::TooLong.code(),
         }
     }
 

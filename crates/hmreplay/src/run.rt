@@ -8,11 +8,12 @@ ghost use Rattle.hm_trace.specs.Stress.{stress};
 ghost use Rattle.hmreplay.specs.Endings.{Ends, SourceEnds, StressEnds, TextEnds, status_of, line_of, status_after, output_text, fault_line};
 ghost use Rattle.hmreplay.specs.Handed.{HandsOut, HandsOutAs, IsReadTrace, IsSpelled};
 ghost use Rattle.hmreplay.specs.Streams.{IsTakenWithin, IsWritten};
-ghost use Rattle.hmreplay.specs.Words.{asked_in, config_of};
+ghost use Rattle.hmreplay.specs.Words.{IfUnasked, asked_in, config_of};
 
 use crate::reading::{ReadStop, read_all};
 use crate::refusal::Refusal;
 use crate::rounds::{Ran, run_trace};
+use crate::status::Status;
 use crate::trace_fault::line_of_fault;
 use crate::words::{Command, Options, Output, read_words};
 use crate::writing::finish;
@@ -55,7 +56,7 @@ fn give_up<P>() -> Run<P>
     ensures results { result.results ≡ None }
 {
     Run {
-        status: 6,
+        status: Status::NoMemory.code(),
         closed: None,
         results: None,
     }
@@ -71,7 +72,7 @@ fn refuse_text<K: Sink, P>(alloc: Global, sink: &mut K, fault: &TraceFault) -> R
 {
     match line_of_fault(alloc, fault) {
         Ok(line) => Run {
-            status: finish(sink, 3, line.as_bytes()),
+            status: finish(sink, Status::NoTrace.code(), line.as_bytes()),
             closed: None,
             results: None,
         },
@@ -106,10 +107,14 @@ fn write_results<K: Sink, P>(sink: &mut K, ran: Ran<P>, found: bool, text: &[u8]
     ensures written { IsWritten result.status (status_after ran.results.items) (K.held sink.old) (K.held sink.new)
         (Rose (K.faults sink.old) (K.faults sink.new)) text.now }
 {
-    let planned = if found { 1 } else { 0 };
+    let planned = if found {
+        Status::Finding
+    } else {
+        Status::Clean
+    };
     let Ran { closed, results } = ran;
     Run {
-        status: finish(sink, planned, text),
+        status: finish(sink, planned.code(), text),
         closed: Some(closed),
         results: Some(List::of(results)),
     }
@@ -227,6 +232,7 @@ pub fn replay<R: Threads + Wait + Sync, S: Source, K: Sink, M: PageMaker, G: Gat
     ensures ends { Ends M.P.Pages result.status result.closed words.now (S.left source.old) (S.left source.new)
         (Rose (S.faults source.old) (S.faults source.new)) (K.held sink.old) (K.held sink.new)
         (Rose (K.faults sink.old) (K.faults sink.new)) }
+    ensures untouched { IfUnasked (asked_in words.now) (source.new ≡ source.old) }
     ensures handed { HandsOutAs M.P.Pages (asked_in words.now) (S.left source.old) (S.left source.new)
         result.closed result.results }
 {

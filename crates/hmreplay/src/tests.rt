@@ -3,10 +3,9 @@ ghost use Rattle.std.specs.Prelude.{None};
 
 use crate::run::{Run, replay};
 use hm_frames::FrameMaker;
-use hm_model::Runs;
 use hm_outside::{
-    FailingMaker, Gate, NoGate, PageMaker, PlainMaker, PlainPages, RegionId, Source, SourceFault,
-    VecSink, VecSource,
+    FailingMaker, Gate, NoGate, PageMaker, PlainMaker, RegionId, Source, SourceFault, VecSink,
+    VecSource,
 };
 use std::alloc::Global;
 use std::sync::Wait;
@@ -748,14 +747,5 @@ fn what_is_asked(rt: HostRuntime) -> Result<(), Fail> {
     );
     assert_eq!(rt; run.status, 3);
     assert!(rt; source.longest <= 65_536);
-    Ok(())
-}
-
-#[test]
-fn runs_stand_for_their_bytes(rt: HostRuntime) -> Result<(), Fail> {
-    let bytes = [0, 0, 5, 5, 5, 0];
-    let runs = Runs::of(rt.alloc(), &bytes)?;
-    assert!(rt; runs.to_vec(rt.alloc())?.as_slice() == bytes.as_slice());
-    assert!(rt; Runs::same(rt.alloc(), 7, 0)?.to_vec(rt.alloc())?.is_empty());
     Ok(())
 }

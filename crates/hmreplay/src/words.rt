@@ -3,7 +3,7 @@ ghost use Rattle.std.specs.Prelude.{◌≡◌, IfSome};
 ghost use Rattle.hm_sizes.specs.Configs.{IsValid};
 ghost use Rattle.hmreplay.specs.Words.{are_digits, is_numeral, number_in, is_space, is_value, value_of, names, given, is_given, is_option, are_options, options_in, with_options, stress_in, asked_in, config_of};
 
-use hm_sizes::Config;
+use hm_sizes::{Config, LEAST_SPACE, MOST_CLASS_REGION, MOST_LARGE_SPACE, PAGE};
 
 /// An option, which has a value behind it.
 #[derive(Clone, Copy, Debug, PartialEq, Eq)]
@@ -83,7 +83,7 @@ fn number(word: &str) -> Option<u64>
 fn is_space(most: u64, number: u64) -> bool
     ensures { result ≡ is_space most number }
 {
-    number % 4096 == 0 && 1_048_576 <= number && number <= most
+    number % PAGE == 0 && LEAST_SPACE <= number && number <= most
 }
 
 // Whether an option may have this value.
@@ -92,8 +92,8 @@ fn is_value(option: OptionName, number: u64) -> bool
 {
     match option {
         OptionName::Seed => true,
-        OptionName::ClassRegion => is_space(34_359_738_368, number),
-        OptionName::LargeSpace => is_space(1_099_511_627_776, number),
+        OptionName::ClassRegion => is_space(MOST_CLASS_REGION, number),
+        OptionName::LargeSpace => is_space(MOST_LARGE_SPACE, number),
     }
 }
 
@@ -180,8 +180,8 @@ fn options_in(words: &[String]) -> Options
 {
     Options {
         seed: given(OptionName::Seed, words).unwrap_or(0),
-        class_region: given(OptionName::ClassRegion, words).unwrap_or(34_359_738_368),
-        large_space: given(OptionName::LargeSpace, words).unwrap_or(1_099_511_627_776),
+        class_region: given(OptionName::ClassRegion, words).unwrap_or(MOST_CLASS_REGION),
+        large_space: given(OptionName::LargeSpace, words).unwrap_or(MOST_LARGE_SPACE),
     }
 }
 

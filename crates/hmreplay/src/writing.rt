@@ -4,6 +4,7 @@ ghost use Rattle.hm_outside.specs.Causes.{Rose};
 ghost use Rattle.hm_outside.specs.Streams.{Put};
 ghost use Rattle.hmreplay.specs.Streams.{IsFrontPut, IsWritten};
 
+use crate::status::Status;
 use hm_outside::{Sink, SinkFault};
 
 // Writes the whole text, or a front of it where the sink fails.
@@ -31,6 +32,6 @@ pub fn finish<K: Sink>(sink: &mut K, planned: u8, text: &[u8]) -> u8
 {
     match write_all(sink, text) {
         Ok(()) => planned,
-        Err(_) => 5,
+        Err(_) => Status::WriteFault.code(),
     }
 }

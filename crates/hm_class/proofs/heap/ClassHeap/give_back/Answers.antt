@@ -7,11 +7,11 @@ use Rattle.hm_model.specs.Calls.{no_choices, entry_of, no_words}
 use Rattle.hm_class.specs.Kept.{IsKept}
 use Rattle.hm_class.specs.Outcomes.{reply_of}
 use Rattle.hm_class.specs.Region.{Region, IsTakenBack}
-use Rattle.hm_class.proofs.Returned.{release_ready, released_from}
+use Rattle.hm_class.proofs.Returned.{release_ready}
 use Rattle.hm_choice.specs.Stream.{Words}
 use Rattle.hm_quarantine.specs.Quarantine.{Kept}
 use Rattle.hm_class.specs.declared.outcome.Event.{Event}
-use Rattle.hm_class.specs.Frees.{Settles, array_stream, released_slab}
+use Rattle.hm_class.specs.Frees.{Settles, array_stream}
 use Rattle.hm_class.specs.Outcomes.{freed_choices, freed_draws}
 use Rattle.hm_class.proofs.Used.{live_held}
 use Rattle.hm_class.specs.Uses.{live_count}
@@ -58,12 +58,6 @@ settle-emptied-requires-clause-parking g c κs within =
     let h = c.self.inside in
     ap (λ (l : List (Option ℕ)). length l) c.hold-released.ensures.lists.parking ∙ (kept_now (g.P.Pages.told h.pages) (g.P.Pages.runs h.pages) (g.P.Pages.faults h.pages) h.config h.number h.arena h.shape h.entries.items h.slabs h.stream h.quarantine h.slabs.parking c.self.invariant.0).parking_length
 
-pub slab_of-slab-requires-clause-from : goal.slab_of-slab-requires-clause-from
-slab_of-slab-requires-clause-from g c =
-    let h = c.self.inside in
-    let r = c.in-Accepted.ensures.judged in
-    released_from (g.P.Pages.told h.pages) (g.P.Pages.runs h.pages) (g.P.Pages.faults h.pages) h.config h.number h.arena h.shape h.entries.items h.slabs h.stream h.quarantine h.slabs.parking c.self.invariant.0 g.P.Pages h.pages c.hold-released.new.pages c.hold-released.new.slabs c.args.addr c.in-Accepted.slot.slab c.in-Accepted.slot.index refl refl r.judged.0.is r.judged.0.slot r.judged.1 c.hold-released.ensures.slabs c.hold-released.ensures.cleared c.hold-released.result.0 c.hold-released.ensures.released
-
 pub push_reserved-requires-in-Accepted : goal.push_reserved-requires-in-Accepted
 push_reserved-requires-in-Accepted g c =
     let h = c.self.inside in
@@ -98,12 +92,11 @@ invariant_of-self-in-Accepted g c =
     subst (λ (x : Words). Settles g.P.Pages h.shape c.hold-released.new.slabs k' c.hold-released.new.pages now x stream' released emptied) c.hold-released.ensures.taken c.settle-emptied.ensures.settled in
     let half_is : f ≡ g.P.Pages.faults c.hold-released.new.pages = c.faults-before.ensures ∙ sym c.hold-released.ensures.count in
     let later : f ≤ f' = omega (arith, half_is, c.faults-now.ensures, settled_later g.P.Pages h.shape c.hold-released.new.slabs k' c.hold-released.new.pages now (array_stream h.shape h.stream) stream' released emptied settled) in
-    let x = entry_freed h.shape h.stream c.args.who c.args.addr c.args.stated released (released_slab h.shape released) emptied f f' in
+    let x = entry_freed h.shape h.stream c.args.who c.args.addr c.args.stated released emptied f f' in
     let all : c.push_reserved-in-Accepted.new.self.items ≡ h.entries.items ++ x ∷ [] =
     appended _ _ _ _ _ c.push_reserved-in-Accepted.ensures.items refl
     (c.entry.ensures ∙ ap (λ (ev : Event). entry_of c.args.who (call.GiveBack c.args.addr c.args.stated) reply.Freed ev.choices ev.draws f f') c.freed-event.ensures
-    ∙ ap (λ (n : ℕ). entry_of c.args.who (call.GiveBack c.args.addr c.args.stated) reply.Freed (freed_choices released n emptied) (freed_draws c.hold-released.result.1 emptied) f f') c.slab_of-slab.ensures
-    ∙ ap (λ (w : Option ℕ). entry_of c.args.who (call.GiveBack c.args.addr c.args.stated) reply.Freed (freed_choices released (released_slab h.shape released) emptied) (freed_draws w emptied) f f') c.hold-released.ensures.word) in
+    ∙ ap (λ (w : Option ℕ). entry_of c.args.who (call.GiveBack c.args.addr c.args.stated) reply.Freed (freed_choices released emptied) (freed_draws w emptied) f f') c.hold-released.ensures.word) in
     let less = live_ended (g.P.Pages.told h.pages) (g.P.Pages.runs h.pages) (g.P.Pages.faults h.pages) h.config h.number h.arena h.shape h.entries.items h.slabs h.stream h.quarantine c.self.invariant.0 g.P.Pages h.pages c.hold-released.new.pages c.settle-emptied.new.pages c.hold-released.new.slabs c.settle-emptied.new.slabs c.settle-emptied.new.stream c.args.addr c.in-Accepted.slot c.args.stated c.args.who c.faults-before.result c.faults-now.result refl refl c.in-Accepted.ensures.judged c.hold-released.ensures.slabs c.hold-released.ensures.cleared c.hold-released.ensures.lists c.faults-before.ensures later released emptied c.hold-released.ensures.released settled in (
       subst (λ (b : Bool). IsKept b (g.P.Pages.runs now) (g.P.Pages.faults now) h.config h.number h.arena h.shape c.push_reserved-in-Accepted.new.self.items k' stream' c.hold-released.new.quarantine k'.parking) (sym (c.settle-emptied.ensures.told ∙ c.hold-released.ensures.told))
           (subst (λ (l : List Entry). IsKept (g.P.Pages.told h.pages) (g.P.Pages.runs now) (g.P.Pages.faults now) h.config h.number h.arena h.shape l k' stream' c.hold-released.new.quarantine k'.parking) (sym all)

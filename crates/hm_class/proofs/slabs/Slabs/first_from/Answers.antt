@@ -2,8 +2,8 @@ use Rattle.std.proofs.Common.{◌∙◌, None, Some, Option, sym, ap, subst}
 use Rattle.std.specs.Option.{option_and_then}
 use Rattle.hm_class.specs.Slabs.{Slabs}
 use Rattle.hm_class.specs.Sources.{IsWithin}
-use Rattle.hm_class.specs.Uses.{SlabUse, first_at, first_from}
-use Rattle.hm_class.proofs.KindsOf.{first_is}
+use Rattle.hm_slab_meta.specs.Uses.{first_from}
+use Rattle.hm_class.specs.Uses.{SlabUse, first_at}
 use Rattle.hm_class.proofs.Tables.{slab_by, within_slots}
 use Rattle.hm_class.proofs.slabs.Slabs.first_from.Goals as goal
 
@@ -14,7 +14,7 @@ first_free_from-requires c =
 
 pub returns-in-Some : goal.returns-in-Some
 returns-in-Some c =
-    c.first_free_from.ensures.first ∙ first_is c.args.start c.in-Some.meta.now.slots
+    c.first_free_from.ensures.first
     ∙ ap (λ (o : Option SlabUse). option_and_then (λ (b : SlabUse). first_from c.args.start b.slots) o)
     (sym (slab_by c.self.inside.lists c.args.slab c.self.invariant.0 (Some c.in-Some.meta.now) (sym c.in-Some.ensures)))
     ∙ ap (λ (k : Slabs). first_at k.slabs c.args.slab c.args.start) c.self.view_is

@@ -16,18 +16,14 @@ pub invariant_of-self-in-None : goal.invariant_of-self-in-None
 invariant_of-self-in-None c =
     updated_in_reach c.self.inside.addresses.entries c.remove.new.self.entries c.args.name None c.remove.ensures.updates.0 c.self.invariant tt
 
-pub returns-in_ok-insert-in-Some : goal.returns-in_ok-insert-in-Some
-returns-in_ok-insert-in-Some c = record {
-  value =
-      subst (λ (o : Option ℕ). held c.insert.new.self.entries ≡ with_name (held c.args.self.now) (name_view c.args.name) o) (sym c.in-Some.is)
-      (subst (λ (es : List (Name × ℕ)). held c.insert.new.self.entries ≡ with_name (held es) (name_view c.args.name) (Some c.in-Some.addr)) c.self.view_is
-      (updated c.self.inside.addresses.entries c.insert.new.self.entries c.args.name (Some c.in-Some.addr) c.in_ok-insert-in-Some.ensures.updates.0));
-}
+pub returns-in_ok-insert-in-Some-clause-value : goal.returns-in_ok-insert-in-Some-clause-value
+returns-in_ok-insert-in-Some-clause-value c =
+    subst (λ (o : Option ℕ). held c.insert.new.self.entries ≡ with_name (held c.args.self.now) (name_view c.args.name) o) (sym c.in-Some.is)
+    (subst (λ (es : List (Name × ℕ)). held c.insert.new.self.entries ≡ with_name (held es) (name_view c.args.name) (Some c.in-Some.addr)) c.self.view_is
+    (updated c.self.inside.addresses.entries c.insert.new.self.entries c.args.name (Some c.in-Some.addr) c.in_ok-insert-in-Some.ensures.updates.0))
 
-pub returns-in-None : goal.returns-in-None
-returns-in-None c = record {
-  value =
-      subst (λ (o : Option ℕ). held c.remove.new.self.entries ≡ with_name (held c.args.self.now) (name_view c.args.name) o) (sym c.in-None.is)
-      (subst (λ (es : List (Name × ℕ)). held c.remove.new.self.entries ≡ with_name (held es) (name_view c.args.name) None) c.self.view_is
-      (updated c.self.inside.addresses.entries c.remove.new.self.entries c.args.name None c.remove.ensures.updates.0));
-}
+pub returns-in-None-clause-value : goal.returns-in-None-clause-value
+returns-in-None-clause-value c =
+    subst (λ (o : Option ℕ). held c.remove.new.self.entries ≡ with_name (held c.args.self.now) (name_view c.args.name) o) (sym c.in-None.is)
+    (subst (λ (es : List (Name × ℕ)). held c.remove.new.self.entries ≡ with_name (held es) (name_view c.args.name) None) c.self.view_is
+    (updated c.self.inside.addresses.entries c.remove.new.self.entries c.args.name None c.remove.ensures.updates.0))
