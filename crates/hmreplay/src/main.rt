@@ -1,6 +1,6 @@
-//! `hmreplay run` reads a trace from standard input, runs it and writes one line a step. It ends with
-//! the status of `replay`; with 9 where the words after its name could not be taken from the system,
-//! and with 6 where there was no memory for them.
+//! `hmreplay run` reads a trace from standard input, runs it and writes one line a step; `hmreplay journal` writes the
+//! histories, and `hmreplay stress` runs a trace that a number makes. It ends with the status of `replay`; with 9 where
+//! the words after its name could not be taken from the system, and with 6 where there was no memory for them.
 #![tactic(auto)]
 
 #[cfg(test)]

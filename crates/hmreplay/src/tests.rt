@@ -2,6 +2,7 @@
 ghost use Rattle.std.specs.Prelude.{None};
 
 use crate::run::{Run, replay};
+use crate::words::{Asked, Command, Options, Output, read_words};
 use hm_frames::FrameMaker;
 use hm_outside::{
     FailingMaker, Gate, NoGate, PageMaker, PlainMaker, RegionId, Source, SourceFault, VecSink,
@@ -225,19 +226,21 @@ pub(crate) fn text_of(alloc: Global, steps: &str) -> Result<String, Fail> {
     Ok(format!(in alloc; "hmtrace 1\nround\nthread 1\n{steps}end\n")?)
 }
 
-// Runs the steps of a row, and compares what is written with its reports.
+// Runs the steps of a row with these words behind its own, and compares what is written with its reports.
 fn check_row<R: Threads + Wait + Sync, M: PageMaker>(
     rt: &R,
     alloc: Global,
     row: &Row,
+    more: &str,
     maker: &mut M,
 ) -> Result<bool, Fail> {
     let mut sink = VecSink::build(alloc, 999, 99, Vec::new(alloc))?;
     let text = text_of(alloc, row.steps)?;
+    let asked = format!(in alloc; "{}{more}", row.words)?;
     let run = run_text(
         rt,
         alloc,
-        row.words,
+        asked.as_str(),
         text.as_bytes(),
         &mut sink,
         maker,
@@ -258,16 +261,72 @@ fn traces(rt: HostRuntime) -> Result<(), Fail> {
     let alloc = rt.alloc();
     for row in &ROWS {
         assert!(rt;
-            check_row(&rt, alloc, row, &mut PlainMaker)?,
+            check_row(&rt, alloc, row, "", &mut PlainMaker)?,
             "{}",
             row.steps
         );
         assert!(rt;
-            check_row(&rt, alloc, row, &mut FrameMaker)?,
+            check_row(&rt, alloc, row, "", &mut FrameMaker)?,
             "{}",
             row.steps
         );
     }
+    Ok(())
+}
+
+// What is written hangs on no number of the run.
+#[test]
+fn traces_of_other_numbers(rt: HostRuntime) -> Result<(), Fail> {
+    let alloc = rt.alloc();
+    for row in &ROWS {
+        assert!(rt;
+            check_row(&rt, alloc, row, " --seed 7", &mut FrameMaker)?,
+            "{}",
+            row.steps
+        );
+        assert!(rt;
+            check_row(
+                &rt,
+                alloc,
+                row,
+                " --seed 18446744073709551615",
+                &mut FrameMaker
+            )?,
+            "{}",
+            row.steps
+        );
+    }
+    Ok(())
+}
+
+// Every second slab is a guard, and the region's slabs end with the fourth.
+#[test]
+fn opened_slabs(rt: HostRuntime) -> Result<(), Fail> {
+    let alloc = rt.alloc();
+    let text = text_of(
+        alloc,
+        "malloc a 130000\nmalloc b 130000\nmalloc c 130000\nmalloc d 130000\nmalloc e 130000\n",
+    )?;
+    let mut sink = VecSink::build(alloc, 99, 99, Vec::new(alloc))?;
+    let run = run_text(
+        &rt,
+        alloc,
+        "run --class-region 1048576",
+        text.as_bytes(),
+        &mut sink,
+        &mut FrameMaker,
+        &NoGate,
+    )?;
+    let closed = run.closed.ok_or("closed")?;
+    let history = closed.histories.items().get(48).ok_or("region 48")?;
+    let mut opened = Vec::new(alloc);
+    for entry in history.entries.items() {
+        opened.push(entry.choices.opened)?;
+    }
+    assert_eq!(rt;
+        opened.as_slice(),
+        [Some(0), Some(2), Some(4), Some(6), None].as_slice()
+    );
     Ok(())
 }
 
@@ -363,7 +422,7 @@ fn endings(rt: HostRuntime) -> Result<(), Fail> {
 }
 
 /// Words that are accepted with an empty trace, and the status.
-const WORDS: [(&str, u8); 29] = [
+const WORDS: [(&str, u8); 31] = [
     ("run --seed 7", 0),
     ("run --seed 0007 --large-space 1048576", 0),
     (
@@ -388,6 +447,8 @@ const WORDS: [(&str, u8); 29] = [
     ("run --help 1", 2),
     ("run 7", 2),
     ("run --seed 7 stress 7", 2),
+    ("journal --seed 7", 0),
+    ("journal 7", 2),
     ("stress", 2),
     ("stress --seed 7", 2),
     ("stress x", 2),
@@ -402,7 +463,7 @@ const WORDS: [(&str, u8); 29] = [
 fn accepted_words(rt: HostRuntime) -> Result<(), Fail> {
     let alloc = rt.alloc();
     for (asked, status) in WORDS {
-        let mut sink = VecSink::build(alloc, 99, 99, Vec::new(alloc))?;
+        let mut sink = VecSink::build(alloc, 65_536, 65_536, Vec::new(alloc))?;
         let run = run_text(
             &rt,
             alloc,
@@ -426,6 +487,23 @@ fn accepted_words(rt: HostRuntime) -> Result<(), Fail> {
         &NoGate,
     );
     assert_eq!(rt; run.status, 2);
+    Ok(())
+}
+
+#[test]
+fn options_of_words(rt: HostRuntime) -> Result<(), Fail> {
+    let asked = words(rt.alloc(), "run --seed 0007 --large-space 1048576")?;
+    let wanted = Asked {
+        command: Command::Run {
+            output: Output::Report,
+        },
+        options: Options {
+            seed: 7,
+            class_region: 34_359_738_368,
+            large_space: 1_048_576,
+        },
+    };
+    assert_eq!(rt; read_words(&asked), Some(wanted));
     Ok(())
 }
 
@@ -454,12 +532,12 @@ fn stress_of_seven(rt: HostRuntime) -> Result<(), Fail> {
     Ok(())
 }
 
-// What a journal writes of steps of thread 1: how many lines it has, and which one begins region 7.
+// The journal of a text, and its status.
 fn journal_of<R: Threads + Wait + Sync>(
     rt: &R,
     alloc: Global,
     text: &[u8],
-) -> Result<(usize, Option<usize>), Fail> {
+) -> Result<(Vec<u8>, u8), Fail> {
     let mut sink = VecSink::build(alloc, 65_536, 999, Vec::new(alloc))?;
     let run = run_text(
         rt,
@@ -470,26 +548,51 @@ fn journal_of<R: Threads + Wait + Sync>(
         &mut PlainMaker,
         &NoGate,
     )?;
-    if run.status != 0 {
-        return Err(Fail::new("status"));
-    }
-    let written = sink.held.as_slice();
-    let lines = written.iter().filter(|byte| **byte == b'\n').count();
-    let place = written
-        .split(|byte| *byte == b'\n')
-        .position(|line| line.starts_with(b"region 7 "));
-    Ok((lines, place))
+    Ok((sink.held, run.status))
 }
 
-// Lines are counted from 1, places from 0.
+// How many lines there are, and which one begins region 7, counted from 0.
+fn lines_of(journal: &[u8]) -> (usize, Option<usize>) {
+    let lines = journal.iter().filter(|byte| **byte == b'\n').count();
+    let place = journal
+        .split(|byte| *byte == b'\n')
+        .position(|line| line.starts_with(b"region 7 "));
+    (lines, place)
+}
+
 #[test]
 fn journals(rt: HostRuntime) -> Result<(), Fail> {
     let alloc = rt.alloc();
-    let none = journal_of(&rt, alloc, b"hmtrace 1\nend\n")?;
-    assert_eq!(rt; none, (398, Some(17)));
+    let (none, status) = journal_of(&rt, alloc, b"hmtrace 1\nend\n")?;
+    assert_eq!(rt; status, 0);
+    assert_eq!(rt; lines_of(&none), (398, Some(17)));
     let text = text_of(alloc, "malloc x 100\nfree x\n")?;
-    let one = journal_of(&rt, alloc, text.as_bytes())?;
-    assert_eq!(rt; one, (400, Some(17)));
+    let (one, status) = journal_of(&rt, alloc, text.as_bytes())?;
+    assert_eq!(rt; status, 0);
+    assert_eq!(rt; lines_of(&one), (400, Some(17)));
+    Ok(())
+}
+
+/// Region 7 of the journal of a double free: the gap, the canary, slot 24 and the array's place are those of the words
+/// that ChaCha8 gives of the number 0 in stream 7.
+const DOUBLE_FREE: &[u8] = b"\nregion 7 1592101122048 4\n\
+1 1 1 1 1 0 0 3 3231088256 3392945114 2935142444 14572588304984079872 0 - - - - - allot 100 1 : 1 1592101124736 104\n\
+1 1 1 2 1 0 0 1 2409532924 0 0 - - - - - - - giveback 1592101124736 - : 7\n\
+1 1 1 3 1 0 0 0 0 0 0 - - - - - - - giveback 1592101124736 - : 10\n\
+1 1 1 4 1 0 0 0 0 0 0 - - - - - - - measure 1592101124736 : 10\n\
+closed 0\nregion 8 ";
+
+#[test]
+fn journal_of_a_double_free(rt: HostRuntime) -> Result<(), Fail> {
+    let alloc = rt.alloc();
+    let text = text_of(alloc, "malloc x 100\nfree x\nfree x\nsize x\n")?;
+    let (journal, status) = journal_of(&rt, alloc, text.as_bytes())?;
+    assert_eq!(rt; status, 1);
+    assert!(rt;
+        journal
+            .windows(DOUBLE_FREE.len())
+            .any(|window| window == DOUBLE_FREE)
+    );
     Ok(())
 }
 
