@@ -53,10 +53,8 @@ pub fn first_nonzero(bytes: &[u8]) -> Option<usize>
     ensures { result ≡ first_nonzero bytes.now }
 {
     let skipped = skip_zeros(bytes);
-    match first_by_bytes(&bytes[skipped..]) {
-        Some(place) => Some(skipped + place),
-        None => None,
-    }
+    let place = first_by_bytes(&bytes[skipped..])?;
+    Some(skipped + place)
 }
 
 /// The same, byte by byte.

@@ -1,7 +1,7 @@
 -- How often numbers stand in lists and among the keys of maps.
 use Rattle.std.proofs.Common.{◌≡◌, ◌≢◌, ℕ, ◌+◌, ◌≤◌, ◌==◌, Bool, true, false, cond, not, ◌||◌, List, [], ◌∷◌, ◌++◌, Some, is_some, sym, ◌∙◌, ap, refl, arith, true≢false}
-use Rattle.std.proofs.lemmas.Bool.Decides.{nat_tests}
-use Rattle.hm_model.specs.Maps.{among, times, without, at, has, removed, put, keys}
+pub use Rattle.std.proofs.lemmas.Bool.{eq-eqb as same_eq, ne_eqb as other_eq, eqb-true as eq_same, eqb-false as eq_other}
+use Rattle.hm_model.specs.Maps.{among, times, without, at, has, removed, keys}
 
 pub times_among : (a : ℕ) (xs : List ℕ) → among a xs ≡ true → 1 ≤ times a xs
 times_among a [] e = absurd (true≢false (sym e))
@@ -22,18 +22,6 @@ pub among_none : (a : ℕ) (xs : List ℕ) → times a xs ≡ 0 → among a xs �
 among_none a [] e = refl
 among_none a (x ∷ xs) e =
     elim (x == a) as (λ b. cond b 1 0 + times a xs ≡ 0 → (b || among a xs) ≡ false) [ true ↦ λ h. absurd (omega arith) | false ↦ λ h. among_none a xs (omega arith) ] e
-
-pub same_eq : (x a : ℕ) → x ≡ a → (x == a) ≡ true
-same_eq x a e = grind (arith, nat_tests)
-
-pub other_eq : (x a : ℕ) → x ≢ a → (x == a) ≡ false
-other_eq x a e = grind (arith, nat_tests)
-
-pub eq_same : (x a : ℕ) → (x == a) ≡ true → x ≡ a
-eq_same x a e = grind (arith, nat_tests)
-
-pub eq_other : (x a : ℕ) → (x == a) ≡ false → x ≢ a
-eq_other x a e = grind (arith, nat_tests)
 
 pub times_here : (a : ℕ) (xs : List ℕ) → times a (a ∷ xs) ≡ 1 + times a xs
 times_here a xs = ap (λ (b : Bool). cond b 1 0 + times a xs) (same_eq a a refl)
@@ -79,6 +67,3 @@ module _ {X : Type 0} where
   has_keys k [] = refl
   has_keys k (e ∷ m) =
       elim (e.0 == k) as (λ b. is_some (cond b (Some e.1) (at k m)) ≡ (b || among k (keys m))) [ true ↦ refl | false ↦ has_keys k m ]
-
-  pub keys_put : (k : ℕ) (x : X) (m : List (ℕ × X)) → keys (put k x m) ≡ k ∷ without k (keys m)
-  keys_put k x m = ap (λ (l : List ℕ). k ∷ l) (keys_removed k m)

@@ -14,7 +14,7 @@ pub enum Answer {
     TooLarge,
     /// The address lies in no region.
     Outside,
-    /// The region's turn was held by another.
+    /// The region's turn was not free.
     Busy,
     /// The new block was given, but moving was refused for this cause.
     HalfMoved {

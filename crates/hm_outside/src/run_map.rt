@@ -82,14 +82,10 @@ impl<R: HasRun> RunMap<R> {
         ensures length { IfSome result (λ s. length s.now ≡ len) }
         ensures value { ReadGives self.now addr len result }
     {
-        match self.table.place_of(addr, len) {
-            Some(i) => {
-                let run = &self.table.runs[i];
-                let from = (addr - run.first()) as usize;
-                Some(&run.bytes()[from..from + len])
-            }
-            None => None,
-        }
+        let i = self.table.place_of(addr, len)?;
+        let run = &self.table.runs[i];
+        let from = (addr - run.first()) as usize;
+        Some(&run.bytes()[from..from + len])
     }
 
     /// Whether the range is not empty and lies in one run.

@@ -2,7 +2,7 @@
 use Rattle.std.proofs.Common.{◌≡◌, ℕ, zero, suc, ◌+◌, ◌<◌, ◌≤◌, ◌==◌, Bool, true, false, cond, ◌||◌, List, [], ◌∷◌, ◌++◌, length, replicate, get_or, set, Option, Some, None, ap, refl, arith, true≢false}
 use Rattle.std.specs.Prelude.{not}
 use Rattle.std.specs.List.{filter}
-use Rattle.std.proofs.lemmas.Bool.Decides.{nat_tests}
+use Rattle.std.proofs.lemmas.Bool.{eqb-true, eq-eqb}
 use Rattle.hm_quarantine.specs.Quarantine.{IsArrayPlace, goes_on, ring_with, goes_out}
 use Rattle.hm_quarantine.specs.Delay.{among, without}
 use Rattle.hm_quarantine.proofs.Rings.{Takes, Room, Full, HasRoom, IsFull, takes}
@@ -59,9 +59,6 @@ count_ring t size ring (Some x) le = goes (takes size x ring le)
     goes (Room lt has) = room has
     goes (Full y rest grown long is) = full y rest grown is
 
-is_number : (a b : ℕ) → (a == b) ≡ true → a ≡ b
-is_number a b e = grind (arith, nat_tests)
-
 -- a list without a slot that does not stand in it
 count_same : (t : ℕ → Bool) (b : ℕ) (xs : List ℕ) → times b xs ≡ 0 → count t (filter (λ x. not (x == b)) xs) ≡ count t xs
 count_same t b [] e = refl
@@ -76,7 +73,7 @@ count_removed : (t : ℕ → Bool) (b : ℕ) (xs : List ℕ) → times b xs ≡ 
 count_removed t b [] e = absurd (omega (arith, e))
 count_removed t b (x ∷ xs) e =
     elim (x == b) as (λ c. (x == b) ≡ c → cond c 1 0 + times b xs ≡ 1 → count t (cond (not c) (x ∷ filter (λ x. not (x == b)) xs) (filter (λ x. not (x == b)) xs)) + one t b ≡ one t x + count t xs) [
-      | true ↦ λ is h. omega (arith, ap (λ (n : ℕ). one t n) (is_number x b is), count_same t b xs (omega (arith, h)))
+      | true ↦ λ is h. omega (arith, ap (λ (n : ℕ). one t n) (eqb-true x b is), count_same t b xs (omega (arith, h)))
       | false ↦ λ is h. omega (arith, count_removed t b xs (omega (arith, h)))
     ] refl e
 
@@ -113,15 +110,12 @@ none_among a (x ∷ xs) e =
 pub once_more : (a f : ℕ) (xs : List ℕ) → among f xs ≡ false → times a xs ≤ 1 → times a (f ∷ xs) ≤ 1
 once_more a f xs new le =
     elim (f == a) as (λ c. (f == a) ≡ c → cond c 1 0 + times a xs ≤ 1) [
-      | true ↦ λ is. omega (arith, ap (λ (n : ℕ). times n xs) (is_number f a is), none_among f xs new)
+      | true ↦ λ is. omega (arith, ap (λ (n : ℕ). times n xs) (eqb-true f a is), none_among f xs new)
       | false ↦ λ is. omega (arith, le)
     ] refl
 
 pub self_is : (a : ℕ) → one (λ x. x == a) a ≡ 1
-self_is a = ap (λ b. cond b 1 0) (same a)
-  where
-    same : (a : ℕ) → (a == a) ≡ true
-    same a = grind (arith, nat_tests)
+self_is a = ap (λ b. cond b 1 0) (eq-eqb a a refl)
 
 -- a slot of the array is counted there
 pub count_at : (t : ℕ → Bool) (array : List (Option ℕ)) (p x : ℕ) → get_or array p None ≡ Some x → one t x ≤ count_in t array

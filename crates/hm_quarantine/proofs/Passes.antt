@@ -1,18 +1,12 @@
 -- The array and the ring let go what looking back finds.
-use Rattle.std.proofs.Common.{◌≡◌, ◌≢◌, ℕ, zero, suc, ◌<◌, ◌≤◌, ◌==◌, true, false, cond, List, [], ◌∷◌, ◌++◌, length, take, reverse, get_or, set, slice_get, Option, Some, None, sym, ◌∙◌, ap, subst, refl, arith, length-set, get_or-set_same, get_or-set_other}
+use Rattle.std.proofs.Common.{◌≡◌, ℕ, zero, suc, ◌<◌, ◌≤◌, ◌==◌, true, false, cond, List, [], ◌∷◌, ◌++◌, length, take, reverse, get_or, set, slice_get, Option, Some, None, sym, ◌∙◌, ap, subst, refl, arith, length-set, get_or-set_same, get_or-set_other}
 use Rattle.std.specs.Prelude.{is_some}
 use Rattle.std.specs.List.{cons_option}
 use Rattle.std.proofs.lemmas.List.{length-replicate, get_or-replicate, reverse-append, length-reverse}
-use Rattle.std.proofs.lemmas.Bool.Decides.{nat_tests}
+use Rattle.std.proofs.lemmas.Bool.{eqb-true, eqb-false}
 use Rattle.hm_quarantine.specs.Quarantine.{IsArrayPlace, goes_on, ring_with, goes_out}
 use Rattle.hm_quarantine.specs.LookingBack.{Free, latest_at, leaves_array, all_left, ArePlaces, kept_after, LooksBack}
 use Rattle.hm_quarantine.proofs.Rings.{HasRoom, has_room, IsFull, is_full}
-
-same_number : (a b : ℕ) → (a == b) ≡ true → a ≡ b
-same_number a b e = grind (arith, nat_tests)
-
-other_number : (a b : ℕ) → (a == b) ≡ false → b ≢ a
-other_number a b e = grind (arith, nat_tests)
 
 -- the array keeps its length
 pub length_array : (n size : ℕ) (past : List Free) → length (kept_after n size past).array ≡ n
@@ -23,8 +17,8 @@ length_array n size (free ∷ past) = length-set (kept_after n size past).array 
 stored : (array : List (Option ℕ)) (q p x : ℕ) (o : Option ℕ) → p < length array → get_or array p None ≡ o → get_or (set array q (Some x)) p None ≡ cond (q == p) (Some x) o
 stored array q p x o lt is =
     elim (q == p) as (λ b. (q == p) ≡ b → get_or (set array q (Some x)) p None ≡ cond b (Some x) o) [
-      | true ↦ λ e. subst (λ (i : ℕ). get_or (set array i (Some x)) p None ≡ Some x) (sym (same_number q p e)) (get_or-set_same array p (Some x) None lt)
-      | false ↦ λ e. get_or-set_other array q p (Some x) None (other_number q p e) ∙ is
+      | true ↦ λ e. subst (λ (i : ℕ). get_or (set array i (Some x)) p None ≡ Some x) (sym (eqb-true q p e)) (get_or-set_same array p (Some x) None lt)
+      | false ↦ λ e. get_or-set_other array q p (Some x) None (λ same. eqb-false q p e (sym same)) ∙ is
     ] refl
 
 -- at a place stands the latest free there

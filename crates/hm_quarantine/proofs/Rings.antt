@@ -1,20 +1,8 @@
 -- What a ring does with a slot that enters it.
 use Rattle.std.proofs.Common.{◌≡◌, ℕ, ◌+◌, ◌-◌, ◌<◌, ◌≤◌, nat_lt, true, false, cond, List, [], ◌∷◌, ◌++◌, length, drop, slice_get, Option, Some, None, ◌∙◌, ap, refl, arith, length-append}
-use Rattle.std.proofs.lemmas.Bool.Decides.{nat_tests}
+use Rattle.std.proofs.lemmas.Bool.{ltb-true, ltb-false, lt-ltb, le-ltb}
 use Rattle.circular_buffer.specs.Buffer.{keep_last}
 use Rattle.hm_quarantine.specs.Quarantine.{ring_with, goes_out}
-
-is_less : (a b : ℕ) → nat_lt a b ≡ true → a < b
-is_less a b e = grind (arith, nat_tests)
-
-at_least : (a b : ℕ) → nat_lt a b ≡ false → b ≤ a
-at_least a b e = grind (arith, nat_tests)
-
-below : (a b : ℕ) → a < b → nat_lt a b ≡ true
-below a b lt = grind (arith, nat_tests)
-
-not_below : (a b : ℕ) → b ≤ a → nat_lt a b ≡ false
-not_below a b le = grind (arith, nat_tests)
 
 keep_all : (n : ℕ) (xs : List ℕ) → length xs ≤ n → keep_last n xs ≡ xs
 keep_all n xs le = ap (λ (k : ℕ). drop k xs) (none (length xs) le)
@@ -36,7 +24,7 @@ pub record HasRoom (size x : ℕ) (ring : List ℕ) : Type 0 where
 pub has_room : (size x : ℕ) (ring : List ℕ) → length ring < size → HasRoom size x ring
 has_room size x ring lt = record {
   ring_is = keep_all size (ring ++ x ∷ []) (omega (arith, length-append ring (x ∷ [])));
-  out_is = ap (λ b. cond {A = Option ℕ} b None (slice_get (ring ++ x ∷ []) 0)) (below (length ring) size lt);
+  out_is = ap (λ b. cond {A = Option ℕ} b None (slice_get (ring ++ x ∷ []) 0)) (lt-ltb (length ring) size lt);
 }
 
 -- a full ring gives out y, and keeps the rest
@@ -48,7 +36,7 @@ pub is_full : (size x y : ℕ) (ring rest : List ℕ) → ring ++ x ∷ [] ≡ y
 is_full size x y ring rest grown is = record {
   ring_is = ap (λ (xs : List ℕ). keep_last size xs) grown ∙ keep_rest size y rest is;
   out_is =
-      ap (λ b. cond {A = Option ℕ} b None (slice_get (ring ++ x ∷ []) 0)) (not_below (length ring) size (omega (arith, is, length-append ring (x ∷ []), ap (λ (xs : List ℕ). length xs) grown)))
+      ap (λ b. cond {A = Option ℕ} b None (slice_get (ring ++ x ∷ []) 0)) (le-ltb (length ring) size (omega (arith, is, length-append ring (x ∷ []), ap (λ (xs : List ℕ). length xs) grown)))
       ∙ ap (λ (xs : List ℕ). slice_get xs 0) grown;
 }
 
@@ -67,6 +55,6 @@ full size x (y ∷ ring) is = Full y (ring ++ x ∷ []) refl long (is_full size 
 pub takes : (size x : ℕ) (ring : List ℕ) → length ring ≤ size → Takes size x ring
 takes size x ring le =
     elim (nat_lt (length ring) size) as (λ b. nat_lt (length ring) size ≡ b → Takes size x ring) [
-      | true ↦ λ e. let lt : length ring < size = is_less (length ring) size e in Room lt (has_room size x ring lt)
-      | false ↦ λ e. full size x ring (omega (arith, le, at_least (length ring) size e))
+      | true ↦ λ e. let lt : length ring < size = ltb-true (length ring) size e in Room lt (has_room size x ring lt)
+      | false ↦ λ e. full size x ring (omega (arith, le, ltb-false (length ring) size e))
     ] refl

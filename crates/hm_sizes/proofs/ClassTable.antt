@@ -2,8 +2,7 @@
 use Rattle.std.proofs.Common.{◌≡◌, ℕ, zero, suc, ◌+◌, ◌-◌, ◌*◌, ◌%◌, ◌<◌, ◌≤◌, ◌==◌, nat_lt, nat_le, Bool, true, get_or, subst, refl, arith}
 use Rattle.std.specs.List.{list_all, range_with_len}
 use lib.Count.{count_leading_zeros}
-use Rattle.std.proofs.lemmas.Bool.{and_parts}
-use Rattle.std.proofs.lemmas.Bool.Decides.{nat_tests}
+use Rattle.std.proofs.lemmas.Bool.{and_parts, eqb-true, leb-true, ltb-true}
 use Rattle.hm_sizes.specs.declared.table.SizeClass.{SizeClass}
 use Rattle.hm_sizes.specs.declared.table.TheConstants.{SIZE_CLASSES}
 use Rattle.hm_sizes.specs.Classes.{slot_size, slot_count, slab_size, class_size, quarantine_length}
@@ -27,15 +26,6 @@ passes_below n test all class lt =
 passes : (test : ℕ → Bool) → list_all test (range_with_len 0 49) ≡ true → (class : ℕ) → class < 49 → test class ≡ true
 passes test all class lt = passes_below 49 test all class lt
 
-same : (a b : ℕ) → (a == b) ≡ true → a ≡ b
-same a b e = grind (arith, nat_tests)
-
-at_most : (a b : ℕ) → nat_le a b ≡ true → a ≤ b
-at_most a b e = grind (arith, nat_tests)
-
-below : (a b : ℕ) → nat_lt a b ≡ true → a < b
-below a b e = grind (arith, nat_tests)
-
 abbrev pub unlisted : SizeClass
 unlisted = record { slot = 0; slots = 0; slab = 0; length = 0; greatest = 0 }
 
@@ -54,11 +44,11 @@ pub record IsRow (class : ℕ) : Type 0 where
 pub is_row : (class : ℕ) → class < 49 → IsRow class
 unfolding count_leading_zeros
 is_row class lt = record {
-  slot = same _ _ (passes (λ k. (row k).slot == slot_size k) refl class lt);
-  slots = same _ _ (passes (λ k. (row k).slots == slot_count k) refl class lt);
-  slab = same _ _ (passes (λ k. (row k).slab == slab_size k) refl class lt);
-  length = same _ _ (passes (λ k. (row k).length == quarantine_length k) refl class lt);
-  greatest = same _ _ (passes (λ k. (row k).greatest == class_size k - 8) refl class lt);
+  slot = eqb-true _ _ (passes (λ k. (row k).slot == slot_size k) refl class lt);
+  slots = eqb-true _ _ (passes (λ k. (row k).slots == slot_count k) refl class lt);
+  slab = eqb-true _ _ (passes (λ k. (row k).slab == slab_size k) refl class lt);
+  length = eqb-true _ _ (passes (λ k. (row k).length == quarantine_length k) refl class lt);
+  greatest = eqb-true _ _ (passes (λ k. (row k).greatest == class_size k - 8) refl class lt);
 }
 
 -- the bounds of a class's numbers
@@ -77,21 +67,21 @@ pub record IsBounded (class : ℕ) : Type 0 where
 pub is_bounded : (class : ℕ) → class < 49 → IsBounded class
 unfolding count_leading_zeros
 is_bounded class lt = record {
-  slot_least = at_most _ _ (passes (λ k. nat_le 16 (slot_size k)) refl class lt);
-  slot_most = at_most _ _ (passes (λ k. nat_le (slot_size k) 131072) refl class lt);
-  slot_whole = same _ _ (passes (λ k. slot_size k % 16 == 0) refl class lt);
-  slots_some = at_most _ _ (passes (λ k. nat_le 1 (slot_count k)) refl class lt);
-  slots_most = at_most _ _ (passes (λ k. nat_le (slot_count k) 256) refl class lt);
-  slots_fit = at_most _ _ (passes (λ k. nat_le (slot_count k * slot_size k) (slab_size k)) refl class lt);
-  slab_least = at_most _ _ (passes (λ k. nat_le 4096 (slab_size k)) refl class lt);
-  slab_most = at_most _ _ (passes (λ k. nat_le (slab_size k) 131072) refl class lt);
-  slab_pages = same _ _ (passes (λ k. slab_size k % 4096 == 0) refl class lt);
-  length_most = at_most _ _ (passes (λ k. nat_le (quarantine_length k) 8192) refl class lt);
+  slot_least = leb-true _ _ (passes (λ k. nat_le 16 (slot_size k)) refl class lt);
+  slot_most = leb-true _ _ (passes (λ k. nat_le (slot_size k) 131072) refl class lt);
+  slot_whole = eqb-true _ _ (passes (λ k. slot_size k % 16 == 0) refl class lt);
+  slots_some = leb-true _ _ (passes (λ k. nat_le 1 (slot_count k)) refl class lt);
+  slots_most = leb-true _ _ (passes (λ k. nat_le (slot_count k) 256) refl class lt);
+  slots_fit = leb-true _ _ (passes (λ k. nat_le (slot_count k * slot_size k) (slab_size k)) refl class lt);
+  slab_least = leb-true _ _ (passes (λ k. nat_le 4096 (slab_size k)) refl class lt);
+  slab_most = leb-true _ _ (passes (λ k. nat_le (slab_size k) 131072) refl class lt);
+  slab_pages = eqb-true _ _ (passes (λ k. slab_size k % 4096 == 0) refl class lt);
+  length_most = leb-true _ _ (passes (λ k. nat_le (quarantine_length k) 8192) refl class lt);
 }
 
 -- the sizes ascend
 next_rises : (class : ℕ) → class < 48 → class_size class < class_size (class + 1)
-next_rises class lt = below _ _ (passes_below 48 (λ k. nat_lt (class_size k) (class_size (k + 1))) refl class lt)
+next_rises class lt = ltb-true _ _ (passes_below 48 (λ k. nat_lt (class_size k) (class_size (k + 1))) refl class lt)
 
 rises : (class n : ℕ) → class + n + 1 < 49 → class_size class < class_size (class + n + 1)
 rises class zero lt =
@@ -109,4 +99,4 @@ ascends smaller greater less lt =
     subst (λ (k : ℕ). class_size smaller < class_size k) e (rises smaller (greater - smaller - 1) (omega arith))
 
 pub sizes_most : (class : ℕ) → class < 49 → class_size class ≤ 131072
-sizes_most class lt = at_most _ _ (passes (λ k. nat_le (class_size k) 131072) refl class lt)
+sizes_most class lt = leb-true _ _ (passes (λ k. nat_le (class_size k) 131072) refl class lt)

@@ -1,16 +1,10 @@
 -- The next number that is no guard.
-use Rattle.std.proofs.Common.{◌≡◌, ℕ, ◌+◌, ◌*◌, ◌/◌, ◌%◌, ◌≤◌, ◌==◌, Bool, true, false, cond, ◌∙◌, ap, subst, refl, arith}
-use Rattle.std.proofs.lemmas.Bool.Decides.{nat_tests}
+use Rattle.std.proofs.Common.{◌≡◌, ℕ, ◌+◌, ◌*◌, ◌/◌, ◌%◌, ◌≤◌, Bool, true, false, cond, ◌∙◌, ap, subst, refl, arith}
+use Rattle.std.proofs.lemmas.Bool.{eqb-true, eqb-false}
 use Rattle.std.proofs.lemmas.Nat.{div-add-mod', mod-mul-add}
 use Rattle.hm_sizes.specs.declared.shape.Shape.{Shape}
 use Rattle.hm_sizes.specs.Shapes.{is_guard, after, IsGuard}
 use Rattle.hm_sizes.specs.Laws.{IsNextAfter}
-
-same : (a b : ℕ) → (a == b) ≡ true → a ≡ b
-same a b e = grind (arith, nat_tests)
-
-other : (a b : ℕ) → (a == b) ≡ false → a ≡ b → ⊥
-other a b e = grind (arith, nat_tests)
 
 -- no two guards stand side by side
 turns : (n g : ℕ) → n % (g + 1) ≡ g → (n + 1) % (g + 1) ≡ 0
@@ -24,7 +18,7 @@ pub next_after : (p : Shape) (n : ℕ) → 1 ≤ p.guard_interval → IsNextAfte
 next_after p n some =
     elim (is_guard p (n + 1)) as (λ (b : Bool). is_guard p (n + 1) ≡ b → IsNextAfter p n (cond b (n + 2) (n + 1))) [
       | true ↦ λ e.
-          let here : IsGuard p (n + 1) = same _ _ e in
+          let here : IsGuard p (n + 1) = eqb-true _ _ e in
           let e2 : n + 1 + 1 ≡ n + 2 = omega arith in
           let turned : (n + 2) % (p.guard_interval + 1) ≡ 0 =
           subst (λ (k : ℕ). k % (p.guard_interval + 1) ≡ 0) e2 (turns (n + 1) p.guard_interval here) in
@@ -35,7 +29,7 @@ next_after p n some =
           }
       | false ↦ λ e. record {
         above = omega arith;
-        no_guard = other _ _ e;
+        no_guard = eqb-false _ _ e;
         least = λ k above below. absurd (omega arith);
       }
     ] refl

@@ -1,8 +1,7 @@
 -- The slab and the slot of a place are the quotients of its offset.
 use Rattle.std.proofs.Common.{◌≡◌, ℕ, ◌+◌, ◌-◌, ◌*◌, ◌/◌, ◌%◌, ◌<◌, ◌≤◌, ◌==◌, nat_lt, true, not, ◌&&◌, sym, ◌∙◌, ap, arith}
 use Rattle.std.proofs.lemmas.Nat.{rows, div-mul-add, mod-mul-add}
-use Rattle.std.proofs.lemmas.Bool.{and_parts, and_from}
-use Rattle.std.proofs.lemmas.Bool.Decides.{nat_tests}
+use Rattle.std.proofs.lemmas.Bool.{and_parts, and_from, ltb-true, lt-ltb, eqb-true, eqb-false, eq-eqb, ne_eqb, not-true, not_from_false}
 use Rattle.hm_sizes.specs.declared.shape.Shape.{Shape}
 use Rattle.hm_sizes.specs.Shapes.{place, slab_of, slot_of, is_slot, is_guard, IsPlace, IsPlaceOf, IsShape}
 
@@ -40,35 +39,20 @@ pub shape_places : (p : Shape) → IsShape p → HasPlaces p
 shape_places p shape = record { slot_some = omega (arith, shape.slot_least); slots_fit = shape.slots_fit }
 
 -- ---- the test
-below : (a b : ℕ) → nat_lt a b ≡ true → a < b
-below a b e = grind (arith, nat_tests)
-
-same : (a b : ℕ) → (a == b) ≡ true → a ≡ b
-same a b e = grind (arith, nat_tests)
-
 other : (a b : ℕ) → not (a == b) ≡ true → a ≡ b → ⊥
-other a b e = grind (arith, nat_tests)
-
-is_below : (a b : ℕ) → a < b → nat_lt a b ≡ true
-is_below a b lt = grind (arith, nat_tests)
-
-is_same : (a b : ℕ) → a ≡ b → (a == b) ≡ true
-is_same a b e = grind (arith, nat_tests)
-
-is_other : (a b : ℕ) → (a ≡ b → ⊥) → not (a == b) ≡ true
-is_other a b e = grind (arith, nat_tests)
+other a b e = eqb-false a b (not-true (a == b) e)
 
 pub place_is : (p : Shape) (a n i : ℕ) → is_slot p a n i ≡ true → IsPlaceOf p a n i
 place_is p a n i e =
     let x = and_parts (nat_lt n p.limit) (not (is_guard p n) && (nat_lt i p.slots && (place p n i == a))) e in
     let y = and_parts (not (is_guard p n)) (nat_lt i p.slots && (place p n i == a)) x.1 in
     let z = and_parts (nat_lt i p.slots) (place p n i == a) y.1 in
-    record { below = below n p.limit x.0; no_guard = other _ _ y.0; slot = below i p.slots z.0; is = sym (same (place p n i) a z.1) }
+    record { below = ltb-true n p.limit x.0; no_guard = other _ _ y.0; slot = ltb-true i p.slots z.0; is = sym (eqb-true (place p n i) a z.1) }
 
 passes_test : (p : Shape) (a n i : ℕ) → IsPlaceOf p a n i → is_slot p a n i ≡ true
 passes_test p a n i h =
-    and_from _ _ (is_below n p.limit h.below)
-    (and_from _ _ (is_other _ _ h.no_guard) (and_from _ _ (is_below i p.slots h.slot) (is_same (place p n i) a (sym h.is))))
+    and_from _ _ (lt-ltb n p.limit h.below)
+    (and_from _ _ (not_from_false _ (ne_eqb _ _ h.no_guard)) (and_from _ _ (lt-ltb i p.slots h.slot) (eq-eqb (place p n i) a (sym h.is))))
 
 pub place_tested : (p : Shape) (a n i : ℕ) → HasPlaces p → IsPlaceOf p a n i → IsPlace p a
 place_tested p a n i has h =

@@ -1,9 +1,9 @@
 -- Where a request goes, by the place of its size among the classes.
-use Rattle.std.proofs.Common.{◌≡◌, ◌⊎◌, inl, inr, ⊎_elim, ℕ, zero, suc, ◌+◌, ◌-◌, ◌<◌, ◌≤◌, ◌^◌, nat_lt, nat_le, Bool, true, false, cond, map, sym, ap, ◌∙◌, subst, refl, arith}
+use Rattle.std.proofs.Common.{◌≡◌, ◌⊎◌, inl, inr, ⊎_elim, ℕ, zero, suc, ◌+◌, ◌-◌, ◌<◌, ◌≤◌, ◌^◌, nat_lt, true, false, map, sym, ap, ◌∙◌, subst, refl, arith}
 use Rattle.std.specs.List.{range_with_len}
 use Rattle.std.specs.List.Sorted.{IsPartitionedBy, IsPartitionPoint}
 use Rattle.std.proofs.lemmas.Bool.Decides.{nat_tests}
-use Rattle.std.proofs.lemmas.Bool.{cases_lt}
+use Rattle.std.proofs.lemmas.Bool.{cases_lt, ltb-true, ltb-false, lt-ltb, le-ltb, le-leb, lt-leb, cond-true, cond-false}
 use Rattle.std.proofs.lemmas.List.Sorted.{IsNonDecreasingBy-from_default, IsPartitionedBy-ltb}
 use Rattle.hm_sizes.specs.declared.table.SizeClass.{SizeClass}
 use Rattle.hm_sizes.specs.declared.table.TheConstants.{SIZE_CLASSES}
@@ -58,52 +58,26 @@ abbrev pub IsFound : ℕ → ℕ → Type 0
 IsFound asked class =
     IsPartitionPoint (λ (r : SizeClass). nat_lt r.greatest asked ≡ true) (λ (r : SizeClass). nat_lt r.greatest asked ≡ false) SIZE_CLASSES class
 
-is_below : (a b : ℕ) → nat_lt a b ≡ true → a < b
-is_below a b e = grind (arith, nat_tests)
-
-is_least : (a b : ℕ) → nat_lt a b ≡ false → b ≤ a
-is_least a b e = grind (arith, nat_tests)
-
 pub small_kind : (asked class : ℕ) → class < 49 → IsFound asked class → (raised asked ≤ 131072) × IsLeastClass (raised asked) class
 small_kind asked class lt found =
     let most : class_size class ≤ 131072 = sizes_most class lt in
-    let held : asked ≤ (row class).greatest = is_least _ _ (found.1 class unlisted (omega arith) lt) in
+    let held : asked ≤ (row class).greatest = ltb-false _ _ (found.1 class unlisted (omega arith) lt) in
     let fits : asked ≤ class_size class - 8 = omega (arith, (is_row class lt).greatest) in (
       omega (arith, holds asked (class_size class) fits most),
       record {
         below = lt;
         holds = holds asked (class_size class) fits most;
         least = λ smaller less.
-            let short : (row smaller).greatest < asked = is_below _ _ (found.0 smaller unlisted (omega arith) less) in
+            let short : (row smaller).greatest < asked = ltb-true _ _ (found.0 smaller unlisted (omega arith) less) in
             falls_short asked (class_size smaller) (omega (arith, (is_row smaller (omega arith)).greatest)) (omega arith);
       },
     )
 
 pub large_kind : (asked class : ℕ) → 49 ≤ class → IsFound asked class → 131072 < raised asked
 large_kind asked class ge found =
-    raised_above asked (is_below 131064 asked (found.0 48 unlisted (omega arith) (omega arith)))
+    raised_above asked (ltb-true 131064 asked (found.0 48 unlisted (omega arith) (omega arith)))
 
 -- ---- the size of a request's block
-by_first : (s : Bool) (x y : ℕ) → s ≡ true → cond s x y ≡ x
-by_first true x y e = refl
-by_first false x y e = cc
-
-by_second : (s : Bool) (x y : ℕ) → s ≡ false → cond s x y ≡ y
-by_second false x y e = refl
-by_second true x y e = cc
-
-above : (a b : ℕ) → a < b → nat_lt a b ≡ true
-above a b lt = grind (arith, nat_tests)
-
-not_above : (a b : ℕ) → b ≤ a → nat_lt a b ≡ false
-not_above a b le = grind (arith, nat_tests)
-
-at_most : (a b : ℕ) → a ≤ b → nat_le a b ≡ true
-at_most a b le = grind (arith, nat_tests)
-
-not_at_most : (a b : ℕ) → b < a → nat_le a b ≡ false
-not_at_most a b lt = grind (arith, nat_tests)
-
 -- the first size that holds r is that of the least class that does
 least_found : (r a n i : ℕ) → i < n → r ≤ class_size (a + i) → ((k : ℕ) → k < i → class_size (a + k) < r)
     → least_size r (map class_size (range_with_len a n)) ≡ class_size (a + i)
@@ -111,12 +85,12 @@ least_found r a zero i lt held short = absurd (omega arith)
 least_found r a (suc n) zero lt held short =
     let e : a + 0 ≡ a = omega arith in
     let here : r ≤ class_size a = subst (λ (k : ℕ). r ≤ class_size k) e held in
-    by_first _ _ _ (at_most r (class_size a) here) ∙ ap class_size (sym e)
+    cond-true _ _ _ (le-leb r (class_size a) here) ∙ ap class_size (sym e)
 least_found r a (suc n) (suc i) lt held short =
     let e : a + 1 + i ≡ a + suc i = omega arith in
     let e0 : a + 0 ≡ a = omega arith in
     let first : class_size a < r = subst (λ (k : ℕ). class_size k < r) e0 (short 0 (omega arith)) in
-    by_second _ _ _ (not_at_most r (class_size a) first)
+    cond-false _ _ _ (lt-leb r (class_size a) first)
     ∙ least_found r (a + 1) n i (omega arith) (subst (λ (k : ℕ). r ≤ class_size k) (sym e) held)
     (λ k less. let next : a + suc k ≡ a + 1 + k = omega arith in subst (λ (m : ℕ). class_size m < r) next (short (suc k) (omega arith)))
     ∙ ap class_size e
@@ -128,11 +102,11 @@ pub agrees : (asked : ℕ) (kind : Kind) → IsKindOf asked kind → block_size 
 agrees asked (Small class) h =
     let least : IsLeastClass (raised asked) class.0 = h.1 in
     let e : 0 + class.0 ≡ class.0 = omega arith in
-    by_second _ _ _ (not_above (2 ^ 30) asked (omega (arith, raised_least asked)))
-    ∙ by_first _ _ _ (at_most (raised asked) 131072 h.0)
+    cond-false _ _ _ (le-ltb (2 ^ 30) asked (omega (arith, raised_least asked)))
+    ∙ cond-true _ _ _ (le-leb (raised asked) 131072 h.0)
     ∙ least_found (raised asked) 0 49 class.0 least.below (subst (λ (k : ℕ). raised asked ≤ class_size k) (sym e) least.holds)
     (λ k less. let ek : k ≡ 0 + k = omega arith in subst (λ (m : ℕ). class_size m < raised asked) ek (least.least k less))
     ∙ ap class_size e
 agrees asked (Large size) h =
-    by_second _ _ _ (not_above (2 ^ 30) asked h.1) ∙ by_second _ _ _ (not_at_most (raised asked) 131072 h.0) ∙ sym h.2
-agrees asked TooLarge h = by_first _ _ _ (above (2 ^ 30) asked h)
+    cond-false _ _ _ (le-ltb (2 ^ 30) asked h.1) ∙ cond-false _ _ _ (lt-leb (raised asked) 131072 h.0) ∙ sym h.2
+agrees asked TooLarge h = cond-true _ _ _ (lt-ltb (2 ^ 30) asked h)

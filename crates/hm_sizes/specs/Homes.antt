@@ -5,7 +5,9 @@ use Rattle.hm_sizes.specs.declared.config.Config.{Config}
 use Rattle.hm_sizes.specs.declared.home.Home.{Home}
 use Rattle.hm_sizes.specs.declared.home.Home.TheVariants.{Class, Large, Outside}
 use Rattle.hm_sizes.specs.Classes.{class_count}
+use Rattle.hm_sizes.specs.Origins.{class_region_number}
 use Rattle.hm_sizes.specs.Shapes.{reserved_start}
+pub use Rattle.hm_sizes.specs.Shapes.{large_start}
 
 -- the number of class regions
 abbrev pub region_count : Config → ℕ
@@ -16,10 +18,6 @@ pub record IsInRegion (c : Config) (region a : ℕ) : Type 0 where
   pub below : region < region_count c
   pub from_start : reserved_start c region ≤ a
   pub to_end : a < reserved_start c region + 2 * c.class_region
-
--- where the large space begins
-abbrev pub large_start : ℕ
-large_start = 2 ^ 46
 
 -- the address lies in the large space
 pub record IsInLargeSpace (c : Config) (a : ℕ) : Type 0 where
@@ -33,7 +31,7 @@ pub record IsOutside (c : Config) (a : ℕ) : Type 0 where
 
 -- the number of the region of this class in this arena
 abbrev pub region_of : ℕ → ℕ → RegionId
-region_of arena class = record { 0 = arena * class_count + class }
+region_of arena class = record { 0 = class_region_number arena (record { 0 = class }) }
 
 -- the ranges of the class regions follow one another
 abbrev pub home_of : Config → ℕ → Home

@@ -12,7 +12,7 @@ use Rattle.hm_sizes.specs.Sizes.{block_size, large_size, IsKindOf}
 use Rattle.hm_sizes.specs.Aligned.{IsAlignment, IsAlignedKindOf}
 use Rattle.hm_sizes.specs.Configs.{IsValid}
 use Rattle.hm_sizes.specs.Shapes.{region_start, shape_of, slab_at, slab_of, slot_of, after, IsShape, IsGuard, IsPlace, IsPlaceOf}
-use Rattle.hm_sizes.specs.Homes.{region_of, home_of, IsInRegion, IsInLargeSpace}
+use Rattle.hm_sizes.specs.Homes.{large_start, region_of, home_of, IsInRegion, IsInLargeSpace}
 
 -- ---- sizes
 -- a later class has greater blocks
@@ -87,7 +87,7 @@ RegionsApart = (c : Config) (arena class other_arena other_class : ℕ) → clas
 -- all of them end below the large space
 abbrev pub RegionsBelow : Type 0
 RegionsBelow = (c : Config) (arena class : ℕ) → IsValid c → arena < c.arenas → class < class_count
-    → region_end c arena class ≤ 2 ^ 46
+    → region_end c arena class ≤ large_start
 
 -- ---- homes
 -- the range that a class region reserves is that of its number

@@ -3,7 +3,11 @@ use Rattle.std.specs.Prelude.{◌≡◌, ℕ, ◌+◌, ◌-◌, ◌*◌, ◌/◌
 use Rattle.hm_sizes.specs.declared.config.Config.{Config}
 use Rattle.hm_sizes.specs.declared.class.ClassId.{ClassId}
 use Rattle.hm_sizes.specs.declared.shape.Shape.{Shape}
-use Rattle.hm_sizes.specs.Classes.{slot_size, slot_count, slab_size, quarantine_length}
+use Rattle.hm_sizes.specs.Classes.{class_count, slot_size, slot_count, slab_size, quarantine_length}
+
+-- where the large space begins, past the spaces of all class regions
+abbrev pub large_start : ℕ
+large_start = 2 ^ 46
 
 -- where the space of the class region of this number begins
 abbrev pub reserved_start : Config → ℕ → ℕ
@@ -11,7 +15,7 @@ reserved_start c region = 2 ^ 40 + region * (2 * c.class_region)
 
 -- where the space of the region of this class in this arena begins
 abbrev pub region_start : Config → ℕ → ℕ → ℕ
-region_start c arena class = reserved_start c (arena * 49 + class)
+region_start c arena class = reserved_start c (arena * class_count + class)
 
 -- the numbers of a class region
 abbrev pub shape_of : Config → ℕ → ClassId → ℕ → Shape
@@ -29,7 +33,7 @@ shape_of c arena class gap = record {
 
 -- the numbers of a class region fit together
 pub record IsShape (p : Shape) : Type 0 where
-  pub class_below : p.class.0 < 49
+  pub class_below : p.class.0 < class_count
   pub slots_some : 1 ≤ p.slots
   pub slots_most : p.slots ≤ 256
   pub slot_least : 16 ≤ p.slot
@@ -38,7 +42,7 @@ pub record IsShape (p : Shape) : Type 0 where
   pub slab_most : p.slab ≤ 131072
   pub first_pages : p.first % 4096 ≡ 0
   pub first_least : 2 ^ 40 ≤ p.first
-  pub space : p.first + p.limit * p.slab ≤ 2 ^ 46
+  pub space : p.first + p.limit * p.slab ≤ large_start
   pub limit_most : p.limit ≤ 2 ^ 23
   pub guards_some : 1 ≤ p.guard_interval
   pub guards_most : p.guard_interval ≤ 8

@@ -5,7 +5,7 @@ ghost use Rattle.hm_sizes.specs.Aligned.{IsAlignment, ServesAligned, IsLeastAlig
 use crate::class::GREATEST;
 use crate::large::large_size;
 use crate::table::SIZE_CLASSES;
-use crate::{ClassId, Kind, class_of, raised};
+use crate::{ClassId, Kind, PAGE, class_of, raised};
 
 /// The greatest alignment.
 const MOST_ALIGNMENT: u64 = 1 << 21;
@@ -14,7 +14,7 @@ const MOST_ALIGNMENT: u64 = 1 << 21;
 const EACH_SLOT: u64 = 16;
 
 /// Up to it classes serve: slabs stand at multiples of it.
-const EACH_SLAB: u64 = 4096;
+const EACH_SLAB: u64 = PAGE;
 
 /// Where a request goes whose block is to begin at a multiple of `align`: nowhere where that is no power
 /// of two up to 2^21.

@@ -2,6 +2,8 @@
 ghost use Rattle.std.specs.Prelude.{◌≡◌, ◌^◌, ◌≤◌};
 ghost use Rattle.hm_sizes.specs.Sizes.{large_size, spacing};
 
+use crate::PAGE;
+
 /// Where all large sizes stand a page apart.
 const PAGES_APART: u64 = 32768;
 
@@ -22,7 +24,7 @@ fn spacing(raised: u64) -> u64
     ensures most { result ≤ 2 ^ 31 }
 {
     if raised <= PAGES_APART {
-        4096
+        PAGE
     } else {
         let digits = u64::BITS - (raised - 1).leading_zeros();
         1 << (digits - 3)

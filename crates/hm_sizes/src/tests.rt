@@ -223,7 +223,7 @@ fn valid_configs(rt: HostRuntime) {
 }
 
 #[test]
-fn invalid_configs(rt: HostRuntime) {
+fn invalid_spaces(rt: HostRuntime) {
     let standard = Config::standard();
     for config in [
         Config {
@@ -258,6 +258,15 @@ fn invalid_configs(rt: HostRuntime) {
             large_space: (1 << 40) + 4096,
             ..standard
         },
+    ] {
+        assert!(rt; !config.is_valid(), "{config:?}");
+    }
+}
+
+#[test]
+fn invalid_settings(rt: HostRuntime) {
+    let standard = Config::standard();
+    for config in [
         Config {
             guard_interval: 0,
             ..standard

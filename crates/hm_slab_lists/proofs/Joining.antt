@@ -13,7 +13,7 @@ use Rattle.hm_slab_lists.specs.Links.{Links, front, follows, precedes, edited, l
 use Rattle.hm_slab_lists.specs.Lists.{Lists, among, list_in, headed, ended}
 use Rattle.hm_slab_lists.proofs.Places.{get-set_same, get-set_other, get-append_left, get-append_last, cases_name, ends_same, ends_other, list_same, list_other}
 use Rattle.hm_slab_lists.proofs.Members.{among_head, among_tail, among_not, among-last, among-last_itself, distinct-last}
-use Rattle.hm_slab_lists.proofs.Neighbours.{At, list_at, member, last_is}
+use Rattle.hm_slab_lists.proofs.Neighbours.{At, list_at, member, in_more, last_is}
 use Rattle.hm_slab_lists.proofs.Unlinking.{Slot, each, stands, get-edited, length-edited}
 
 frame : (ls ls' : Links) (k : ListName) (prev last : Option ℕ) (xs : List ℕ) → Linked ls k prev last xs
@@ -21,10 +21,6 @@ frame : (ls ls' : Links) (k : ListName) (prev last : Option ℕ) (xs : List ℕ)
 frame ls ls' k prev last [] linked same = linked
 frame ls ls' k prev last (x ∷ xs) linked same =
     (same x (among_head x x xs refl) ∙ linked.0, frame ls ls' k (Some x) last xs linked.1 (λ y is. same y (in_more y x xs is)))
-  where
-    in_more : (z x : ℕ) (xs : List ℕ) → among z xs ≡ true → among z (x ∷ xs) ≡ true
-    in_more z x xs is =
-        elim (cases_eq x z) as (λ _. among z (x ∷ xs) ≡ true) [ inl e ↦ among_head z x xs e | inr n ↦ among_tail z x xs n ∙ is ]
 
 -- a slab with no link is in no list
 loose_out : (ls : Links) (k : ListName) (prev last : Option ℕ) (xs : List ℕ) (x : ℕ) → Linked ls k prev last xs → slice_get ls x ≡ Some None → among x xs ≡ false

@@ -49,6 +49,10 @@ member ls k prev last (x ∷ xs) y linked is =
       | inr in_rest ↦ member ls k (Some x) last xs y linked.1 in_rest
     ]
 
+-- a member of the rest is one of the whole
+pub in_more : (z x : ℕ) (xs : List ℕ) → among z xs ≡ true → among z (x ∷ xs) ≡ true
+in_more z x xs is = elim (cases_eq x z) as (λ _. among z (x ∷ xs) ≡ true) [ inl e ↦ among_head z x xs e | inr n ↦ among_tail z x xs n ∙ is ]
+
 -- the last is a member, or what precedes the first
 pub last_is : (ls : Links) (k : ListName) (prev last : Option ℕ) (xs : List ℕ) → Linked ls k prev last xs
     → (last ≡ prev) ⊎ ((z : ℕ) × (last ≡ Some z) × (among z xs ≡ true))
@@ -58,10 +62,6 @@ last_is ls k prev last (x ∷ xs) linked =
       | inl e ↦ inr (x, e, among_head x x xs refl)
       | inr w ↦ inr (w.0, w.1, in_more w.0 x xs w.2)
     ]
-  where
-    in_more : (z x : ℕ) (xs : List ℕ) → among z xs ≡ true → among z (x ∷ xs) ≡ true
-    in_more z x xs is =
-        elim (cases_eq x z) as (λ _. among z (x ∷ xs) ≡ true) [ inl e ↦ among_head z x xs e | inr n ↦ among_tail z x xs n ∙ is ]
 
 next_previous_in : (ls : Links) (k : ListName) (prev last : Option ℕ) (xs : List ℕ) (y z : ℕ) (l m : Link) → Linked ls k prev last xs → among y xs ≡ true
     → At ls y l → At ls z m → l.next ≡ Some z → m.previous ≡ Some y

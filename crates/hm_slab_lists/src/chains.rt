@@ -72,10 +72,8 @@ impl Chains {
     pub(crate) fn meta(&self, at: usize) -> Option<&SlabMeta>
         ensures { option_copied result ≡ slice_get self.now.metas at }
     {
-        match self.slabs.get(at) {
-            Some(slab) => Some(&slab.meta),
-            None => None,
-        }
+        let slab = self.slabs.get(at)?;
+        Some(&slab.meta)
     }
 
     pub(crate) fn meta_mut(&mut self, at: usize) -> Option<&mut SlabMeta>

@@ -213,7 +213,8 @@ impl SlabLists {
         }
     }
 
-    /// Puts a slab of which a slot was given, or condemned, into the list that its slots name now.
+    /// Puts a slab of which a slot was given, or condemned, into the list that its slots name now, as
+    /// `after_release` does: either serves where the slots of a slab changed.
     pub fn after_take(&mut self, n: u64)
         requires { is_open n self.old ≡ true }
         ensures { self.new ≡ settled n self.old }
@@ -221,7 +222,8 @@ impl SlabLists {
         self.settle(n);
     }
 
-    /// Puts a slab of which a slot was released into the list that its slots name now.
+    /// Puts a slab of which a slot was released into the list that its slots name now, as `after_take` does:
+    /// either serves where the slots of a slab changed.
     pub fn after_release(&mut self, n: u64)
         requires { is_open n self.old ≡ true }
         ensures { self.new ≡ settled n self.old }
