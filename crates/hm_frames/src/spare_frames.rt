@@ -29,10 +29,12 @@ impl SpareFrames {
         }
     }
 
-    /// Keeps the run, or drops it: where enough are kept, where it is long, and where there is no memory.
+    /// Keeps the run, or drops it: where enough are kept, where it is long, and where no room was made. It takes no
+    /// memory.
     pub(crate) fn keep(&mut self, frame: Frame) {
-        if self.frames.len() < MOST_KEPT && frame.bytes().len() <= LONGEST_KEPT {
-            let _ = self.frames.push(frame);
+        let room = self.frames.capacity().min(MOST_KEPT);
+        if self.frames.len() < room && frame.bytes().len() <= LONGEST_KEPT {
+            self.frames.push_reserved(frame);
         }
     }
 
@@ -48,7 +50,7 @@ impl SpareFrames {
         None
     }
 
-    /// A run of zero bytes: a kept one of that length, or else a fresh one.
+    /// A run of zero bytes: a kept one of that length, or else a fresh one. Room is made for all runs that may be kept.
     pub(crate) fn zeroed(
         &mut self,
         alloc: Global,
@@ -60,6 +62,7 @@ impl SpareFrames {
         ensures first { IfOk result (λ r. r.first ≡ first) }
         ensures bytes { IfOk result (λ r. r.run ≡ zeros (4096 * pages)) }
     {
+        self.frames.reserve(MOST_KEPT - self.frames.len())?;
         match self.take(pages as usize * 4096) {
             Some(mut frame) => {
                 frame.move_to(first);
