@@ -1,12 +1,12 @@
 -- The lists of slabs stand in the order in which their slabs became what they are.
 use Rattle.std.proofs.Common.{◌≡◌, ◌≢◌, inl, inr, ℕ, suc, ◌<◌, ◌≤◌, ◌==◌, Bool, true, false, cond, not, ◌||◌, List, [], ◌∷◌, length, Option, Some, None, sym, ◌∙◌, ap, subst, refl, arith, true≢false}
 use Rattle.std.specs.Bool.{⊤}
-use Rattle.std.proofs.lemmas.Bool.{or_left, or_right}
-use Rattle.std.proofs.lemmas.Bool.Decides.{nat_tests}
+use Rattle.std.proofs.lemmas.Bool.{or_right}
 use Rattle.hm_model.specs.Maps.{among, without}
-use Rattle.hm_model.proofs.Lists.{eq_same, same_eq}
+use Rattle.hm_model.proofs.Lists.{eq_same, eq_other, same_eq}
 use Rattle.hm_class_rules.specs.Kinds.{Kind, Partial, Empty, Neither, same_kind, now, since, IsLast, IsNone, IsSource}
 use Rattle.hm_class_rules.specs.Stepped.{listed, front}
+use Rattle.hm_class_rules.proofs.Delay.{among_here}
 
 kind_same : (a : Kind) → same_kind a a ≡ true
 kind_same Partial = refl
@@ -24,9 +24,6 @@ kind_is Neither Partial e = absurd (true≢false (sym e))
 kind_is Neither Empty e = absurd (true≢false (sym e))
 kind_is Neither Neither e = refl
 
-pub other_number : (a b : ℕ) → (a == b) ≡ false → b ≢ a
-other_number a b e = grind (arith, nat_tests)
-
 -- each stands above all that follow it
 abbrev pub Falls : (ℕ → ℕ) → List ℕ → Type 0
 Falls f [] = ⊤
@@ -35,7 +32,7 @@ Falls f (n ∷ list) = ((m : ℕ) → among m list ≡ true → f m < f n) × Fa
 falls_alike : (f g : ℕ → ℕ) (list : List ℕ) → ((m : ℕ) → among m list ≡ true → f m ≡ g m) → Falls f list → Falls g list
 falls_alike f g [] same falls = tt
 falls_alike f g (n ∷ list) same falls = (
-  λ m h. omega (arith, same m (or_right (n == m) _ h), same n (or_left _ _ (same_eq n n refl)), falls.0 m h),
+  λ m h. omega (arith, same m (or_right (n == m) _ h), same n (among_here n list), falls.0 m h),
   falls_alike f g list (λ m h. same m (or_right (n == m) _ h)) falls.1,
 )
 
@@ -50,10 +47,10 @@ among_filter n m (x ∷ list) =
     gone : (b c : Bool) → (m == n) ≡ b → (x == m) ≡ c → (x == n) ≡ true → cond b false (among m list) ≡ cond b false (c || among m list)
     gone true c p q e = refl
     gone false false p q e = refl
-    gone false true p q e = absurd (other_number m n p (sym (eq_same x n e) ∙ eq_same x m q))
+    gone false true p q e = absurd (eq_other m n p (sym (eq_same x m q) ∙ eq_same x n e))
 
     stays : (b c : Bool) → (m == n) ≡ b → (x == m) ≡ c → (x == n) ≡ false → (c || cond b false (among m list)) ≡ cond b false (c || among m list)
-    stays true true p q e = absurd (other_number x n e (sym (eq_same x m q ∙ eq_same m n p)))
+    stays true true p q e = absurd (eq_other x n e (eq_same x m q ∙ eq_same m n p))
     stays true false p q e = refl
     stays false c p q e = refl
 
@@ -102,7 +99,7 @@ shows_after q kinds past n list others shows =
     all_same : same_kind (kinds n) (now past n) ≡ true → (m : ℕ) → kinds m ≡ now past m
     all_same e m = split (λ b. kinds m ≡ now past m) (m == n)
         (λ is. subst (λ (k : ℕ). kinds k ≡ now past k) (sym (eq_same m n is)) (kind_is (kinds n) (now past n) e))
-        (λ not_so. others m (λ p. other_number m n not_so (sym p)))
+        (λ not_so. others m (eq_other m n not_so))
 
     same : same_kind (kinds n) (now past n) ≡ true → Shows q (kinds ∷ past) list
     same e = record {
@@ -123,7 +120,7 @@ shows_after q kinds past n list others shows =
     to_front changes e = record {
       has = λ m. split (λ b. (b || among m list) ≡ same_kind (kinds m) q) (n == m)
           (λ is. sym (ap (λ (k : ℕ). same_kind (kinds k) q) (sym (eq_same n m is)) ∙ e))
-          (λ not_so. shows.has m ∙ ap (λ (k : Kind). same_kind k q) (sym (others m (other_number n m not_so))));
+          (λ not_so. shows.has m ∙ ap (λ (k : Kind). same_kind k q) (sym (others m (λ p. eq_other n m not_so (sym p)))));
       falls = (
         λ m h. omega (arith, kept_since kinds past m (others m (differs (was_other changes e) m h)), since_most past m, changed_since kinds past n changes),
         falls_alike (since past) (since (kinds ∷ past)) list (λ m h. sym (kept_since kinds past m (others m (differs (was_other changes e) m h)))) shows.falls,
@@ -137,7 +134,7 @@ shows_after q kinds past n list others shows =
     leaves changes away was = record {
       has = λ m. among_filter n m list ∙ split (λ b. cond b false (among m list) ≡ same_kind (kinds m) q) (m == n)
           (λ is. sym (ap (λ (k : ℕ). same_kind (kinds k) q) (eq_same m n is) ∙ away))
-          (λ not_so. shows.has m ∙ ap (λ (k : Kind). same_kind k q) (sym (others m (λ p. other_number m n not_so (sym p)))));
+          (λ not_so. shows.has m ∙ ap (λ (k : Kind). same_kind k q) (sym (others m (eq_other m n not_so))));
       falls = falls_alike (since past) (since (kinds ∷ past)) (without n list)
           (λ m h. sym (kept_since kinds past m (others m (not_in m h)))) (falls_filter (since past) n list shows.falls);
     }
@@ -146,7 +143,7 @@ shows_after q kinds past n list others shows =
     apart changes away was = record {
       has = λ m. split (λ b. among m list ≡ same_kind (kinds m) q) (m == n)
           (λ is. shows.has m ∙ ap (λ (k : ℕ). same_kind (now past k) q) (eq_same m n is) ∙ was ∙ sym (ap (λ (k : ℕ). same_kind (kinds k) q) (eq_same m n is) ∙ away))
-          (λ not_so. shows.has m ∙ ap (λ (k : Kind). same_kind k q) (sym (others m (λ p. other_number m n not_so (sym p)))));
+          (λ not_so. shows.has m ∙ ap (λ (k : Kind). same_kind k q) (sym (others m (eq_other m n not_so))));
       falls = falls_alike (since past) (since (kinds ∷ past)) list (λ m h. sym (kept_since kinds past m (others m (differs was m h)))) shows.falls;
     }
 
@@ -154,31 +151,28 @@ abbrev first : List ℕ → Option ℕ
 first [] = None
 first (n ∷ list) = Some n
 
+-- of two, where it is not the first
+rest : (b c : Bool) → (b || c) ≡ true → b ≡ false → c ≡ true
+rest true c e f = absurd (true≢false f)
+rest false c e f = e
+
 -- the front of a list that shows a kind
 front_is : (q : Kind) (past : List (ℕ → Kind)) (list : List ℕ) → Shows q past list → (n : ℕ) → first list ≡ Some n → IsLast q past n
 front_is q past [] shows n e = absurd (cc)
 front_is q past (a ∷ list) shows n e = subst (λ (k : ℕ). IsLast q past k) (cc) (record {
-  is = kind_is (now past a) q (sym (shows.has a) ∙ or_left _ _ (same_eq a a refl));
+  is = kind_is (now past a) q (sym (shows.has a) ∙ among_here a list);
   last = λ m h. split (λ b. since past m ≤ since past a) (a == m)
       (λ is. omega (arith, ap (since past) (eq_same a m is)))
       (λ not_so. omega (arith, shows.falls.0 m (rest (a == m) (among m list) (shows.has m ∙ ap (λ (k : Kind). same_kind k q) h ∙ kind_same q) not_so)));
 })
-  where
-    rest : (b c : Bool) → (b || c) ≡ true → b ≡ false → c ≡ true
-    rest true c e f = absurd (true≢false f)
-    rest false c e f = e
 
 is_front : (q : Kind) (past : List (ℕ → Kind)) (list : List ℕ) → Shows q past list → (n : ℕ) → IsLast q past n → first list ≡ Some n
 is_front q past [] shows n last = absurd (true≢false (sym (kind_same q) ∙ ap (λ (k : Kind). same_kind k q) (sym last.is) ∙ sym (shows.has n)))
 is_front q past (a ∷ list) shows n last = split (λ b. Some a ≡ Some n) (a == n)
     (λ is. ap (λ (k : ℕ). Some k) (eq_same a n is))
-    (λ not_so. absurd (below (last.last a (kind_is (now past a) q (sym (shows.has a) ∙ or_left _ _ (same_eq a a refl))))
+    (λ not_so. absurd (below (last.last a (kind_is (now past a) q (sym (shows.has a) ∙ among_here a list)))
     (shows.falls.0 n (rest (a == n) (among n list) (shows.has n ∙ ap (λ (k : Kind). same_kind k q) last.is ∙ kind_same q) not_so))))
   where
-    rest : (b c : Bool) → (b || c) ≡ true → b ≡ false → c ≡ true
-    rest true c e f = absurd (true≢false f)
-    rest false c e f = e
-
     below : since past a ≤ since past n → since past n < since past a → ⊥
     below le lt = omega arith
 
@@ -188,7 +182,7 @@ none_is q past (a ∷ list) shows e n is = absurd (cc)
 
 is_none : (q : Kind) (past : List (ℕ → Kind)) (list : List ℕ) → Shows q past list → IsNone q past → first list ≡ None
 is_none q past [] shows none = refl
-is_none q past (a ∷ list) shows none = absurd (none a (kind_is (now past a) q (sym (shows.has a) ∙ or_left _ _ (same_eq a a refl))))
+is_none q past (a ∷ list) shows none = absurd (none a (kind_is (now past a) q (sym (shows.has a) ∙ among_here a list)))
 
 pub source_is : (past : List (ℕ → Kind)) (p e : List ℕ) → Shows Partial past p → Shows Empty past e → (n : ℕ) → front p e ≡ Some n → IsSource past n
 source_is past [] [] partial empty n is = absurd (cc)

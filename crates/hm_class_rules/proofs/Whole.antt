@@ -1,9 +1,8 @@
 -- Each open slab has all its bytes.
-use Rattle.std.proofs.Common.{◌≡◌, ◌≢◌, ⊎_elim, ℕ, ◌+◌, ◌==◌, Bool, true, false, cond, not, List, [], ◌∷◌, length, replicate, Option, Some, None, unwrap_or, sym, ◌∙◌, ap, refl, arith}
+use Rattle.std.proofs.Common.{◌≡◌, ◌≢◌, ⊎_elim, ℕ, ◌+◌, ◌==◌, Bool, true, false, cond, not, List, [], ◌∷◌, length, replicate, Option, Some, None, unwrap_or, sym, ◌∙◌, ap, refl}
 use Rattle.std.specs.Int.{to_le_bytes}
 use mir.Syntax.{w64}
 use Rattle.std.proofs.lemmas.Bool.{cases_eq}
-use Rattle.std.proofs.lemmas.Bool.Decides.{nat_tests}
 use Rattle.std.proofs.lemmas.List.{length-replicate}
 use Rattle.std.proofs.lemmas.Option.{none-some, same_Some}
 use Rattle.hm_outside.specs.PageRuns.{zeros}
@@ -16,7 +15,7 @@ use Rattle.hm_model.specs.Machine.{run_keeps}
 use Rattle.hm_model.specs.Maps.{at, removed, put}
 use Rattle.hm_model.specs.Overlaid.{overlaid}
 use Rattle.hm_model.specs.Runs.{expand}
-use Rattle.hm_model.proofs.Lists.{eq_same, eq_other}
+use Rattle.hm_model.proofs.Lists.{eq_same, eq_other, other_eq}
 use Rattle.hm_model.proofs.Overlaid.{length_overlaid}
 use Rattle.hm_sizes.specs.declared.shape.Shape.{Shape}
 use Rattle.hm_sizes.specs.Shapes.{has_bytes, usable, slab_at}
@@ -25,9 +24,6 @@ use Rattle.hm_class_rules.specs.Bytes.{overlaid_slabs, kept_canary}
 use Rattle.hm_class_rules.specs.Steps.{new_slab, opened, takes_back, releases, unparks, retires, purges, moved, step}
 use Rattle.hm_class_rules.specs.Rules.{Allowed}
 use Rattle.hm_class_rules.specs.Laws.{bytes_of_slab, AllWhole, WholeSlabs}
-
-eq_flip : (x a k : ℕ) → (x == a) ≡ true → a ≢ k → (x == k) ≡ false
-eq_flip x a k e ne = grind (arith, nat_tests)
 
 -- ---- a slab with bytes written over its own
 abbrev pub over : Shape → ℕ → List ℕ → ℕ → Slab → Slab
@@ -55,7 +51,7 @@ module _ {X : Type 0} where
   at_removed n k [] ne = refl
   at_removed n k (e ∷ m) ne =
       elim (e.0 == n) as (λ t. (e.0 == n) ≡ t → at k (cond (not t) (e ∷ removed n m) (removed n m)) ≡ at k (e ∷ m)) [
-        | true ↦ λ is. at_removed n k m ne ∙ sym (ap (λ (t : Bool). cond t (Some e.1) (at k m)) (eq_flip e.0 n k is ne))
+        | true ↦ λ is. at_removed n k m ne ∙ sym (ap (λ (t : Bool). cond t (Some e.1) (at k m)) (other_eq e.0 k (λ same. ne (sym (eq_same e.0 n is) ∙ same))))
         | false ↦ λ is. ap (λ (o : Option X). cond (e.0 == k) (Some e.1) o) (at_removed n k m ne)
       ] refl
 

@@ -1,14 +1,34 @@
 -- Short histories that are legal, and some that are not.
-use Rattle.std.specs.Prelude.{ℕ, true, false, List, [], ◌∷◌, Some, None}
+use Rattle.std.specs.Prelude.{ℕ, true, false, List, [], ◌∷◌, Option, Some, None}
 use Rattle.hm_model.specs.declared.entry.Entry.{Entry}
 use Rattle.hm_model.specs.declared.entry.Call.{Call}
 use Rattle.hm_model.specs.declared.entry.Call.TheVariants.{Allot, GiveBack, Measure, Fetch, Fill}
 use Rattle.hm_model.specs.declared.entry.Reply.{Reply}
 use Rattle.hm_model.specs.declared.entry.Reply.TheVariants.{Given, Overwritten, Exhausted, PagesFailed, Freed, DoubleFree, WrongSize, Canary, Usable, Bytes, Filled, Trap}
 use Rattle.hm_model.specs.declared.entry.Choices.{Choices}
+use Rattle.hm_sizes.specs.declared.shape.Shape.{Shape}
 use Rattle.hm_sizes.specs.Configs.{standard}
 use Rattle.hm_model.specs.Calls.{no_choices}
 use Rattle.hm_class_rules.specs.Rules.{Terms, chose}
+
+-- what the shapes have in common, where they don't say otherwise: slots without bytes of their own, every second
+-- slab a guard, and no quarantine
+abbrev pub basic : Shape
+basic = record {
+  class = record { 0 = 0 };
+  slot = 16;
+  slots = 256;
+  slab = 4096;
+  first = 4096;
+  limit = 4;
+  guard_interval = 1;
+  array = 0;
+  ring = 0;
+}
+
+-- a region of this shape, in the configuration as it is, whose pages tell their bytes
+abbrev pub region : Shape → Terms
+region shape = record { config = standard; shape = shape; told = true }
 
 -- an entry of caller 1, without drawn words and page faults
 abbrev pub entry : Call → Reply → Choices → Entry
@@ -26,7 +46,14 @@ entry call reply choices = record {
 abbrev pub later : Entry → Entry
 later e = record e { faults_before = 1; faults_after = 1 }
 
--- the choices of a giving that opens a slab, and of a free that releases a slot
+-- a block without bytes is given; a block is freed, and its size is not stated
+abbrev pub given : ℕ → Choices → Entry
+given addr choices = entry (Allot 0 1) (Given addr 0) choices
+
+abbrev pub freed : ℕ → Choices → Entry
+freed addr choices = entry (GiveBack addr None) Freed choices
+
+-- the choices of a giving that opens a slab, and of a free that releases a slot, and retires its slab too
 abbrev pub opens : ℕ → ℕ → Choices
 opens slab canary = chose (Some canary) (Some slab) None None None None
 
@@ -36,29 +63,18 @@ opens_bare slab = chose None (Some slab) None None None None
 abbrev pub frees : ℕ → Choices
 frees addr = chose None None (Some addr) None None None
 
+abbrev pub retires : ℕ → ℕ → Option ℕ → Choices
+retires addr slab unparked = chose None None (Some addr) (Some slab) None unparked
+
 -- ---- class 7 as it is, without a quarantine
 abbrev pub seven : Terms
-seven = record {
-  config = standard;
-  shape = record {
-    class = record { 0 = 7 };
-    slot = 112;
-    slots = 36;
-    slab = 4096;
-    first = 4096;
-    limit = 256;
-    guard_interval = 1;
-    array = 0;
-    ring = 0;
-  };
-  told = true;
-}
+seven = region (record basic { class = record { 0 = 7 }; slot = 112; slots = 36; limit = 256 })
 
 -- a double free, and what a size that is stated says of the block
 abbrev pub double_free : List Entry
 double_free =
     entry (Allot 100 1) (Given 4096 104) (opens 0 256)
-    ∷ entry (GiveBack 4096 None) Freed (frees 4096)
+    ∷ freed 4096 (frees 4096)
     ∷ entry (GiveBack 4096 None) DoubleFree no_choices
     ∷ entry (Measure 4096) DoubleFree no_choices ∷ []
 
@@ -71,21 +87,7 @@ stated_size =
 
 -- ---- two slots of 16 bytes to a slab of 32
 abbrev pub small : Terms
-small = record {
-  config = standard;
-  shape = record {
-    class = record { 0 = 1 };
-    slot = 16;
-    slots = 2;
-    slab = 32;
-    first = 4096;
-    limit = 4;
-    guard_interval = 1;
-    array = 0;
-    ring = 0;
-  };
-  told = true;
-}
+small = region (record basic { class = record { 0 = 1 }; slots = 2; slab = 32 })
 
 -- given, its canary overwritten, and not taken back
 abbrev pub bad_canary : List Entry
@@ -99,7 +101,7 @@ bad_canary =
 abbrev pub write_after_free : List Entry
 write_after_free =
     entry (Allot 8 1) (Given 4096 8) (opens 0 256)
-    ∷ entry (GiveBack 4096 None) Freed (frees 4096)
+    ∷ freed 4096 (frees 4096)
     ∷ entry (Fill 4098 ((65, 2) ∷ [])) Filled no_choices
     ∷ entry (Fetch 4097 4) (Bytes ((0, 1) ∷ (65, 2) ∷ (0, 1) ∷ [])) no_choices
     ∷ entry (Fetch 4126 4) (Trap 4128) no_choices
@@ -108,83 +110,42 @@ write_after_free =
 
 -- ---- slabs of one slot and 131,072 bytes of address space, without bytes of their own
 abbrev pub bare : Terms
-bare = record {
-  config = standard;
-  shape = record {
-    class = record { 0 = 0 };
-    slot = 131072;
-    slots = 1;
-    slab = 131072;
-    first = 1103806599168;
-    limit = 262144;
-    guard_interval = 1;
-    array = 0;
-    ring = 0;
-  };
-  told = true;
-}
+bare = region (record basic { slot = 131072; slots = 1; slab = 131072; first = 1103806599168; limit = 262144 })
 
 -- the second slab that a free empties is retired, parked, and not opened again at once; slab 3 is a guard
 abbrev pub retired_slab : List Entry
 retired_slab =
-    entry (Allot 0 1) (Given 1103806599168 0) (opens_bare 0)
-    ∷ entry (Allot 0 1) (Given 1103806861312 0) (opens_bare 2)
-    ∷ entry (GiveBack 1103806599168 None) Freed (frees 1103806599168)
-    ∷ entry (GiveBack 1103806861312 None) Freed (chose None None (Some 1103806861312) (Some 2) None None)
-    ∷ entry (Allot 0 1) (Given 1103806599168 0) no_choices
-    ∷ entry (Allot 0 1) (Given 1103807123456 0) (opens_bare 4) ∷ []
+    given 1103806599168 (opens_bare 0)
+    ∷ given 1103806861312 (opens_bare 2)
+    ∷ freed 1103806599168 (frees 1103806599168)
+    ∷ freed 1103806861312 (retires 1103806861312 2 None)
+    ∷ given 1103806599168 no_choices
+    ∷ given 1103807123456 (opens_bare 4) ∷ []
 
 -- ---- a ring of one
 abbrev pub ringed : Terms
-ringed = record {
-  config = standard;
-  shape = record {
-    class = record { 0 = 0 };
-    slot = 16;
-    slots = 256;
-    slab = 4096;
-    first = 4096;
-    limit = 4;
-    guard_interval = 1;
-    array = 0;
-    ring = 1;
-  };
-  told = true;
-}
+ringed = region (record basic { ring = 1 })
 
 -- a slot is released by the next free, and not by its own
 abbrev pub waiting : List Entry
 waiting =
-    entry (Allot 0 1) (Given 4096 0) (opens_bare 0)
+    given 4096 (opens_bare 0)
     ∷ entry (GiveBack 4096 (Some 0)) Freed no_choices
-    ∷ entry (Allot 0 1) (Given 4112 0) no_choices
-    ∷ entry (GiveBack 4112 None) Freed (frees 4096) ∷ []
+    ∷ given 4112 no_choices
+    ∷ freed 4112 (frees 4096) ∷ []
 
 abbrev pub released_too_early : List Entry
-released_too_early =
-    entry (Allot 0 1) (Given 4096 0) (opens_bare 0)
-    ∷ entry (GiveBack 4096 None) Freed (frees 4096) ∷ []
+released_too_early = given 4096 (opens_bare 0) ∷ freed 4096 (frees 4096) ∷ []
 
 -- a guard is no place
 abbrev pub given_in_a_guard : List Entry
-given_in_a_guard = entry (Allot 0 1) (Given 8192 0) (opens_bare 1) ∷ []
+given_in_a_guard = given 8192 (opens_bare 1) ∷ []
 
 -- ---- one slab of two slots, without the check on reuse
 abbrev pub unchecked : Terms
-unchecked = record {
+unchecked = record small {
   config = record standard { check_reuse = false };
-  shape = record {
-    class = record { 0 = 1 };
-    slot = 16;
-    slots = 2;
-    slab = 32;
-    first = 4096;
-    limit = 1;
-    guard_interval = 8;
-    array = 0;
-    ring = 0;
-  };
-  told = true;
+  shape = record small.shape { limit = 1; guard_interval = 8 };
 }
 
 -- a page fails; later a slot that was written after its free is given as it is, and there is no third
@@ -192,7 +153,7 @@ abbrev pub reused : List Entry
 reused =
     record (entry (Allot 8 1) PagesFailed no_choices) { faults_after = 1 }
     ∷ later (entry (Allot 8 1) (Given 4096 8) (opens 0 256))
-    ∷ later (entry (GiveBack 4096 None) Freed (frees 4096))
+    ∷ later (freed 4096 (frees 4096))
     ∷ later (entry (Fill 4100 ((65, 4) ∷ [])) Filled no_choices)
     ∷ later (entry (Allot 8 1) (Given 4096 8) no_choices)
     ∷ later (entry (Fetch 4096 9) (Bytes ((0, 4) ∷ (65, 4) ∷ (0, 1) ∷ [])) no_choices)
