@@ -146,7 +146,7 @@ module _ (told : Bool) (runs : PageRuns) (faults : ℕ) (c : Config) (number are
   runs_as : (x : P) → (IsTrue (meaning.told begun) → meaning.runs x ≡ meaning.runs begun) → IsTrue told → meaning.runs x ≡ runs
   runs_as x e y = e (told_begun ∙ y) ∙ runs_begun
 
-  pub kept_allotted : (n : NextSlab) (e : Event) → Finds meaning p k k₁ begun mid stream stream₁ n → Serves meaning p k₁ k' mid now stream₁ stream' n e → Ends e
+  pub kept_allotted : (n : NextSlab) (e : Event) → Finds meaning k k₁ begun mid stream stream₁ p n → Serves meaning k₁ k' mid now stream₁ stream' p n e → Ends e
   kept_allotted next.Exhausted e f v =
       let q = f.1.0 in
       let w = v.1 in

@@ -64,7 +64,7 @@ module _ (told : Bool) (runs : PageRuns) (faults : ℕ) (c : Config) (number are
     (stepped : (a : ℕ) → slab_of p a ≡ n → first_free p (opened p choices.opened choices.canary (state (terms_of told c p) es)) n (drawn p.slots (next_word stream₁)) ≡ Some a → (r : Reply) → event_of (Allot asked 1) r ≡ Picked a
     → IsSteppedEntry (terms_of told c p) (cells_of (state (terms_of told c p) es) k stream quarantine parking) (entry_of who (Allot asked 1) r choices draws f f'))
   where
-    pub kept_serve : (o : Outcome) → Serve meaning p n k₁ k' mid now stream₁ stream' o
+    pub kept_serve : (o : Outcome) → Serve meaning k₁ k' mid now stream₁ stream' p n o
         → IsKept told (meaning.runs now) f' c number arena p (es ++ entry_of who (Allot asked 1) (reply_of o) choices draws f f' ∷ []) k' stream' quarantine parking
     kept_serve o v =
         let then : State = opened p choices.opened choices.canary (state (terms_of told c p) es) in

@@ -24,7 +24,7 @@ use Rattle.hm_class.proofs.Counts.{mapped}
 use Rattle.hm_class.proofs.Used.{counted, live_opened}
 
 module _ {P : Type 0} (meaning : pages.Ghosts P) (p : Shape) (k k₁ k' : Slabs) (begun mid now : P) (stream stream₁ stream' : Words) where
-  pub found_live : ((n : ℕ) → new_of k ≡ Some n → CanOpen p k n) → (n : NextSlab) → Finds meaning p k k₁ begun mid stream stream₁ n
+  pub found_live : ((n : ℕ) → new_of k ≡ Some n → CanOpen p k n) → (n : NextSlab) → Finds meaning k k₁ begun mid stream stream₁ p n
       → live_count k₁.slabs ≡ live_count k.slabs
   found_live opens (next.Open n) f = ap live_count f.1.0.slabs
   found_live opens (next.New n canary) f =
@@ -37,7 +37,7 @@ module _ {P : Type 0} (meaning : pages.Ghosts P) (p : Shape) (k k₁ k' : Slabs)
   given_more (outcome.Overwritten a at found) n i u was g = omega (arith, ap live_count g.slabs, counted lives k₁.slabs n i (Condemned (passes_at was_given k₁.slabs n i)) u was)
   given_more other n i u was g = absurd g
 
-  more_live : (n : ℕ) (o : Outcome) → IsShape p → CanPick p k₁ n → Serve meaning p n k₁ k' mid now stream₁ stream' o → live_count k'.slabs ≤ live_count k₁.slabs + 1
+  more_live : (n : ℕ) (o : Outcome) → IsShape p → CanPick p k₁ n → Serve meaning k₁ k' mid now stream₁ stream' p n o → live_count k'.slabs ≤ live_count k₁.slabs + 1
   more_live n o shape can v =
       let start_lt : drawn p.slots (next_word stream₁) < p.slots = drawn_below p.slots (next_word stream₁) (omega (arith, shape.slots_some)) (next_below stream₁) in
       let first = can.first (drawn p.slots (next_word stream₁)) start_lt in
@@ -46,7 +46,7 @@ module _ {P : Type 0} (meaning : pages.Ghosts P) (p : Shape) (k k₁ k' : Slabs)
       let u = mapped occupied (use_at k₁.slabs n v.index) false free in
       given_more o n v.index u.0 u.1 v.gives
 
-  pub served_live : (n : NextSlab) (e : Event) → IsShape p → CanServe p k₁ n → Serves meaning p k₁ k' mid now stream₁ stream' n e
+  pub served_live : (n : NextSlab) (e : Event) → IsShape p → CanServe p k₁ n → Serves meaning k₁ k' mid now stream₁ stream' p n e
       → live_count k'.slabs ≤ live_count k₁.slabs + 1
   served_live (next.Open n) e shape can v = more_live n e.outcome shape can v.0
   served_live (next.New n canary) e shape can v = more_live n e.outcome shape can v.0
@@ -55,13 +55,13 @@ module _ {P : Type 0} (meaning : pages.Ghosts P) (p : Shape) (k k₁ k' : Slabs)
 
 -- the parking places stay
 module _ {P : Type 0} (meaning : pages.Ghosts P) (p : Shape) (k k₁ k' : Slabs) (begun mid now : P) (stream stream₁ stream' : Words) where
-  pub found_parking : (n : NextSlab) → Finds meaning p k k₁ begun mid stream stream₁ n → k₁.parking ≡ k.parking
+  pub found_parking : (n : NextSlab) → Finds meaning k k₁ begun mid stream stream₁ p n → k₁.parking ≡ k.parking
   found_parking (next.Open n) f = f.1.0.lists.parking
   found_parking (next.New n canary) f = f.1.parking
   found_parking next.Exhausted f = f.1.0.lists.parking
   found_parking next.PagesFailed f = f.2.lists.parking
 
-  pub served_parking : (n : NextSlab) (e : Event) → Serves meaning p k₁ k' mid now stream₁ stream' n e → k'.parking ≡ k₁.parking
+  pub served_parking : (n : NextSlab) (e : Event) → Serves meaning k₁ k' mid now stream₁ stream' p n e → k'.parking ≡ k₁.parking
   served_parking (next.Open n) e v = v.0.parking
   served_parking (next.New n canary) e v = v.0.parking
   served_parking next.Exhausted e v = v.1.lists.parking

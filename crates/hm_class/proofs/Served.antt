@@ -119,7 +119,7 @@ module _ (told : Bool) (runs : PageRuns) (faults : ℕ) (c : Config) (number are
     opened_open = opened_shows.opens n ∙ ap (λ (o : Option SlabUse). option_map_or (λ (b : SlabUse). b.opened) o false) opened_is
 
   -- what was found can be served
-  pub can_serve : {P : Type 0} (meaning : pages.Ghosts P) (begun mid : P) (k₁ : Slabs) (stream₁ : Words) (n : NextSlab) → Finds meaning p k k₁ begun mid stream stream₁ n → CanServe p k₁ n
+  pub can_serve : {P : Type 0} (meaning : pages.Ghosts P) (begun mid : P) (k₁ : Slabs) (stream₁ : Words) (n : NextSlab) → Finds meaning k k₁ begun mid stream stream₁ p n → CanServe p k₁ n
   can_serve meaning begun mid k₁ stream₁ (next.Open n) f =
       can_pick p k₁ k.slabs now_is n f.1.0.slabs (open_place p now_is n 0 (sound_now told runs faults c number arena p es k stream quarantine parking kept) (serving_open n f.0) (omega (arith, kept.served.shape.slots_some))).below kept.follows.shows (serving n f.0)
   can_serve meaning begun mid k₁ stream₁ (next.New n canary) f =

@@ -21,7 +21,7 @@ module _ {P : Type 0} (meaning : pages.Ghosts P) (p : Shape) (n : ℕ) (old mid 
   gives_on other g = absurd g
 
   pub serve_of : (o : Outcome) → first_at old.slabs n (drawn p.slots (next_word stream)) ≡ Some index → Gives meaning p old mid before now (slot_in n index) o
-      → stream' ≡ after_word stream → Serve meaning p n old new before now stream stream' o
+      → stream' ≡ after_word stream → Serve meaning old new before now stream stream' p n o
   serve_of o first g taken = record {
     index = index;
     first = first;

@@ -322,7 +322,7 @@ module _ (told : Bool) (runs : PageRuns) (faults : ℕ) (c : Config) (number are
         parked_numbers : k'.numbers ≡ numbers_of p
         parked_numbers = parks.numbers ∙ mid_lists.numbers ∙ lists.numbers ∙ kept.follows.numbers
 
-    pub kept_released : (e : Emptied) → frees.Releases meaning p b k₁ k' half now (array_stream p stream) stream' e → meaning.told half ≡ told → f ≡ meaning.faults half → f' ≡ meaning.faults now → Ends (Some b) e
+    pub kept_released : (e : Emptied) → frees.Releases meaning k₁ k' half now (array_stream p stream) stream' p b e → meaning.told half ≡ told → f ≡ meaning.faults half → f' ≡ meaning.faults now → Ends (Some b) e
     kept_released e v told_half half_is now_is = by_end e v.empties
       where
         mid : Slabs
@@ -338,7 +338,7 @@ module _ (told : Bool) (runs : PageRuns) (faults : ℕ) (c : Config) (number are
         surplus_by x e = ap (λ (u : Uses). is_surplus p u (length k₁.lists.empty) m) (sym v.slabs)
             ∙ ap (λ (l : Lists). is_surplus p mid.slabs (length l.empty) m) (sym v.lists.lists) ∙ e
 
-        by_end : (e : Emptied) → frees.Empties meaning p m mid k' half now (array_stream p stream) stream' e → Ends (Some b) e
+        by_end : (e : Emptied) → frees.Empties meaning mid k' half now (array_stream p stream) stream' p m e → Ends (Some b) e
         by_end emptied.Kept w =
             let ka : Kind = kind_at uses₂ m in
             let j = w.1.joins in
@@ -404,21 +404,21 @@ module _ (told : Bool) (runs : PageRuns) (faults : ℕ) (c : Config) (number are
             q.stream_is (q.parking_is ∙ places))
 
   -- what was released, if anything
-  pub kept_ended : (released : Option ℕ) (e : Emptied) → released ≡ let_go quarantine a (place_of_word p (next_word stream)) → Settles meaning p k₁ k' half now (array_stream p stream) stream' released e
+  pub kept_ended : (released : Option ℕ) (e : Emptied) → released ≡ let_go quarantine a (place_of_word p (next_word stream)) → Settles meaning k₁ k' half now (array_stream p stream) stream' p released e
       → meaning.told half ≡ told → f ≡ meaning.faults half → f' ≡ meaning.faults now → Ends released e
   kept_ended None e let_is v told_half half_is now_is = kept_held e let_is v.0 v.1 v.2 (λ y. v.3.runs_same (told_half ∙ y)) v.3.stream_is (v.3.parking_is ∙ lists.parking)
   kept_ended (Some b) e let_is v told_half half_is now_is = kept_released b let_is e v told_half half_is now_is
 
   -- what is released was not live, and no fault is taken back
-  pub live_ended : (released : Option ℕ) (e : Emptied) → released ≡ let_go quarantine a (place_of_word p (next_word stream)) → Settles meaning p k₁ k' half now (array_stream p stream) stream' released e
+  pub live_ended : (released : Option ℕ) (e : Emptied) → released ≡ let_go quarantine a (place_of_word p (next_word stream)) → Settles meaning k₁ k' half now (array_stream p stream) stream' p released e
       → live_count k'.slabs + 1 ≡ live_count k.slabs
   live_ended released e let_is v = omega (arith, same released e let_is v, ap live_count items, counted lives k.slabs slot.slab slot.index Held Live accepts.judged.1)
     where
-      same : (released : Option ℕ) (e : Emptied) → released ≡ let_go quarantine a (place_of_word p (next_word stream)) → Settles meaning p k₁ k' half now (array_stream p stream) stream' released e → live_count k'.slabs ≡ live_count k₁.slabs
+      same : (released : Option ℕ) (e : Emptied) → released ≡ let_go quarantine a (place_of_word p (next_word stream)) → Settles meaning k₁ k' half now (array_stream p stream) stream' p released e → live_count k'.slabs ≡ live_count k₁.slabs
       same None e let_is v = ap live_count v.1
       same (Some b) e let_is v = by_end e v.empties
         where
-          by_end : (e : Emptied) → frees.Empties meaning p (slab_of p b) v.mid k' half now (array_stream p stream) stream' e → live_count k'.slabs ≡ live_count k₁.slabs
+          by_end : (e : Emptied) → frees.Empties meaning v.mid k' half now (array_stream p stream) stream' p (slab_of p b) e → live_count k'.slabs ≡ live_count k₁.slabs
           by_end emptied.Kept w = ap live_count (w.1.joins.slabs ∙ v.slabs) ∙ free_live b let_is
           by_end (emptied.Retired d w u) x =
               let g = found (uses₂ b let_is) (slab_of p b) (slot_of p b) Free (freed_use k₁.slabs (slab_of p b) (slot_of p b) (place_b b let_is).used) in
@@ -426,11 +426,11 @@ module _ (told : Bool) (runs : PageRuns) (faults : ℕ) (c : Config) (number are
           by_end (emptied.Purged d) w = ap live_count (w.1.joins.slabs ∙ v.slabs) ∙ free_live b let_is
 
 pub settled_later : {P : Type 0} (meaning : pages.Ghosts P) (p : Shape) (k₁ k' : Slabs) (half now : P) (stream stream' : Words) (released : Option ℕ) (e : Emptied)
-    → Settles meaning p k₁ k' half now stream stream' released e → meaning.faults half ≤ meaning.faults now
+    → Settles meaning k₁ k' half now stream stream' p released e → meaning.faults half ≤ meaning.faults now
 settled_later meaning p k₁ k' half now stream stream' None e v = omega (arith, v.3.count_same)
 settled_later meaning p k₁ k' half now stream stream' (Some b) e v = by_end e v.empties
   where
-    by_end : (e : Emptied) → frees.Empties meaning p (slab_of p b) v.mid k' half now stream stream' e → meaning.faults half ≤ meaning.faults now
+    by_end : (e : Emptied) → frees.Empties meaning v.mid k' half now stream stream' p (slab_of p b) e → meaning.faults half ≤ meaning.faults now
     by_end emptied.Kept w = omega (arith, w.1.places.count_same)
     by_end (emptied.Retired d w u) x = x.1.dropped.1
     by_end (emptied.Purged d) w = omega (arith, w.1.dropped.2)

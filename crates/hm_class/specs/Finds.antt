@@ -43,42 +43,6 @@ pub record CanOpen (p : Shape) (k : Slabs) (n : ℕ) : Type 0 where
   pub below : n < p.limit
   pub there : is_some (slab_in (taken_of k) n) ≡ true
 
-module _ {P : Type 0} (meaning : pages.Ghosts P) where
-  -- the slabs, the runs and the stream are as before
-  pub record KeepsRuns (old new : Slabs) (before now : P) (stream stream' : Words) : Type 0 where
-    pub slabs : new.slabs ≡ old.slabs
-    pub lists : SameLists old new
-    pub runs_same : IsTrue (meaning.told before) → meaning.runs now ≡ meaning.runs before
-    pub stream_same : stream' ≡ stream
-
-  -- so is the count of faults
-  abbrev pub Stays : Slabs → Slabs → P → P → Words → Words → Type 0
-  Stays old new before now stream stream' = KeepsRuns old new before now stream stream'
-      × (meaning.faults now ≡ meaning.faults before)
-
-  -- slab n was opened with this canary
-  pub record Opens (p : Shape) (n : ℕ) (canary : Option Canary) (old new : Slabs) (before now : P)
-      (stream stream' : Words) : Type 0 where
-    pub slabs : new.slabs ≡ with_open (taken_of old) n (unwrap_or (canary_value canary) 0)
-    pub lists : new.lists ≡ opened_lists n old.lists
-    pub parking : new.parking ≡ old.parking
-    pub numbers : new.numbers ≡ old.numbers
-    pub made : IsTrue (meaning.told before) → meaning.runs now ≡ made_runs p n (meaning.runs before)
-    pub canary_is : canary ≡ drawn_canary p stream
-    pub stream_is : stream' ≡ canary_stream p stream
-    pub later : meaning.faults before ≤ meaning.faults now
-
-  abbrev pub Finds : Shape → Slabs → Slabs → P → P → Words → Words → NextSlab → Type 0
-  Finds p old new before now stream stream' (next.Open n) = Sources old (from.Open n)
-      × Stays old new before now stream stream'
-  Finds p old new before now stream stream' (next.New n canary) = Sources old (from.New n)
-      × Opens p n canary old new before now stream stream'
-  Finds p old new before now stream stream' next.Exhausted = Sources old from.Exhausted
-      × Stays old new before now stream stream'
-  Finds p old new before now stream stream' next.PagesFailed =
-      (n : ℕ) × Sources old (from.New n) × KeepsRuns old new before now stream stream' × (has_bytes p ≡ true)
-      × (meaning.faults before < meaning.faults now)
-
 -- ---- picking
 -- from slot i on slab n has an available slot
 pub record HasFirst (p : Shape) (uses : Uses) (n i : ℕ) : Type 0 where
@@ -103,27 +67,52 @@ CanServe p k next.PagesFailed = ⊤
 abbrev pub slot_in : ℕ → ℕ → Slot
 slot_in n i = record { slab = n; index = i }
 
-module _ {P : Type 0} (meaning : pages.Ghosts P) where
-  -- a slot of slab n was picked by the next word, and given or condemned; the slab went to the list of its kind
-  pub record Serve (p : Shape) (n : ℕ) (old new : Slabs) (before now : P) (stream stream' : Words)
-      (o : Outcome) : Type 0 where
-    pub index : ℕ
-    pub first : first_at old.slabs n (drawn p.slots (next_word stream)) ≡ Some index
-    pub gives : Gives meaning p old new before now (slot_in n index) o
-    pub lists : new.lists ≡ placed (list_of (kind_at new.slabs n)) n old.lists
-    pub parking : new.parking ≡ old.parking
-    pub numbers : new.numbers ≡ old.numbers
-    pub stream_is : stream' ≡ after_word stream
+-- ---- what was and what is: the slabs, the pages and the stream, each before and after
+module _ {P : Type 0} (meaning : pages.Ghosts P) (old new : Slabs) (before now : P) (stream stream' : Words) where
+  -- the slabs, the runs and the stream are as before
+  pub record KeepsRuns : Type 0 where
+    pub slabs : new.slabs ≡ old.slabs
+    pub lists : SameLists old new
+    pub runs_same : IsTrue (meaning.told before) → meaning.runs now ≡ meaning.runs before
+    pub stream_same : stream' ≡ stream
 
-  -- where there is no slab all stays
-  abbrev pub Serves : Shape → Slabs → Slabs → P → P → Words → Words → NextSlab → Event → Type 0
-  Serves p old new before now stream stream' (next.Open n) e =
-      Serve p n old new before now stream stream' e.outcome × (e.choices ≡ no_choices)
-      × (e.draws ≡ one_word (next_word stream))
-  Serves p old new before now stream stream' (next.New n canary) e =
-      Serve p n old new before now stream stream' e.outcome × (e.choices ≡ chose_opened n canary)
-      × (e.draws ≡ start_draws canary (next_word stream))
-  Serves p old new before now stream stream' next.Exhausted e = (e ≡ plain outcome.Exhausted)
-      × KeepsRuns meaning old new before now stream stream'
-  Serves p old new before now stream stream' next.PagesFailed e = (e ≡ plain outcome.PagesFailed)
-      × KeepsRuns meaning old new before now stream stream'
+  -- so is the count of faults
+  abbrev pub Stays : Type 0
+  Stays = KeepsRuns × (meaning.faults now ≡ meaning.faults before)
+
+  module _ (p : Shape) where
+    -- slab n was opened with this canary
+    pub record Opens (n : ℕ) (canary : Option Canary) : Type 0 where
+      pub slabs : new.slabs ≡ with_open (taken_of old) n (unwrap_or (canary_value canary) 0)
+      pub lists : new.lists ≡ opened_lists n old.lists
+      pub parking : new.parking ≡ old.parking
+      pub numbers : new.numbers ≡ old.numbers
+      pub made : IsTrue (meaning.told before) → meaning.runs now ≡ made_runs p n (meaning.runs before)
+      pub canary_is : canary ≡ drawn_canary p stream
+      pub stream_is : stream' ≡ canary_stream p stream
+      pub later : meaning.faults before ≤ meaning.faults now
+
+    abbrev pub Finds : NextSlab → Type 0
+    Finds (next.Open n) = Sources old (from.Open n) × Stays
+    Finds (next.New n canary) = Sources old (from.New n) × Opens n canary
+    Finds next.Exhausted = Sources old from.Exhausted × Stays
+    Finds next.PagesFailed = (n : ℕ) × Sources old (from.New n) × KeepsRuns × (has_bytes p ≡ true)
+        × (meaning.faults before < meaning.faults now)
+
+    -- a slot of slab n was picked by the next word, and given or condemned; the slab went to the list of its kind
+    pub record Serve (n : ℕ) (o : Outcome) : Type 0 where
+      pub index : ℕ
+      pub first : first_at old.slabs n (drawn p.slots (next_word stream)) ≡ Some index
+      pub gives : Gives meaning p old new before now (slot_in n index) o
+      pub lists : new.lists ≡ placed (list_of (kind_at new.slabs n)) n old.lists
+      pub parking : new.parking ≡ old.parking
+      pub numbers : new.numbers ≡ old.numbers
+      pub stream_is : stream' ≡ after_word stream
+
+    -- where there is no slab all stays
+    abbrev pub Serves : NextSlab → Event → Type 0
+    Serves (next.Open n) e = Serve n e.outcome × (e.choices ≡ no_choices) × (e.draws ≡ one_word (next_word stream))
+    Serves (next.New n canary) e = Serve n e.outcome × (e.choices ≡ chose_opened n canary)
+        × (e.draws ≡ start_draws canary (next_word stream))
+    Serves next.Exhausted e = (e ≡ plain outcome.Exhausted) × KeepsRuns
+    Serves next.PagesFailed e = (e ≡ plain outcome.PagesFailed) × KeepsRuns

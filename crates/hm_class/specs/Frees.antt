@@ -65,7 +65,6 @@ module _ {P : Type 0} (meaning : pages.Ghosts P) where
     pub run : has_bytes p ≡ true → IsTrue (meaning.told pages)
         → IsRun (meaning.runs pages) (slab_at p (slab_of p a)) p.slab
 
-module _ {P : Type 0} (meaning : pages.Ghosts P) where
   -- the pages of slab n went, where it has any; or their bytes were made zero
   abbrev pub Drops : Shape → ℕ → P → P → Bool → Type 0
   Drops p n before now true =
@@ -76,64 +75,61 @@ module _ {P : Type 0} (meaning : pages.Ghosts P) where
       × (IsTrue (meaning.told before) → meaning.runs now ≡ map.insert (meaning.runs before) (slab_at p n) (zeros p.slab))
       × (meaning.faults before < meaning.faults now)
 
-  -- slab n was retired. `mid` are the slabs before that
-  pub record RetiresSlab (p : Shape) (n : ℕ) (mid new : Slabs) (before now : P) (stream stream' : Words)
-      (slab word : ℕ) (unparked : Option ℕ) : Type 0 where
-    pub slab_is : slab ≡ n
-    pub parks : Parks n (drawn (length mid.parking) word) mid new
-    pub dropped : Drops p n before now true
-    pub word_is : word ≡ next_word stream
-    pub stream_is : stream' ≡ after_word stream
-    pub unparked_is : unparked ≡ slice_index_or mid.parking (drawn (length mid.parking) word) None
-
-  -- it was purged, and joins the empty ones
-  pub record PurgesSlab (p : Shape) (n : ℕ) (mid new : Slabs) (before now : P) (stream stream' : Words)
-      (slab : ℕ) : Type 0 where
-    pub slab_is : slab ≡ n
-    pub joins : Joins n mid.slabs mid new
-    pub dropped : Drops p n before now false
-    pub stream_is : stream' ≡ stream
-    pub parking_is : new.parking ≡ mid.parking
-
-  abbrev pub Retires : Shape → ℕ → Slabs → Slabs → P → P → Words → Words → Emptied → Type 0
-  Retires p n mid new before now stream stream' Kept = ⊥
-  Retires p n mid new before now stream stream' (Retired slab word unparked) =
-      RetiresSlab p n mid new before now stream stream' slab word unparked
-  Retires p n mid new before now stream stream' (Purged slab) = PurgesSlab p n mid new before now stream stream' slab
-
+-- ---- what was and what is: the slabs, the pages and the stream, each before and after
+module _ {P : Type 0} (meaning : pages.Ghosts P) (old new : Slabs) (before now : P) (stream stream' : Words) where
   -- the pages, the stream and the parking places are as before
-  pub record KeepsPlaces (old new : Slabs) (before now : P) (stream stream' : Words) : Type 0 where
+  pub record KeepsPlaces : Type 0 where
     pub runs_same : IsTrue (meaning.told before) → meaning.runs now ≡ meaning.runs before
     pub count_same : meaning.faults now ≡ meaning.faults before
     pub stream_is : stream' ≡ stream
     pub parking_is : new.parking ≡ old.parking
 
-  -- it joins the slabs of its kind
-  pub record JoinsSlab (n : ℕ) (mid new : Slabs) (before now : P) (stream stream' : Words) : Type 0 where
-    pub joins : Joins n mid.slabs mid new
-    pub places : KeepsPlaces mid new before now stream stream'
+  -- slab n joins the slabs of its kind
+  pub record JoinsSlab (n : ℕ) : Type 0 where
+    pub joins : Joins n old.slabs old new
+    pub places : KeepsPlaces
 
-  -- slab n, of which a slot was released, is retired or purged where it is one too many, and else joins
-  abbrev pub Empties : Shape → ℕ → Slabs → Slabs → P → P → Words → Words → Emptied → Type 0
-  Empties p n mid new before now stream stream' Kept =
-      (is_surplus p mid.slabs (length mid.lists.empty) n ≡ false) × JoinsSlab n mid new before now stream stream'
-  Empties p n mid new before now stream stream' (Retired slab word unparked) =
-      (is_surplus p mid.slabs (length mid.lists.empty) n ≡ true)
-      × RetiresSlab p n mid new before now stream stream' slab word unparked
-  Empties p n mid new before now stream stream' (Purged slab) =
-      (is_surplus p mid.slabs (length mid.lists.empty) n ≡ true)
-      × PurgesSlab p n mid new before now stream stream' slab
+  module _ (p : Shape) (n : ℕ) where
+    -- slab n was retired
+    pub record RetiresSlab (slab word : ℕ) (unparked : Option ℕ) : Type 0 where
+      pub slab_is : slab ≡ n
+      pub parks : Parks n (drawn (length old.parking) word) old new
+      pub dropped : Drops meaning p n before now true
+      pub word_is : word ≡ next_word stream
+      pub stream_is : stream' ≡ after_word stream
+      pub unparked_is : unparked ≡ slice_index_or old.parking (drawn (length old.parking) word) None
 
+    -- it was purged, and joins the empty ones
+    pub record PurgesSlab (slab : ℕ) : Type 0 where
+      pub slab_is : slab ≡ n
+      pub joins : Joins n old.slabs old new
+      pub dropped : Drops meaning p n before now false
+      pub stream_is : stream' ≡ stream
+      pub parking_is : new.parking ≡ old.parking
+
+    abbrev pub Retires : Emptied → Type 0
+    Retires Kept = ⊥
+    Retires (Retired slab word unparked) = RetiresSlab slab word unparked
+    Retires (Purged slab) = PurgesSlab slab
+
+    -- slab n, of which a slot was released, is retired or purged where it is one too many, and else joins
+    abbrev pub Empties : Emptied → Type 0
+    Empties Kept = (is_surplus p old.slabs (length old.lists.empty) n ≡ false) × JoinsSlab n
+    Empties (Retired slab word unparked) = (is_surplus p old.slabs (length old.lists.empty) n ≡ true)
+        × RetiresSlab slab word unparked
+    Empties (Purged slab) = (is_surplus p old.slabs (length old.lists.empty) n ≡ true) × PurgesSlab slab
+
+module _ {P : Type 0} (meaning : pages.Ghosts P) (old new : Slabs) (before now : P) (stream stream' : Words)
+    (p : Shape) where
   -- slot b was released: `mid` are the slabs after that
-  pub record Releases (p : Shape) (b : ℕ) (old new : Slabs) (before now : P) (stream stream' : Words)
-      (e : Emptied) : Type 0 where
+  pub record Releases (b : ℕ) (e : Emptied) : Type 0 where
     pub mid : Slabs
     pub slabs : mid.slabs ≡ freed_uses p b old.slabs
     pub lists : SameLists old mid
-    pub empties : Empties p (slab_of p b) mid new before now stream stream' e
+    pub empties : Empties meaning mid new before now stream stream' p (slab_of p b) e
 
   -- what left the quarantine, if anything did, is released
-  abbrev pub Settles : Shape → Slabs → Slabs → P → P → Words → Words → Option ℕ → Emptied → Type 0
-  Settles p old new before now stream stream' None e = (e ≡ Kept) × (new.slabs ≡ old.slabs) × SameLists old new
-      × KeepsPlaces old new before now stream stream'
-  Settles p old new before now stream stream' (Some b) e = Releases p b old new before now stream stream' e
+  abbrev pub Settles : Option ℕ → Emptied → Type 0
+  Settles None e = (e ≡ Kept) × (new.slabs ≡ old.slabs) × SameLists old new
+      × KeepsPlaces meaning old new before now stream stream'
+  Settles (Some b) e = Releases b e

@@ -27,22 +27,24 @@ module _ {P : Type 0} (meaning : pages.Ghosts P) where
     pub some : has_bytes p ≡ true → IsTrue (meaning.told before) → IsHeld (meaning.runs before) (a + usable p) 8
         → Writes (meaning.runs before) (a + usable p) 8 (to_le_bytes w64 canary) (meaning.runs now)
 
+-- what was and what is: the slabs and the pages, before and after slot s was given, or condemned
+module _ {P : Type 0} (meaning : pages.Ghosts P) (p : Shape) (old new : Slabs) (before now : P) (s : Slot) where
   -- all usable bytes are zero; the slot becomes live, and its last 8 bytes the canary
-  pub record GivesSlot (p : Shape) (old new : Slabs) (before now : P) (s : Slot) (a size : ℕ) : Type 0 where
+  pub record GivesSlot (a size : ℕ) : Type 0 where
     pub addr_is : a ≡ place p s.slab s.index
     pub size_is : size ≡ usable p
-    pub clean : Stains p before a None
+    pub clean : Stains meaning p before a None
     pub slabs : new.slabs ≡ with_use old.slabs s.slab s.index Live
-    pub written : Seals p before now a (canary_at old.slabs s.slab)
+    pub written : Seals meaning p before now a (canary_at old.slabs s.slab)
 
   -- a usable byte is not zero; the slot is condemned
-  pub record CondemnsSlot (p : Shape) (old new : Slabs) (before now : P) (s : Slot) (a at found : ℕ) : Type 0 where
+  pub record CondemnsSlot (a at found : ℕ) : Type 0 where
     pub addr_is : a ≡ place p s.slab s.index
-    pub stained : Stains p before a (Some (at, found))
+    pub stained : Stains meaning p before a (Some (at, found))
     pub slabs : new.slabs ≡ with_use old.slabs s.slab s.index (Condemned (passes_at was_given old.slabs s.slab s.index))
     pub same : IsTrue (meaning.told before) → meaning.runs now ≡ meaning.runs before
 
-  abbrev pub Gives : Shape → Slabs → Slabs → P → P → Slot → Outcome → Type 0
-  Gives p old new before now s (outcome.Given a size) = GivesSlot p old new before now s a size
-  Gives p old new before now s (outcome.Overwritten a at found) = CondemnsSlot p old new before now s a at found
-  Gives p old new before now s other = ⊥
+  abbrev pub Gives : Outcome → Type 0
+  Gives (outcome.Given a size) = GivesSlot a size
+  Gives (outcome.Overwritten a at found) = CondemnsSlot a at found
+  Gives other = ⊥

@@ -30,44 +30,44 @@ refused_outcome refusal.DoubleFree = outcome.DoubleFree
 abbrev pub other_number : List ℕ → ℕ → Option ℕ
 other_number last canary = if from_le_bytes w64 last == canary then None else Some (from_le_bytes w64 last)
 
-module _ {P : Type 0} (meaning : pages.Ghosts P) where
+pub record RefusesSize (p : Shape) (k : Slabs) (a : ℕ) (stated : Option ℕ) (block other : ℕ) : Type 0 where
+  pub slot : Slot
+  pub judged : Judges p k.slabs a (verdict.Live slot)
+  pub size : wrong_size p stated ≡ Some (block, other)
+
+module _ {P : Type 0} (meaning : pages.Ghosts P) (p : Shape) (k : Slabs) (pages : P) (a : ℕ) where
   -- what is found where the canary stands
-  abbrev pub FindsCanary : Shape → Slabs → P → ℕ → Slot → Option ℕ → Type 0
-  FindsCanary p k pages a s found =
+  abbrev pub FindsCanary : Slot → Option ℕ → Type 0
+  FindsCanary s found =
       IsTrue (meaning.told pages) → IsHeld (meaning.runs pages) (a + usable p) 8
       → (last : List ℕ) × Reads (meaning.runs pages) (a + usable p) 8 last
       × (found ≡ other_number last (canary_at k.slabs s.slab))
 
-  pub record RefusesSize (p : Shape) (k : Slabs) (a : ℕ) (stated : Option ℕ) (block other : ℕ) : Type 0 where
-    pub slot : Slot
-    pub judged : Judges p k.slabs a (verdict.Live slot)
-    pub size : wrong_size p stated ≡ Some (block, other)
+  module _ (stated : Option ℕ) where
+    pub record RefusesCanary (kept found : ℕ) : Type 0 where
+      pub slot : Slot
+      pub judged : Judges p k.slabs a (verdict.Live slot)
+      pub size : wrong_size p stated ≡ None
+      pub own : has_bytes p ≡ true
+      pub kept_is : kept ≡ canary_at k.slabs slot.slab
+      pub canary : FindsCanary slot (Some found)
 
-  pub record RefusesCanary (p : Shape) (k : Slabs) (pages : P) (a : ℕ) (stated : Option ℕ)
-      (kept found : ℕ) : Type 0 where
-    pub slot : Slot
-    pub judged : Judges p k.slabs a (verdict.Live slot)
-    pub size : wrong_size p stated ≡ None
-    pub own : has_bytes p ≡ true
-    pub kept_is : kept ≡ canary_at k.slabs slot.slab
-    pub canary : FindsCanary p k pages a slot (Some found)
+    pub record Accepts (slot : Slot) : Type 0 where
+      pub judged : Judges p k.slabs a (verdict.Live slot)
+      pub size : wrong_size p stated ≡ None
+      pub canary : has_bytes p ≡ true → FindsCanary slot None
 
-  pub record Accepts (p : Shape) (k : Slabs) (pages : P) (a : ℕ) (stated : Option ℕ) (slot : Slot) : Type 0 where
-    pub judged : Judges p k.slabs a (verdict.Live slot)
-    pub size : wrong_size p stated ≡ None
-    pub canary : has_bytes p ≡ true → FindsCanary p k pages a slot None
+    abbrev pub Refusals : Outcome → Type 0
+    Refusals outcome.NoSlot = Refuses p k.slabs a refusal.NoSlot
+    Refusals outcome.Unused = Refuses p k.slabs a refusal.Unused
+    Refusals outcome.DoubleFree = Refuses p k.slabs a refusal.DoubleFree
+    Refusals (outcome.WrongSize block other) = RefusesSize p k a stated block other
+    Refusals (outcome.Canary kept found) = RefusesCanary kept found
+    Refusals other = ⊥
 
-  abbrev pub Refusals : Shape → Slabs → P → ℕ → Option ℕ → Outcome → Type 0
-  Refusals p k pages a stated outcome.NoSlot = Refuses p k.slabs a refusal.NoSlot
-  Refusals p k pages a stated outcome.Unused = Refuses p k.slabs a refusal.Unused
-  Refusals p k pages a stated outcome.DoubleFree = Refuses p k.slabs a refusal.DoubleFree
-  Refusals p k pages a stated (outcome.WrongSize block other) = RefusesSize p k a stated block other
-  Refusals p k pages a stated (outcome.Canary kept found) = RefusesCanary p k pages a stated kept found
-  Refusals p k pages a stated other = ⊥
-
-  abbrev pub Judgements : Shape → Slabs → P → ℕ → Option ℕ → Judgement → Type 0
-  Judgements p k pages a stated (Refused o) = Refusals p k pages a stated o
-  Judgements p k pages a stated (Accepted slot) = Accepts p k pages a stated slot
+    abbrev pub Judgements : Judgement → Type 0
+    Judgements (Refused o) = Refusals o
+    Judgements (Accepted slot) = Accepts slot
 
 -- a refusal is a reply of giving back
 abbrev pub RefusesWith : Judgement → Type 0

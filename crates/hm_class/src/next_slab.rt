@@ -94,8 +94,8 @@ pub fn find_slab<P: Pages>(
     requires apart { IsTrue (P.told pages.old) → (n : ℕ) → new_of slabs.old ≡ Some n
         → MeetsNone (P.runs pages.old) (slab_at shape.now n) shape.now.slab }
     ensures told { P.told pages.new ≡ P.told pages.old }
-    ensures found { IfOk result (λ next. Finds P.Pages shape.now slabs.old slabs.new pages.old pages.new stream.old
-        stream.new next) }
+    ensures found { IfOk result (λ next. Finds P.Pages slabs.old slabs.new pages.old pages.new stream.old stream.new
+        shape.now next) }
     ensures memory { OnErr result (Stays P.Pages slabs.old slabs.new pages.old pages.new stream.old stream.new) }
 {
     let slab = match slabs.source() {

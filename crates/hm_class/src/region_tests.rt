@@ -125,6 +125,11 @@ fn moved<P: Pages>(region: &ClassHeap<P>, at: usize) -> Option<Moved> {
     Some((choices.opened, choices.retired, choices.purged))
 }
 
+/// The slab that left its parking place in a call.
+fn unparked<P: Pages>(region: &ClassHeap<P>, at: usize) -> Option<Option<u64>> {
+    Some(region.entries().get(at)?.choices.unparked)
+}
+
 /// The address that left the quarantine in a call.
 fn released<P: Pages>(region: &ClassHeap<P>, at: usize) -> Option<u64> {
     region.entries().get(at)?.choices.released
@@ -294,6 +299,15 @@ fn refusal_of<P: Pages>(region: &mut ClassHeap<P>, addr: u64) -> Result<Refused,
     }
 }
 
+/// Why a freed block of run 0, an address within it and the first slot, which was never given, are refused.
+fn refusals<P: Pages>(region: &mut ClassHeap<P>) -> Result<(Refused, Refused, Refused), Fail> {
+    let block = one_block(region)?;
+    let again = refusal_of(region, block)?;
+    let inside = refusal_of(region, block.wrapping_add(8))?;
+    let unused = refusal_of(region, FIRST)?;
+    Ok((again, inside, unused))
+}
+
 #[test]
 fn first_block_of_run_zero(rt: HostRuntime) -> Result<(), Fail> {
     let alloc = rt.alloc();
@@ -347,11 +361,14 @@ fn another_size_is_stated(rt: HostRuntime) -> Result<(), Fail> {
 #[test]
 fn refused_frees(rt: HostRuntime) -> Result<(), Fail> {
     let alloc = rt.alloc();
-    let mut region = region(alloc, 7, 1, PlainPages::new(alloc))?;
-    let block = one_block(&mut region)?;
-    assert_eq!(rt; refusal_of(&mut region, block)?, Refused::DoubleFree);
-    assert_eq!(rt; refusal_of(&mut region, BLOCK + 8)?, Refused::NoSlot);
-    assert_eq!(rt; refusal_of(&mut region, FIRST)?, Refused::Unused);
+    let expected = (Refused::DoubleFree, Refused::NoSlot, Refused::Unused);
+    let mut plain = region(alloc, 7, 1, PlainPages::new(alloc))?;
+    assert_eq!(rt; refusals(&mut plain)?, expected, "plain pages");
+    let failing_pages = FailingPages::build(alloc, Vec::new(alloc));
+    let mut failing = region(alloc, 7, 1, failing_pages)?;
+    assert_eq!(rt; refusals(&mut failing)?, expected, "pages that may fail");
+    let mut silent = region(alloc, 7, 1, SilentPages::new(alloc))?;
+    assert_eq!(rt; refusals(&mut silent)?, expected, "pages that lend nothing");
     Ok(())
 }
 
@@ -389,10 +406,14 @@ fn second_empty_slab_is_retired(rt: HostRuntime) -> Result<(), Fail> {
     assert_eq!(rt; c, a);
     assert_eq!(rt; released(&region, 2), Some(a));
     assert_eq!(rt; released(&region, 3), Some(b));
+    assert_eq!(rt; moved(&region, 0), Some((Some(0), None, None)));
     assert_eq!(rt; moved(&region, 1), Some((Some(2), None, None)));
     assert_eq!(rt; moved(&region, 2), Some((None, None, None)));
     assert_eq!(rt; moved(&region, 3), Some((None, Some(2), None)));
+    assert_eq!(rt; moved(&region, 4), Some((None, None, None)));
     assert_eq!(rt; moved(&region, 5), Some((Some(4), None, None)));
+    assert_eq!(rt; unparked(&region, 2), Some(None));
+    assert_eq!(rt; unparked(&region, 3), Some(None));
     Ok(())
 }
 

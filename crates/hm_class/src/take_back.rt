@@ -122,7 +122,7 @@ fn retire<P: Pages>(
     requires run { has_bytes shape.now ≡ true → IsTrue (P.told pages.old)
         → IsRun (P.runs pages.old) (slab_at shape.now slab) shape.now.slab }
     ensures told { P.told pages.new ≡ P.told pages.old }
-    ensures retired { Retires P.Pages shape.now slab slabs.old slabs.new pages.old pages.new stream.old stream.new
+    ensures retired { Retires P.Pages slabs.old slabs.new pages.old pages.new stream.old stream.new shape.now slab
         result }
 {
     if !drop_slab(pages, shape, slab) {
@@ -160,7 +160,7 @@ fn release<P: Pages>(
     requires parking_some { 1 ≤ park_length }
     requires parking { length slabs.old.parking ≡ park_length }
     ensures told { P.told pages.new ≡ P.told pages.old }
-    ensures released { Releases P.Pages shape.now addr slabs.old slabs.new pages.old pages.new stream.old stream.new
+    ensures released { Releases P.Pages slabs.old slabs.new pages.old pages.new stream.old stream.new shape.now addr
         result }
 {
     let slot = slot_at(shape, addr);
@@ -186,7 +186,7 @@ pub fn settle<P: Pages>(
     requires parking_some { 1 ≤ park_length }
     requires parking { length slabs.old.parking ≡ park_length }
     ensures told { P.told pages.new ≡ P.told pages.old }
-    ensures settled { Settles P.Pages shape.now slabs.old slabs.new pages.old pages.new stream.old stream.new released
+    ensures settled { Settles P.Pages slabs.old slabs.new pages.old pages.new stream.old stream.new shape.now released
         result }
 {
     match released {

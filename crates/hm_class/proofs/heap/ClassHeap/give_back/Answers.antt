@@ -88,8 +88,8 @@ invariant_of-self-in-Accepted g c =
     let stream' = c.settle-emptied.new.stream in
     let f = c.faults-before.result in
     let f' = c.faults-now.result in
-    let settled : Settles g.P.Pages h.shape c.hold-released.new.slabs k' c.hold-released.new.pages now (array_stream h.shape h.stream) stream' released emptied =
-    subst (λ (x : Words). Settles g.P.Pages h.shape c.hold-released.new.slabs k' c.hold-released.new.pages now x stream' released emptied) c.hold-released.ensures.taken c.settle-emptied.ensures.settled in
+    let settled : Settles g.P.Pages c.hold-released.new.slabs k' c.hold-released.new.pages now (array_stream h.shape h.stream) stream' h.shape released emptied =
+    subst (λ (x : Words). Settles g.P.Pages c.hold-released.new.slabs k' c.hold-released.new.pages now x stream' h.shape released emptied) c.hold-released.ensures.taken c.settle-emptied.ensures.settled in
     let half_is : f ≡ g.P.Pages.faults c.hold-released.new.pages = c.faults-before.ensures ∙ sym c.hold-released.ensures.count in
     let later : f ≤ f' = omega (arith, half_is, c.faults-now.ensures, settled_later g.P.Pages h.shape c.hold-released.new.slabs k' c.hold-released.new.pages now (array_stream h.shape h.stream) stream' released emptied settled) in
     let x = entry_freed h.shape h.stream c.args.who c.args.addr c.args.stated released emptied f f' in
