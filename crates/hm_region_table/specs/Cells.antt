@@ -57,16 +57,6 @@ pub record IsPlaceFor (cells : Cells) (addr place : ℕ) : Type 0 where
   pub empty : Empty cells place
   pub full : (m r : ℕ) → m < far → IsOn (length cells) (home (length cells) addr) m r → Empty cells r → ⊥
 
--- the cells passed from a key's home on have other keys
-abbrev pub Passed : Cells → ℕ → ℕ → Type 0
-Passed cells addr far =
-    (m r : ℕ) → m < far → IsOn (length cells) (home (length cells) addr) m r
-    → (e : Entry) × At cells r e × (e.addr ≢ addr)
-
--- the cells passed from a key's home on are not empty
-abbrev pub Crossed : Cells → ℕ → ℕ → Type 0
-Crossed cells addr far = (m r : ℕ) → m < far → IsOn (length cells) (home (length cells) addr) m r → Empty cells r → ⊥
-
 -- the entries are those of old but for the one that stood at the place
 abbrev pub IsWithout : Cells → ℕ → Cells → Type 0
 IsWithout old gone cells =

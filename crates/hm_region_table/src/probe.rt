@@ -8,13 +8,16 @@ use crate::entry::Entry;
 /// with a common stride, as multiples of 4,096 or of a large alignment, have different homes.
 const SPREAD: u64 = 11400714819323198485;
 
+/// The bytes of a page.
+const PAGE: u64 = 4096;
+
 /// Where the search for a key begins.
 pub(crate) fn home(addr: u64, count: usize) -> usize
     requires { 0 < count }
     ensures value { result ≡ home count addr }
     ensures within { result < count }
 {
-    ((addr / 4096).wrapping_mul(SPREAD) / 4294967296 % count as u64) as usize
+    (((addr / PAGE).wrapping_mul(SPREAD) >> 32) % count as u64) as usize
 }
 
 /// The cell after this one, round the end.

@@ -112,13 +112,9 @@ impl RegionTable {
     pub fn get(&self, addr: u64) -> Option<Block>
         ensures { result ≡ map.get self.now.blocks addr }
     {
-        match find(&self.cells, addr) {
-            Some(place) => match self.cells[place] {
-                Some(entry) => Some(entry.block),
-                None => None,
-            },
-            None => None,
-        }
+        let place = find(&self.cells, addr)?;
+        let entry = self.cells[place]?;
+        Some(entry.block)
     }
 
     /// Takes out the block at the key. It takes no memory.
@@ -127,16 +123,10 @@ impl RegionTable {
         ensures blocks { self.new.blocks ≡ map.remove self.old.blocks addr }
         ensures spare { self.new.spare ≡ (if is_some result then self.old.spare + 1 else self.old.spare) }
     {
-        match find(&self.cells, addr) {
-            Some(place) => match self.cells[place] {
-                Some(entry) => {
-                    take_out(&mut self.cells, place);
-                    self.used -= 1;
-                    Some(entry.block)
-                }
-                None => None,
-            },
-            None => None,
-        }
+        let place = find(&self.cells, addr)?;
+        let entry = self.cells[place]?;
+        take_out(&mut self.cells, place);
+        self.used -= 1;
+        Some(entry.block)
     }
 }

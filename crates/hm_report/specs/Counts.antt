@@ -1,11 +1,9 @@
 -- What the summary counts as it goes over the results once.
-use Rattle.std.specs.Prelude.{ℕ, ◌+◌, if◌then◌else◌, List, ◌∷◌, ◌++◌, codes}
-use Rattle.std.specs.Fmt.{decimal}
-use Rattle.hm_report.specs.Summary.{is_same, count, end_text}
+use Rattle.std.specs.Prelude.{ℕ, ◌+◌, if◌then◌else◌}
+use Rattle.hm_report.specs.Summary.{is_same}
 use Rattle.hm_report.specs.declared.counts.Kind.{Kind}
 use Rattle.hm_report.specs.declared.counts.Kind.TheVariants.{Given, Written, Size, Bytes, Freed, Skipped, Other}
 use Rattle.hm_report.specs.declared.counts.Counts.{Counts}
-use Rattle.hm_report.specs.declared.results.Results.{Results}
 
 -- the count of this kind
 abbrev pub count_of : Counts ℕ → Kind → ℕ
@@ -46,32 +44,3 @@ sum_of a b =
       skipped = a.skipped + b.skipped;
       other = a.other + b.other;
     }
-
--- the counts of the results of all scripts
-abbrev pub counts_of : List Results → Counts ℕ
-counts_of results =
-    record {
-      given = count Given results;
-      written = count Written results;
-      size = count Size results;
-      bytes = count Bytes results;
-      freed = count Freed results;
-      skipped = count Skipped results;
-      other = count Other results;
-    }
-
--- a word, and a number
-abbrev pub number_text : List ℕ → ℕ → List ℕ
-number_text word number = 32 ∷ word ++ 32 ∷ decimal number
-
--- the line of these counts
-abbrev pub counts_line : ℕ → ℕ → Counts ℕ → List ℕ
-counts_line number steps counts =
-    (codes "stress " ++ decimal number ++ codes ": steps " ++ decimal steps)
-    ++ number_text (codes "given") counts.given
-    ++ number_text (codes "written") counts.written
-    ++ number_text (codes "size") counts.size
-    ++ number_text (codes "bytes") counts.bytes
-    ++ number_text (codes "freed") counts.freed
-    ++ number_text (codes "skipped") counts.skipped
-    ++ end_text counts.other

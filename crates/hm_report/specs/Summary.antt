@@ -8,6 +8,7 @@ use Rattle.hm_model.specs.declared.answer.Answer.{Answer}
 use Rattle.hm_model.specs.declared.answer.Answer.TheVariants.{Reply as Replied}
 use Rattle.hm_report.specs.declared.counts.Kind.{Kind}
 use Rattle.hm_report.specs.declared.counts.Kind.TheVariants.{Given, Written, Size, Bytes, Freed, Skipped, Other}
+use Rattle.hm_report.specs.declared.counts.Counts.{Counts}
 use Rattle.hm_report.specs.declared.results.StepResult.{StepResult}
 use Rattle.hm_report.specs.declared.results.Results.{Results}
 
@@ -54,26 +55,39 @@ count kind results = sum_by (λ script. count_in kind script) results
 abbrev pub step_count : List Results → ℕ
 step_count results = sum_by (λ (script : Results). length script.items) results
 
--- how many steps the run of this number made
-abbrev pub steps_text : ℕ → List Results → List ℕ
-steps_text number results = codes "stress " ++ decimal number ++ codes ": steps " ++ decimal (step_count results)
+-- how many results of all scripts there are of each kind
+abbrev pub counts_of : List Results → Counts ℕ
+counts_of results =
+    record {
+      given = count Given results;
+      written = count Written results;
+      size = count Size results;
+      bytes = count Bytes results;
+      freed = count Freed results;
+      skipped = count Skipped results;
+      other = count Other results;
+    }
 
--- a word, and how many results are of the kind that it stands for
-abbrev pub count_text : List ℕ → Kind → List Results → List ℕ
-count_text word kind results = 32 ∷ word ++ 32 ∷ decimal (count kind results)
+-- a word, and a number
+abbrev pub number_text : List ℕ → ℕ → List ℕ
+number_text word number = 32 ∷ word ++ 32 ∷ decimal number
 
 -- the end of the line names the others only where there are any
 abbrev pub end_text : ℕ → List ℕ
 end_text others = if others == 0 then 10 ∷ [] else codes " other " ++ decimal others ++ 10 ∷ []
 
--- one line
+-- the line of the run of this number: its steps, and these counts
+abbrev pub counts_line : ℕ → ℕ → Counts ℕ → List ℕ
+counts_line number steps counts =
+    (codes "stress " ++ decimal number ++ codes ": steps " ++ decimal steps)
+    ++ number_text (codes "given") counts.given
+    ++ number_text (codes "written") counts.written
+    ++ number_text (codes "size") counts.size
+    ++ number_text (codes "bytes") counts.bytes
+    ++ number_text (codes "freed") counts.freed
+    ++ number_text (codes "skipped") counts.skipped
+    ++ end_text counts.other
+
+-- the one line of the run of this number
 abbrev pub summary_text : ℕ → List Results → List ℕ
-summary_text number results =
-    steps_text number results
-    ++ count_text (codes "given") Given results
-    ++ count_text (codes "written") Written results
-    ++ count_text (codes "size") Size results
-    ++ count_text (codes "bytes") Bytes results
-    ++ count_text (codes "freed") Freed results
-    ++ count_text (codes "skipped") Skipped results
-    ++ end_text (count Other results)
+summary_text number results = counts_line number (step_count results) (counts_of results)

@@ -2,8 +2,8 @@
 ghost use Rattle.std.specs.Prelude.{◌≡◌, ◌+◌, ◌-◌, ◌*◌, ◌^◌, ◌<◌, ◌≤◌, ◌++◌, length, count_by, IfOk, OnOk, string_bytes};
 ghost use Rattle.hm_report.specs.declared.counts.Kind.{Kind};
 ghost use Rattle.hm_report.specs.Findings.{has_finding};
-ghost use Rattle.hm_report.specs.Summary.{reply_kind, kind_of, is_of, step_count, end_text, summary_text};
-ghost use Rattle.hm_report.specs.Counts.{count_of, one_if, with_one_more, sum_of, counts_of, number_text, counts_line};
+ghost use Rattle.hm_report.specs.Summary.{reply_kind, kind_of, is_of, step_count, counts_of, number_text, end_text, counts_line, summary_text};
+ghost use Rattle.hm_report.specs.Counts.{count_of, one_if, with_one_more, sum_of};
 
 use crate::{Results, StepResult, has_finding};
 use hm_model::{Answer, Reply};

@@ -249,15 +249,9 @@ fn results_of(
     })
 }
 
-#[test]
-fn summaries(rt: HostRuntime) -> Result<(), Fail> {
-    let alloc = rt.alloc();
-    let none = b"stress 0: steps 0 given 0 written 0 size 0 bytes 0 freed 0 skipped 0\n";
-    assert_eq!(rt;
-        summary(&rt, alloc, 0, &[])?.text.as_slice(),
-        none.as_slice()
-    );
-
+/// Three scripts: each kind of result that has a word, more of one of them and steps that were skipped, and results
+/// that no word counts.
+fn three_scripts(alloc: Global) -> Result<Vec<Results>, Fail> {
     let bytes = Runs::from_pairs(vec![in alloc; (0x41, 1)]?).ok_or("no runs")?;
     let first = vec![in alloc;
         Some(Answer::Reply(Reply::Given {
@@ -282,17 +276,40 @@ fn summaries(rt: HostRuntime) -> Result<(), Fail> {
     let mut results = Vec::new(alloc);
     results.push(results_of(alloc, 1, first)?)?;
     results.push(results_of(alloc, 2, second)?)?;
-    let text =
-        b"stress 18446744073709551615: steps 9 given 1 written 1 size 1 bytes 1 freed 2 skipped 3\n";
-    assert_eq!(rt;
-        summary(&rt, alloc, u64::MAX, &results)?.text.as_slice(),
-        text.as_slice()
-    );
-
     results.push(results_of(alloc, 3, third)?)?;
-    let text = b"stress 7: steps 13 given 1 written 1 size 1 bytes 1 freed 2 skipped 3 other 4\n";
-    let summed = summary(&rt, alloc, 7, &results)?;
-    assert!(rt; summed.found);
-    assert_eq!(rt; summed.text.as_slice(), text.as_slice());
+    Ok(results)
+}
+
+/// A run's number, how many of the three scripts it has, its summary, and whether an answer in it is a finding.
+const SUMMARIES: [(u64, usize, &str, bool); 3] = [
+    (
+        0,
+        0,
+        "stress 0: steps 0 given 0 written 0 size 0 bytes 0 freed 0 skipped 0\n",
+        false,
+    ),
+    (
+        u64::MAX,
+        2,
+        "stress 18446744073709551615: steps 9 given 1 written 1 size 1 bytes 1 freed 2 skipped 3\n",
+        false,
+    ),
+    (
+        7,
+        3,
+        "stress 7: steps 13 given 1 written 1 size 1 bytes 1 freed 2 skipped 3 other 4\n",
+        true,
+    ),
+];
+
+#[test]
+fn summaries(rt: HostRuntime) -> Result<(), Fail> {
+    let results = three_scripts(rt.alloc())?;
+    for (number, scripts, text, found) in SUMMARIES {
+        let results = results.get(..scripts).ok_or("no such scripts")?;
+        let summed = summary(&rt, rt.alloc(), number, results)?;
+        assert_eq!(rt; summed.text.as_slice(), text.as_bytes(), "{text}");
+        assert_eq!(rt; summed.found, found, "{text}");
+    }
     Ok(())
 }

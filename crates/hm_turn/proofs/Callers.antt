@@ -1,11 +1,11 @@
 -- Splitting, joining and closing keep the rule.
-use Rattle.std.proofs.Common.{◌≡◌, ◌≢◌, ℕ, ◌<◌, ◌≤◌, Bool, true, false, eqb, ◌||◌, cond, ◌⊎◌, List, [], ◌∷◌, ◌++◌, length, set, sym, refl, ap, ◌∙◌, subst, inl, inr, ⊎_elim, arith, Option, None, Some, eq-eqb, ne_eqb}
+use Rattle.std.proofs.Common.{◌≡◌, ◌≢◌, ℕ, ◌<◌, ◌≤◌, Bool, true, false, eqb, cond, ◌⊎◌, List, [], ◌∷◌, ◌++◌, length, set, sym, refl, ap, ◌∙◌, subst, inl, inr, ⊎_elim, arith, Option, None, Some, eq-eqb, ne_eqb}
+use Rattle.std.proofs.lemmas.Bool.{both_ways, ltb-true, ltb-false, false_from_ne_true, or_right, or_parts}
 use lib.Dec.{ltb}
 use mathlib.Core.Option.{Option as Place, some}
 use mathlib.Core.Logic.{dite}
 use native.Mathlib.Decide.{ℕ_discrete}
 use lib.ListN.{get_elem?}
-use borrow.Author.Tests.{ltb-true, ltb-false}
 use Rattle.atomic_table.specs.Table.{State, Splits, Joins, Final, Seen}
 use Rattle.atomic_table.proofs.Lists.{at_set, set_else, at_longer}
 use Rattle.hm_model.specs.declared.entry.Entry.{Entry}
@@ -17,21 +17,13 @@ use Rattle.hm_turn.specs.Rule.{At, Fits, IsHome, IsOut, Orderly}
 use Rattle.hm_turn.specs.Knowledge.{Knowledge}
 use Rattle.hm_turn.specs.Views.{knowledge, view_in, splitting, entering, joining, spent}
 use Rattle.hm_turn.specs.Known.{IsWhole}
-use Rattle.hm_turn.proofs.Views.{set_at, one_at, at_snoc, not_true, apart_bools, backwards, forwards}
+use Rattle.hm_turn.proofs.Views.{set_at, one_at, at_snoc, backwards, forwards}
 use Rattle.hm_turn.proofs.Queues.{queue_kept, queue_spent, queue_snoc}
 use Rattle.hm_turn.proofs.Numbers.{without, in_without, in_before, length-without, gone_without, distinct-without}
 
 at_end : {A : Type 0} (l : List A) (a : A) → get_elem? (l ++ a ∷ []) (length l) ≡ some a
 at_end [] a = refl
 at_end (x ∷ xs) a = at_end xs a
-
-or_true : (a b : Bool) → b ≡ true → (a || b) ≡ true
-or_true true b h = refl
-or_true false b h = h
-
-or_none : (a b : Bool) → (a || b) ≡ false → b ≡ false
-or_none true b h = absurd (apart_bools true refl h)
-or_none false b h = h
 
 in_first : (c : ℕ) (xs : List ℕ) → is_among c (c ∷ xs) ≡ true
 in_first c xs = rw (eq-eqb c c refl) refl
@@ -79,7 +71,7 @@ module _ {T : Type 0} (entries : T → List Entry) (origin_of : T → List ℕ) 
   place_stays : (serving : ℕ) (history : List Entry) (s : St) (views' : List View) → ((j : ℕ) (u : View) → At views' j u → u.holds ≡ true → At s.views j u)
       → ((j : ℕ) (u : View) → At s.views j u → u.holds ≡ true → At views' j u) → Where serving history s → Where serving history record { words = s.words; homes = s.homes; views = views' }
   place_stays serving history s views' there back place = ⊎_elim
-      (λ (h : IsHome entries origin_of origin history s). inl record { value = h.value; homes = h.homes; entries_are = h.entries_are; origin_is = h.origin_is; none_holds = λ j u p. not_true u.holds (λ q. apart_bools u.holds q (h.none_holds j u (there j u p q))) })
+      (λ (h : IsHome entries origin_of origin history s). inl record { value = h.value; homes = h.homes; entries_are = h.entries_are; origin_is = h.origin_is; none_holds = λ j u p. false_from_ne_true u.holds (λ q. both_ways u.holds (h.none_holds j u (there j u p q)) q) })
       (λ (o : IsOut entries origin_of serving history s). inr record { holder = o.holder; view = o.view; homes = o.homes; at_holder = back o.holder o.view o.at_holder o.holds; holds = o.holds; served = o.served; holder_live = o.holder_live; knows = o.knows; only = λ j u p q. o.only j u (there j u p q) q })
       place
 
@@ -91,7 +83,7 @@ module _ {T : Type 0} (entries : T → List Entry) (origin_of : T → List ℕ) 
       let strange : calls_by c r.history ≡ [] = k.calls.strangers c pos (ap (is_among c) used_is ∙ fresh) in
       let old : (j : ℕ) (u : View) → At mid j u → u.spent ≡ false → (x : View) × At s.views j x × (x.spent ≡ false) × (x.caller ≡ u.caller) = backwards s.views id v left at lives refl in
       let not_used : (u : View) (j : ℕ) → At mid j u → u.spent ≡ false → u.caller ≢ c = λ u j p lu e. let x = old j u p lu in ⊎_elim (λ (z : x.0.caller ≡ 0). pos (sym e ∙ (sym x.3 ∙ z)))
-      (λ (z : is_among x.0.caller k.outs ≡ true). apart_bools (is_among c v.used) (ap (λ (m : ℕ). is_among m v.used) (sym e) ∙ (ap (λ (m : ℕ). is_among m v.used) (sym x.3) ∙ (ap (is_among x.0.caller) (sym used_is) ∙ k.calls.out_used x.0.caller z))) fresh) (k.seats.live j x.0 x.1 x.2) in
+      (λ (z : is_among x.0.caller k.outs ≡ true). both_ways (is_among c v.used) fresh (ap (λ (m : ℕ). is_among m v.used) (sym e) ∙ (ap (λ (m : ℕ). is_among m v.used) (sym x.3) ∙ (ap (is_among x.0.caller) (sym used_is) ∙ k.calls.out_used x.0.caller z)))) (k.seats.live j x.0 x.1 x.2) in
       let fits = r.each id v at lives in record {
         history = r.history;
         ticket = r.ticket;
@@ -99,9 +91,9 @@ module _ {T : Type 0} (entries : T → List Entry) (origin_of : T → List ℕ) 
         words = r.words;
         queue = queue_snoc r.ticket r.serving mid right (queue_kept r.ticket r.serving s.views id v left r.queue at refl (λ n q. r.queue.noted id v n at q)) refl refl;
         place = place_stays r.serving r.history s vs
-            (λ j u p q. ⊎_elim (λ (t : At mid j u). ⊎_elim (λ (w : (j ≡ id) × (left ≡ u)). absurd (apart_bools u.holds q (ap (λ (z : View). z.holds) (sym w.1) ∙ rests))) (λ (w : (j ≢ id) × At s.views j u). w.1) (at_set s.views id j left u t))
-            (λ (t : (j ≡ length mid) × (right ≡ u)). absurd (apart_bools u.holds q (ap (λ (z : View). z.holds) (sym t.1)))) (at_snoc mid right u j p))
-            (λ j u p q. at_longer mid (right ∷ []) j u (set_else s.views id j left (λ e. apart_bools u.holds q (ap (λ (z : View). z.holds) (one_at s.views id u v (ap (get_elem? s.views) (sym e) ∙ p) at) ∙ rests)) ∙ p))
+            (λ j u p q. ⊎_elim (λ (t : At mid j u). ⊎_elim (λ (w : (j ≡ id) × (left ≡ u)). absurd (both_ways u.holds (ap (λ (z : View). z.holds) (sym w.1) ∙ rests) q)) (λ (w : (j ≢ id) × At s.views j u). w.1) (at_set s.views id j left u t))
+            (λ (t : (j ≡ length mid) × (right ≡ u)). absurd (both_ways u.holds (ap (λ (z : View). z.holds) (sym t.1)) q)) (at_snoc mid right u j p))
+            (λ j u p q. at_longer mid (right ∷ []) j u (set_else s.views id j left (λ e. both_ways u.holds (ap (λ (z : View). z.holds) (one_at s.views id u v (ap (get_elem? s.views) (sym e) ∙ p) at) ∙ rests) q) ∙ p))
             r.place;
         each = λ j u p lu. ⊎_elim (λ (t : At mid j u). ⊎_elim (λ (w : (j ≡ id) × (left ≡ u)). subst (Fits origin r.history) w.1 record { origin_is = fits.origin_is; begins = fits.begins; own_seen = fits.own_seen; own_all = fits.own_all }) (λ (w : (j ≢ id) × At s.views j u). r.each j u w.1 lu) (at_set s.views id j left u t))
             (λ (t : (j ≡ length mid) × (right ≡ u)). subst (Fits origin r.history) t.1 record { origin_is = fits.origin_is; begins = fits.begins; own_seen = calls_by_begun c r.history v.seen fits.begins strange; own_all = strange }) (at_snoc mid right u j p);
@@ -114,26 +106,26 @@ module _ {T : Type 0} (entries : T → List Entry) (origin_of : T → List ℕ) 
             root_live = lives;
             root_zero = zero_is;
             counted = let n = k.seats.counted in let m = ap (λ (z : View). z.out) chief_is in omega arith;
-            distinct = (not_true (is_among c k.outs) (λ p. apart_bools (is_among c v.used) (ap (is_among c) (sym used_is) ∙ k.calls.out_used c p) fresh), k.seats.distinct);
+            distinct = (false_from_ne_true (is_among c k.outs) (λ p. both_ways (is_among c v.used) fresh (ap (is_among c) (sym used_is) ∙ k.calls.out_used c p)), k.seats.distinct);
             apart = λ i j a b p q la lb e. ⊎_elim
                 (λ (x : At mid i a). ⊎_elim (λ (y : At mid j b). let a' = old i a x la in let b' = old j b y lb in k.seats.apart i j a'.0 b'.0 a'.1 b'.1 a'.2 b'.2 (a'.3 ∙ (e ∙ sym b'.3)))
                 (λ (y : (j ≡ length mid) × (right ≡ b)). absurd (not_used a i x la (e ∙ ap (λ (z : View). z.caller) (sym y.1)))) (at_snoc mid right b j q))
                 (λ (x : (i ≡ length mid) × (right ≡ a)). ⊎_elim (λ (y : At mid j b). absurd (not_used b j y lb (sym e ∙ ap (λ (z : View). z.caller) (sym x.1)))) (λ (y : (j ≡ length mid) × (right ≡ b)). x.0 ∙ sym y.0) (at_snoc mid right b j q))
                 (at_snoc mid right a i p);
-            live = λ j u p lu. ⊎_elim (λ (t : At mid j u). let x = old j u t lu in ⊎_elim (λ (z : x.0.caller ≡ 0). inl (sym x.3 ∙ z)) (λ (z : is_among x.0.caller k.outs ≡ true). inr (or_true (eqb u.caller c) (is_among u.caller k.outs) (ap (λ (m : ℕ). is_among m k.outs) (sym x.3) ∙ z))) (k.seats.live j x.0 x.1 x.2))
+            live = λ j u p lu. ⊎_elim (λ (t : At mid j u). let x = old j u t lu in ⊎_elim (λ (z : x.0.caller ≡ 0). inl (sym x.3 ∙ z)) (λ (z : is_among x.0.caller k.outs ≡ true). inr (or_right (eqb u.caller c) (is_among u.caller k.outs) (ap (λ (m : ℕ). is_among m k.outs) (sym x.3) ∙ z))) (k.seats.live j x.0 x.1 x.2))
                 (λ (t : (j ≡ length mid) × (right ≡ u)). inr (subst (λ (m : ℕ). is_among m (c ∷ k.outs) ≡ true) (ap (λ (z : View). z.caller) t.1) (in_first c k.outs))) (at_snoc mid right u j p);
             present = λ x h. ⊎_elim (λ (e : x ≡ c). (length mid, right, at_end mid right, refl, sym e))
                 (λ (t : is_among x k.outs ≡ true). let p = k.seats.present x t in let f = forwards s.views id v left at lives refl p.0 p.1 p.2 p.3 in (p.0, f.0, at_longer mid (right ∷ []) p.0 f.0 f.1, f.2, f.3 ∙ p.4)) (in_cases x c k.outs h);
           };
           calls = record {
             gone = λ j u p lu. ⊎_elim (λ (t : At mid j u). let x = old j u t lu in ap (ended_of u.caller) (sym ended_is) ∙ (ap (λ (m : ℕ). ended_of m k.chief.ended) (sym x.3) ∙ k.calls.gone j x.0 x.1 x.2))
-                (λ (t : (j ≡ length mid) × (right ≡ u)). subst (λ (m : ℕ). ended_of m v.ended ≡ None) (ap (λ (z : View). z.caller) t.1) (never_ended (ended_of c v.ended) (λ calls h. apart_bools (is_among c v.used) (ap (is_among c) (sym used_is) ∙ k.calls.ended_used c calls (ap (ended_of c) ended_is ∙ h)) fresh))) (at_snoc mid right u j p);
-            out_used = λ x h. ⊎_elim (λ (e : x ≡ c). subst (λ (m : ℕ). is_among m (c ∷ v.used) ≡ true) (sym e) (in_first c v.used)) (λ (t : is_among x k.outs ≡ true). or_true (eqb x c) (is_among x v.used) (ap (is_among x) (sym used_is) ∙ k.calls.out_used x t)) (in_cases x c k.outs h);
+                (λ (t : (j ≡ length mid) × (right ≡ u)). subst (λ (m : ℕ). ended_of m v.ended ≡ None) (ap (λ (z : View). z.caller) t.1) (never_ended (ended_of c v.ended) (λ calls h. both_ways (is_among c v.used) fresh (ap (is_among c) (sym used_is) ∙ k.calls.ended_used c calls (ap (ended_of c) ended_is ∙ h))))) (at_snoc mid right u j p);
+            out_used = λ x h. ⊎_elim (λ (e : x ≡ c). subst (λ (m : ℕ). is_among m (c ∷ v.used) ≡ true) (sym e) (in_first c v.used)) (λ (t : is_among x k.outs ≡ true). or_right (eqb x c) (is_among x v.used) (ap (is_among x) (sym used_is) ∙ k.calls.out_used x t)) (in_cases x c k.outs h);
             used_are = λ x h. ⊎_elim (λ (e : x ≡ c). inl (subst (λ (m : ℕ). is_among m (c ∷ k.outs) ≡ true) (sym e) (in_first c k.outs)))
-                (λ (t : is_among x v.used ≡ true). ⊎_elim (λ (z : is_among x k.outs ≡ true). inl (or_true (eqb x c) (is_among x k.outs) z)) (λ (z : (calls : List Entry) × (ended_of x k.chief.ended ≡ Some calls)). inr (z.0, ap (ended_of x) (sym ended_is) ∙ z.1)) (k.calls.used_are x (ap (is_among x) used_is ∙ t))) (in_cases x c v.used h);
-            ended_used = λ x calls h. or_true (eqb x c) (is_among x v.used) (ap (is_among x) (sym used_is) ∙ k.calls.ended_used x calls (ap (ended_of x) ended_is ∙ h));
+                (λ (t : is_among x v.used ≡ true). ⊎_elim (λ (z : is_among x k.outs ≡ true). inl (or_right (eqb x c) (is_among x k.outs) z)) (λ (z : (calls : List Entry) × (ended_of x k.chief.ended ≡ Some calls)). inr (z.0, ap (ended_of x) (sym ended_is) ∙ z.1)) (k.calls.used_are x (ap (is_among x) used_is ∙ t))) (in_cases x c v.used h);
+            ended_used = λ x calls h. or_right (eqb x c) (is_among x v.used) (ap (is_among x) (sym used_is) ∙ k.calls.ended_used x calls (ap (ended_of x) ended_is ∙ h));
             ended_are = λ x calls h. let t = k.calls.ended_are x calls (ap (ended_of x) ended_is ∙ h) in (ap (λ (z : View). calls_by x z.seen) (sym chief_is) ∙ t.0, t.1);
-            strangers = λ x n h. k.calls.strangers x n (ap (is_among x) used_is ∙ or_none (eqb x c) (is_among x v.used) h);
+            strangers = λ x n h. k.calls.strangers x n (ap (is_among x) used_is ∙ (or_parts (eqb x c) (is_among x v.used) h).1);
           };
         };
       }
@@ -146,7 +138,7 @@ module _ {T : Type 0} (entries : T → List Entry) (origin_of : T → List ℕ) 
       let at_other : At s.views other w = sym (set_else s.views id other both other_one) ∙ there in
       let w_out : is_among w.caller k.outs ≡ true = ⊎_elim (λ (z : w.caller ≡ 0). absurd (other_one (k.seats.apart other id w v at_other at livew lives (z ∙ sym zero_is)))) (λ (z : is_among w.caller k.outs ≡ true). z) (k.seats.live other w at_other livew) in
       let old : (j : ℕ) (u : View) → At vs j u → u.spent ≡ false → (x : View) × At s.views j x × (x.spent ≡ false) × (x.caller ≡ u.caller) × (u.caller ≢ w.caller) = λ j u p lu.
-      ⊎_elim (λ (t : (j ≡ other) × (spent ≡ u)). absurd (apart_bools u.spent (ap (λ (z : View). z.spent) (sym t.1)) lu))
+      ⊎_elim (λ (t : (j ≡ other) × (spent ≡ u)). absurd (both_ways u.spent lu (ap (λ (z : View). z.spent) (sym t.1))))
       (λ (t : (j ≢ other) × At mid j u). let x = backwards s.views id v both at lives refl j u t.1 lu in (x.0, x.1, x.2, x.3, λ e. t.0 (k.seats.apart j other x.0 w x.1 at_other x.2 livew (x.3 ∙ e)))) (at_set mid other j spent u p) in
       let fv = r.each id v at lives in let fw = r.each other w at_other livew in record {
         history = r.history;
@@ -155,12 +147,12 @@ module _ {T : Type 0} (entries : T → List Entry) (origin_of : T → List ℕ) 
         words = r.words;
         queue = queue_spent r.ticket r.serving mid other w spent (queue_kept r.ticket r.serving s.views id v both r.queue at refl (λ n q. r.queue.noted id v n at q)) there no_ticket refl refl;
         place = place_stays r.serving r.history s vs
-            (λ j u p q. ⊎_elim (λ (t : (j ≡ other) × (spent ≡ u)). absurd (apart_bools u.holds q (ap (λ (z : View). z.holds) (sym t.1))))
-            (λ (t : (j ≢ other) × At mid j u). ⊎_elim (λ (x : (j ≡ id) × (both ≡ u)). absurd (apart_bools u.holds q (ap (λ (z : View). z.holds) (sym x.1) ∙ rests))) (λ (x : (j ≢ id) × At s.views j u). x.1) (at_set s.views id j both u t.1)) (at_set mid other j spent u p))
-            (λ j u p q. set_else mid other j spent (λ e. apart_bools u.holds q (ap (λ (z : View). z.holds) (one_at s.views other u w (ap (get_elem? s.views) (sym e) ∙ p) at_other) ∙ restw))
-            ∙ (set_else s.views id j both (λ e. apart_bools u.holds q (ap (λ (z : View). z.holds) (one_at s.views id u v (ap (get_elem? s.views) (sym e) ∙ p) at) ∙ rests)) ∙ p))
+            (λ j u p q. ⊎_elim (λ (t : (j ≡ other) × (spent ≡ u)). absurd (both_ways u.holds (ap (λ (z : View). z.holds) (sym t.1)) q))
+            (λ (t : (j ≢ other) × At mid j u). ⊎_elim (λ (x : (j ≡ id) × (both ≡ u)). absurd (both_ways u.holds (ap (λ (z : View). z.holds) (sym x.1) ∙ rests) q)) (λ (x : (j ≢ id) × At s.views j u). x.1) (at_set s.views id j both u t.1)) (at_set mid other j spent u p))
+            (λ j u p q. set_else mid other j spent (λ e. both_ways u.holds (ap (λ (z : View). z.holds) (one_at s.views other u w (ap (get_elem? s.views) (sym e) ∙ p) at_other) ∙ restw) q)
+            ∙ (set_else s.views id j both (λ e. both_ways u.holds (ap (λ (z : View). z.holds) (one_at s.views id u v (ap (get_elem? s.views) (sym e) ∙ p) at) ∙ rests) q) ∙ p))
             r.place;
-        each = λ j u p lu. ⊎_elim (λ (t : (j ≡ other) × (spent ≡ u)). absurd (apart_bools u.spent (ap (λ (z : View). z.spent) (sym t.1)) lu))
+        each = λ j u p lu. ⊎_elim (λ (t : (j ≡ other) × (spent ≡ u)). absurd (both_ways u.spent lu (ap (λ (z : View). z.spent) (sym t.1))))
             (λ (t : (j ≢ other) × At mid j u). ⊎_elim (λ (x : (j ≡ id) × (both ≡ u)). subst (Fits origin r.history) x.1 record {
               origin_is = fv.origin_is;
               begins = longer_cases (StartsWith r.history) v.seen w.seen (λ _. fw.begins) (λ _. fv.begins);
@@ -179,7 +171,7 @@ module _ {T : Type 0} (entries : T → List Entry) (origin_of : T → List ℕ) 
             distinct = distinct-without w.caller k.outs k.seats.distinct;
             apart = λ i j a b p q la lb e. let x = old i a p la in let y = old j b q lb in k.seats.apart i j x.0 y.0 x.1 y.1 x.2 y.2 (x.3 ∙ (e ∙ sym y.3));
             live = λ j u p lu. let x = old j u p lu in ⊎_elim (λ (z : x.0.caller ≡ 0). inl (sym x.3 ∙ z)) (λ (z : is_among x.0.caller k.outs ≡ true). inr (in_without u.caller w.caller k.outs x.4 (ap (λ (m : ℕ). is_among m k.outs) (sym x.3) ∙ z))) (k.seats.live j x.0 x.1 x.2);
-            present = λ c h. let n : c ≢ w.caller = λ e. apart_bools (is_among c (without w.caller k.outs)) h (ap (λ (m : ℕ). is_among m (without w.caller k.outs)) e ∙ gone_without w.caller k.outs k.seats.distinct) in
+            present = λ c h. let n : c ≢ w.caller = λ e. both_ways (is_among c (without w.caller k.outs)) (ap (λ (m : ℕ). is_among m (without w.caller k.outs)) e ∙ gone_without w.caller k.outs k.seats.distinct) h in
                 let p = k.seats.present c (in_before c w.caller k.outs h) in let f = forwards s.views id v both at lives refl p.0 p.1 p.2 p.3 in
                 (p.0, f.0, set_else mid other p.0 spent (λ e. n (sym p.4 ∙ ap (λ (z : View). z.caller) (one_at s.views other p.1 w (ap (get_elem? s.views) (sym e) ∙ p.2) at_other))) ∙ f.1, f.2, f.3 ∙ p.4);
           };
@@ -218,13 +210,13 @@ module _ {T : Type 0} (entries : T → List Entry) (origin_of : T → List ℕ) 
         begins = fits.begins;
         own = ap (λ (c : ℕ). calls_by c r.history) (sym zero_is) ∙ fits.own_all;
         of_ended = λ c calls h. (k.calls.ended_are c calls (ap (ended_of c) ended_is ∙ h)).1;
-        of_others = λ c n h. k.calls.strangers c n (not_true (is_among c k.chief.used) (λ u. ⊎_elim (λ (z : is_among c k.outs ≡ true). apart_bools (is_among c []) (ap (is_among c) (sym none_out) ∙ z) refl)
+        of_others = λ c n h. k.calls.strangers c n (false_from_ne_true (is_among c k.chief.used) (λ u. ⊎_elim (λ (z : is_among c k.outs ≡ true). both_ways (is_among c []) refl (ap (is_among c) (sym none_out) ∙ z))
             (λ (z : (calls : List Entry) × (ended_of c k.chief.ended ≡ Some calls)). let q : Some z.0 ≡ None = sym z.1 ∙ (ap (ended_of c) ended_is ∙ h) in absurd (cc)) (k.calls.used_are c u)));
       } in
       ⊎_elim (λ (h : IsHome entries origin_of origin r.history s). record { value = h.value; homes = h.homes; origin_is = h.origin_is; whole = subst (λ (l : List Entry). IsWhole l (knowledge v)) (sym h.entries_are) whole })
       (λ (o : IsOut entries origin_of r.serving r.history s). absurd (⊎_elim
-      (λ (z : o.view.caller ≡ 0). let e = k.seats.apart o.holder id o.view v o.at_holder at o.holder_live lives (z ∙ sym zero_is) in apart_bools v.holds (ap (λ (u : View). u.holds) (sym (one_at s.views id o.view v (ap (get_elem? s.views) (sym e) ∙ o.at_holder) at)) ∙ o.holds) rests)
-      (λ (z : is_among o.view.caller k.outs ≡ true). apart_bools (is_among o.view.caller []) (ap (is_among o.view.caller) (sym none_out) ∙ z) refl) (k.seats.live o.holder o.view o.at_holder o.holder_live)))
+      (λ (z : o.view.caller ≡ 0). let e = k.seats.apart o.holder id o.view v o.at_holder at o.holder_live lives (z ∙ sym zero_is) in both_ways v.holds rests (ap (λ (u : View). u.holds) (sym (one_at s.views id o.view v (ap (get_elem? s.views) (sym e) ∙ o.at_holder) at)) ∙ o.holds))
+      (λ (z : is_among o.view.caller k.outs ≡ true). both_ways (is_among o.view.caller []) refl (ap (is_among o.view.caller) (sym none_out) ∙ z)) (k.seats.live o.holder o.view o.at_holder o.holder_live)))
       r.place
 
   -- what is found in a closed table by the turn of caller 0, which knew k

@@ -1,5 +1,6 @@
 -- Each step keeps the rule.
 use Rattle.std.proofs.Common.{◌≡◌, ◌≢◌, ℕ, ◌+◌, ◌%◌, ◌^◌, ◌<◌, le_refl, Bool, true, false, cond, eqb, eq-eqb, ne_eqb, List, [], ◌∷◌, ◌++◌, length, length-append, set, get_or, sym, refl, ap, ◌∙◌, subst, inl, inr, ⊎_elim, arith, Option, None, Some}
+use Rattle.std.proofs.lemmas.Bool.{both_ways, false_from_ne_true}
 use Rattle.std.proofs.lemmas.Option.{same_Some}
 use mathlib.Core.Option.{Option as Place, none}
 use mathlib.Core.Logic.{dite}
@@ -19,7 +20,7 @@ use Rattle.hm_turn.specs.Rule.{At, Fits, AreKnown, AreQueued, IsHome, IsOut, Ord
 use Rattle.hm_turn.specs.Views.{founder, drawing, noting, outrun, last_number, holding, knowing, resting}
 use Rattle.hm_turn.specs.Sound.{IsSound, IsIdle, MayAsk, IsWaiting}
 use Rattle.hm_turn.specs.Steps.{Wins, drawn, awaited, observed, asked, counted, added, freed, informed}
-use Rattle.hm_turn.proofs.Views.{at_one, set_at, one_at, not_true, apart_bools, calls_by-other, rebuilt, backwards, forwards}
+use Rattle.hm_turn.proofs.Views.{at_one, set_at, one_at, calls_by-other, rebuilt, backwards, forwards}
 use Rattle.hm_turn.proofs.Queues.{no_number, queue_kept, queue_drawn, queue_served}
 
 module _ {T : Type 0} (entries : T → List Entry) (origin_of : T → List ℕ) (origin : List ℕ) where
@@ -144,7 +145,7 @@ module _ {T : Type 0} (entries : T → List Entry) (origin_of : T → List ℕ) 
           none_holds = λ j u p. ⊎_elim (λ (t : (j ≡ id) × (w ≡ u)). ap (λ (z : View). z.holds) (sym t.1) ∙ (a.holds ∙ rests)) (λ (t : (j ≢ id) × At s.views j u). h.none_holds j u t.1) (at_set s.views id j w u p);
         })
         (λ (o : IsOut entries origin_of r.serving r.history s).
-        let other : o.holder ≢ id = λ e. apart_bools v.holds (ap (λ (x : View). x.holds) (one_at s.views id v o.view at (ap (get_elem? s.views) (sym e) ∙ o.at_holder)) ∙ o.holds) rests in inr record {
+        let other : o.holder ≢ id = λ e. both_ways v.holds rests (ap (λ (x : View). x.holds) (one_at s.views id v o.view at (ap (get_elem? s.views) (sym e) ∙ o.at_holder)) ∙ o.holds) in inr record {
           holder = o.holder;
           view = o.view;
           homes = o.homes;
@@ -153,7 +154,7 @@ module _ {T : Type 0} (entries : T → List Entry) (origin_of : T → List ℕ) 
           served = o.served;
           holder_live = o.holder_live;
           knows = o.knows;
-          only = λ j u p held. ⊎_elim (λ (t : (j ≡ id) × (w ≡ u)). absurd (apart_bools u.holds held (ap (λ (x : View). x.holds) (sym t.1) ∙ (a.holds ∙ rests)))) (λ (t : (j ≢ id) × At s.views j u). o.only j u t.1 held) (at_set s.views id j w u p);
+          only = λ j u p held. ⊎_elim (λ (t : (j ≡ id) × (w ≡ u)). absurd (both_ways u.holds (ap (λ (x : View). x.holds) (sym t.1) ∙ (a.holds ∙ rests)) held)) (λ (t : (j ≢ id) × At s.views j u). o.only j u t.1 held) (at_set s.views id j w u p);
         })
         r.place;
     each = each_stays r.history s.views id w (fits_alike r.history v w a (r.each id v at lives)) (λ j u _ p lu. r.each j u p lu);
@@ -181,7 +182,7 @@ module _ {T : Type 0} (entries : T → List Entry) (origin_of : T → List ℕ) 
           served = served;
           holder_live = a.spent ∙ lives;
           knows = h.entries_are;
-          only = λ j u p held. ⊎_elim (λ (t : (j ≡ id) × (w ≡ u)). t.0) (λ (t : (j ≢ id) × At s.views j u). absurd (apart_bools u.holds held (h.none_holds j u t.1))) (at_set s.views id j w u p);
+          only = λ j u p held. ⊎_elim (λ (t : (j ≡ id) × (w ≡ u)). t.0) (λ (t : (j ≢ id) × At s.views j u). absurd (both_ways u.holds (h.none_holds j u t.1) held)) (at_set s.views id j w u p);
         };
         each = each_stays r.history s.views id w record { origin_is = fits.origin_is; begins = subst (λ (x : List Entry). StartsWith r.history x) (sym h.entries_are) (starts_itself r.history); own_seen = there; own_all = fits.own_all } (λ j u _ p lu. r.each j u p lu);
         callers = changed s r id v w r.history at lives (a.spent ∙ lives) a.caller a.used a.out a.ended (λ c calls e. (r.callers.calls.ended_are c calls e).1)
@@ -247,7 +248,7 @@ module _ {T : Type 0} (entries : T → List Entry) (origin_of : T → List ℕ) 
         ((λ _. got s r h id v v at lives (itself v)), λ n. absurd (n served)),
       ))
       (λ (o : IsOut entries origin_of r.serving r.history s). let e = r.queue.differ o.holder id o.view v r.serving o.at_holder at o.served served in
-      absurd (apart_bools v.holds (ap (λ (x : View). x.holds) (one_at s.views id v o.view at (ap (get_elem? s.views) (sym e) ∙ o.at_holder)) ∙ o.holds) rests))
+      absurd (both_ways v.holds rests (ap (λ (x : View). x.holds) (one_at s.views id v o.view at (ap (get_elem? s.views) (sym e) ∙ o.at_holder)) ∙ o.holds)))
       r.place
   awaits_at s r slots id t v at lives rests mine (no miss) = let w : View = noting v r.serving in (
     w,
@@ -320,7 +321,7 @@ module _ {T : Type 0} (entries : T → List Entry) (origin_of : T → List ℕ) 
     tt,
     subst (λ (z : List ℕ × List View). Rule (in_parts z.0 s.homes z.1)) (λ i. (sym (set-get_or s.words 2 0) i, sym (set_again s.views id v at) i)) r,
     (
-      ⊎_elim (λ (h : IsHome entries origin_of origin r.history s). absurd (apart_bools v.holds held (h.none_holds id v at)))
+      ⊎_elim (λ (h : IsHome entries origin_of origin r.history s). absurd (both_ways v.holds (h.none_holds id v at) held))
           (λ (o : IsOut entries origin_of r.serving r.history s). ap (λ (ws : List ℕ). get_or ws 2 0) r.words ∙ ap (λ (l : List Entry). length l) (sym o.knows ∙ ap (λ (u : View). u.seen) (holder_is s r o id v at held))) r.place,
       refl,
     ),
@@ -361,14 +362,14 @@ module _ {T : Type 0} (entries : T → List Entry) (origin_of : T → List ℕ) 
               (λ j u n p lu. let f = r.each j u p lu in record { origin_is = f.origin_is; begins = starts_longer r.history u.seen (e ∷ []) f.begins; own_seen = f.own_seen; own_all = calls_by-other u.caller r.history e (λ z. n (k.seats.apart j id u v p at lu lives (sym z ∙ own))) ∙ f.own_all });
           callers = changed s r id v w history' at lives lives refl refl refl refl over (λ c calls h same'. ap (calls_by c) longer ∙ over c calls (ap (λ (u : View). ended_of c u.ended) same' ∙ h))
               (λ c n h. calls_by-other c r.history e (λ z. ⊎_elim (λ (p : v.caller ≡ 0). n ((sym z ∙ own) ∙ p))
-              (λ (p : is_among v.caller k.outs ≡ true). apart_bools (is_among c k.chief.used) (ap (λ (m : ℕ). is_among m k.chief.used) (sym z ∙ own) ∙ k.calls.out_used v.caller p) h) (k.seats.live id v at lives)) ∙ k.calls.strangers c n h);
+              (λ (p : is_among v.caller k.outs ≡ true). both_ways (is_among c k.chief.used) h (ap (λ (m : ℕ). is_among m k.chief.used) (sym z ∙ own) ∙ k.calls.out_used v.caller p)) (k.seats.live id v at lives)) ∙ k.calls.strangers c n h);
         },
         refl,
       )
 
   pub adds : (slots id : ℕ) (v : View) (xs : List Entry) (cs : List (ℕ × Option T)) (e : Entry) → v.spent ≡ false → v.holds ≡ true → xs ≡ v.seen ++ e ∷ [] → e.who.caller ≡ v.caller → length xs < 2 ^ 64
       → Allows Rule slots id (v, cs) 2 (λ n. (n + 1) % 2 ^ 64) (added xs (step slots 2 1 0 none) (v, cs))
-  adds slots id v xs cs e lives held grown own room s r _ at _ = ⊎_elim (λ (h : IsHome entries origin_of origin r.history s). absurd (apart_bools v.holds held (h.none_holds id v at)))
+  adds slots id v xs cs e lives held grown own room s r _ at _ = ⊎_elim (λ (h : IsHome entries origin_of origin r.history s). absurd (both_ways v.holds (h.none_holds id v at) held))
       (λ (o : IsOut entries origin_of r.serving r.history s). subst (λ (z : List ℕ × List (Place (Option T))). Grows slots id v xs cs (in_parts z.0 z.1 s.views)) (λ i. (sym r.words i, sym o.homes i)) (grows s r o slots id v xs cs e at lives held grown own room)) r.place
 
   abbrev Rests : ℕ → ℕ → ℕ → View → T → St → Type 0
@@ -393,7 +394,7 @@ module _ {T : Type 0} (entries : T → List Entry) (origin_of : T → List ℕ) 
             homes = refl;
             entries_are = has ∙ (ap (λ (u : View). u.seen) (sym same) ∙ o.knows);
             origin_is = from ∙ fits.origin_is;
-            none_holds = λ j u p. ⊎_elim (λ (y : (j ≡ id) × (w ≡ u)). ap (λ (z : View). z.holds) (sym y.1)) (λ (y : (j ≢ id) × At s.views j u). not_true u.holds (λ h. y.0 (o.only j u y.1 h ∙ sym (o.only id v at held)))) (at_set s.views id j w u p);
+            none_holds = λ j u p. ⊎_elim (λ (y : (j ≡ id) × (w ≡ u)). ap (λ (z : View). z.holds) (sym y.1)) (λ (y : (j ≢ id) × At s.views j u). false_from_ne_true u.holds (λ h. y.0 (o.only j u y.1 h ∙ sym (o.only id v at held)))) (at_set s.views id j w u p);
           };
           each = each_stays r.history s.views id w record { origin_is = fits.origin_is; begins = fits.begins; own_seen = fits.own_seen; own_all = fits.own_all } (λ j u _ p lu. r.each j u p lu);
           callers = changed s r id v w r.history at lives lives refl refl refl refl (λ c calls e. (k.calls.ended_are c calls e).1)
@@ -404,7 +405,7 @@ module _ {T : Type 0} (entries : T → List Entry) (origin_of : T → List ℕ) 
 
   pub frees : (slots id t : ℕ) (v : View) (x : T) → v.spent ≡ false → v.holds ≡ true → v.ticket ≡ Some t → entries x ≡ v.seen → origin_of x ≡ v.origin
       → Allows Rule slots id (v, (0, Some x) ∷ []) 1 (λ _. t + 1) (λ _. freed (step slots 1 (t + 1) 0 none) (v, (0, Some x) ∷ []) (t + 1))
-  frees slots id t v x lives held mine has from s r _ at _ = ⊎_elim (λ (h : IsHome entries origin_of origin r.history s). absurd (apart_bools v.holds held (h.none_holds id v at)))
+  frees slots id t v x lives held mine has from s r _ at _ = ⊎_elim (λ (h : IsHome entries origin_of origin r.history s). absurd (both_ways v.holds (h.none_holds id v at) held))
       (λ (o : IsOut entries origin_of r.serving r.history s). subst (λ (z : List ℕ × List (Place (Option T))). Rests slots id (t + 1) v x (in_parts z.0 z.1 s.views)) (λ i. (sym r.words i, sym o.homes i)) (rests s r o slots id t v x at lives held mine has from)) r.place
 
   pub learns : (slots id : ℕ) (m : M) → m.0.caller ≡ 0 → m.0.spent ≡ false → Allows Rule slots id m 0 (λ n. n) (informed (step slots 0 0 0 none) m)

@@ -1,9 +1,9 @@
 -- Lists of caller numbers.
 use Rattle.std.proofs.Common.{◌≡◌, ◌≢◌, ℕ, ◌+◌, ◌<◌, ◌≤◌, true, false, eqb, cond, List, [], ◌∷◌, length, refl, ap, ◌∙◌, arith, eq-eqb, ne_eqb}
+use Rattle.std.proofs.lemmas.Bool.{both_ways, false_from_ne_true}
 use Rattle.std.proofs.lemmas.Bool.Decides.{nat_tests}
 use Rattle.std.specs.List.{IsDistinct, AllByRecursion}
 use Rattle.std.proofs.lemmas.Map.Steps.{length-le_from_distinct_below}
-use Rattle.hm_turn.proofs.Views.{apart_bools, not_true}
 use mathlib.Core.Logic.{dite}
 use native.Mathlib.Decide.{ℕ_discrete}
 use Rattle.hm_turn.specs.Callers.{is_among, AreDistinct}
@@ -27,7 +27,7 @@ length-without c (y ∷ ys) h = grind (arith, nat_tests, length-without c ys)
 
 all_apart : (y : ℕ) (ys : List ℕ) → is_among y ys ≡ false → AllByRecursion (λ z. eqb y z ≡ false) ys
 all_apart y [] h = tt
-all_apart y (z ∷ zs) h = dite (ℕ_discrete y z) (λ e. absurd (apart_bools (is_among y (z ∷ zs)) (rw (eq-eqb y z e) refl) h))
+all_apart y (z ∷ zs) h = dite (ℕ_discrete y z) (λ e. absurd (both_ways (is_among y (z ∷ zs)) h (rw (eq-eqb y z e) refl)))
     (λ n. (ne_eqb y z n, all_apart y zs (rw (ne_eqb y z n) at h)))
 
 std_distinct : (xs : List ℕ) → AreDistinct xs → IsDistinct eqb xs
@@ -46,7 +46,7 @@ gone_without c (y ∷ ys) d = dite (ℕ_discrete c y)
     (λ n. rw (ne_eqb c y n) (rw (ne_eqb c y n) (gone_without c ys d.1)))
 
 kept_out : (x c : ℕ) (xs : List ℕ) → is_among x xs ≡ false → is_among x (without c xs) ≡ false
-kept_out x c xs h = not_true (is_among x (without c xs)) (λ p. apart_bools (is_among x xs) (in_before x c xs p) h)
+kept_out x c xs h = false_from_ne_true (is_among x (without c xs)) (λ p. both_ways (is_among x xs) h (in_before x c xs p))
 
 pub distinct-without : (c : ℕ) (xs : List ℕ) → AreDistinct xs → AreDistinct (without c xs)
 distinct-without c [] d = tt

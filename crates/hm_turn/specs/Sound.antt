@@ -45,11 +45,6 @@ pub record IsWaiting {T : Type 0} (me : Me (Option T) View) (ticket : ℕ) : Typ
   pub live : me.0.spent ≡ false
   pub ticket_is : me.0.ticket ≡ Some ticket
 
--- a seat as it was, but for its note
-pub record HasWaited {T : Type 0} (before after : Me (Option T) View) : Type 0 where
-  pub note : Option ℕ
-  pub same : after ≡ (record before.0 { note = note }, before.1)
-
 -- a seat as it was, but for its note, and that more of its steps may have been lost
 pub record HasAsked {T : Type 0} (before after : Me (Option T) View) : Type 0 where
   pub note : Option ℕ

@@ -4,7 +4,7 @@ ghost use Rattle.hm_turn.specs.Known.{IsOf};
 
 use crate::steps::TICKET;
 use crate::{Shelf, Turn, TurnLock};
-use hm_model::{Call, Choices, Draws, Entry, Reply, Who};
+use hm_model::{Call, Entry, Reply, Who};
 use std::sync::Wait;
 use std::test::Fail;
 use std::thread;
@@ -14,34 +14,14 @@ use std::thread::{Threads, join};
 fn entry(caller: u32, step: u32) -> Entry
     ensures { result.who.caller ≡ caller }
 {
-    Entry {
-        who: Who {
-            caller,
-            round: 1,
-            thread: caller,
-            step,
-            part: 1,
-        },
-        call: Call::Measure { addr: 0 },
-        reply: Reply::NotLive,
-        choices: Choices {
-            canary: None,
-            opened: None,
-            released: None,
-            retired: None,
-            purged: None,
-            unparked: None,
-            guard: None,
-        },
-        draws: Draws {
-            used: 0,
-            w0: 0,
-            w1: 0,
-            w2: 0,
-        },
-        faults_before: 0,
-        faults_after: 0,
-    }
+    let who = Who {
+        caller,
+        round: 1,
+        thread: caller,
+        step,
+        part: 1,
+    };
+    Entry::plain(who, Call::Measure { addr: 0 }, Reply::NotLive, 0, 0)
 }
 
 /// The first turn takes the value and the second finds it held; once the first has given it back, the
