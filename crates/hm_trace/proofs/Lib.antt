@@ -21,6 +21,7 @@ mod ReadAgain
 mod ReadTraces
 mod Ready
 mod Scripts
+mod Signs
 mod Spelled
 mod SpelledLines
 mod Stays

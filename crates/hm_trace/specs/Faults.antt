@@ -4,6 +4,7 @@ use Rattle.std.specs.List.{slice_split, list_all}
 use Rattle.hm_trace.specs.declared.fault.FaultKind.{FaultKind}
 use Rattle.hm_trace.specs.declared.fault.FaultKind.TheVariants.{AfterEnd, LineTooLong, NotAscii, BadHeader, BadWord, BadName, BadNumber, TooManyThreads, TooManyRounds, TooManySteps, NameSetTwice, NoEnd}
 use Rattle.hm_trace.specs.declared.fault.TraceFault.{TraceFault}
+use Rattle.hm_trace.specs.Limits.{max_line, max_threads, max_rounds, max_steps}
 use Rattle.hm_trace.specs.Names.{is_word}
 use Rattle.hm_trace.specs.Lines.{words_at, is_formed, first_wrong, or_later}
 use Rattle.hm_trace.specs.Before.{Before, begins, is_step_line, is_setting_line, thread_in, before_of}
@@ -34,15 +35,15 @@ Row = FaultKind × (Before → List ℕ → List (List ℕ) → Bool)
 -- the table, in its order
 abbrev pub table : List Row
 table = (AfterEnd, λ b line words. b.ended)
-    ∷ (LineTooLong, λ b line words. nat_lt 256 (length line))
+    ∷ (LineTooLong, λ b line words. nat_lt max_line (length line))
     ∷ (NotAscii, λ b line words. not (list_all is_plain line))
     ∷ (BadHeader, λ b line words. b.first && not (is_word line (codes "hmtrace 1")))
     ∷ (BadWord, λ b line words. not b.first && not (is_formed b.stage words))
     ∷ (BadName, λ b line words. is_bad_name (first_wrong b.stage words))
     ∷ (BadNumber, λ b line words. is_bad_number (first_wrong b.stage words))
-    ∷ (TooManyThreads, λ b line words. begins (codes "thread") words && nat_lt 16 (thread_in words))
-    ∷ (TooManyRounds, λ b line words. begins (codes "round") words && nat_le 1024 b.rounds)
-    ∷ (TooManySteps, λ b line words. is_step_line words && nat_le 200000 b.steps)
+    ∷ (TooManyThreads, λ b line words. begins (codes "thread") words && nat_lt max_threads (thread_in words))
+    ∷ (TooManyRounds, λ b line words. begins (codes "round") words && nat_le max_rounds b.rounds)
+    ∷ (TooManySteps, λ b line words. is_step_line words && nat_le max_steps b.steps)
     ∷ (NameSetTwice, λ b line words. sets_taken b words)
     ∷ []
 

@@ -1,6 +1,7 @@
 pub mod Views
 pub mod Names
 pub mod Numbers
+pub mod Limits
 pub mod Traces
 pub mod Spelling
 pub mod Stress

@@ -5,6 +5,7 @@ use Rattle.hm_trace.specs.declared.fault.FaultKind.{FaultKind}
 use Rattle.hm_trace.specs.declared.fault.FaultKind.TheVariants.{BadName, BadNumber}
 use Rattle.hm_trace.specs.declared.progress.Open.{Open}
 use Rattle.hm_trace.specs.declared.progress.Open.TheVariants.{Nothing, InRound, InScript}
+use Rattle.hm_trace.specs.Limits.{max_length, max_offset}
 use Rattle.hm_trace.specs.Names.{is_word, is_name}
 use Rattle.hm_trace.specs.Numbers.{value, is_decimal, is_number, is_hex, is_byte}
 
@@ -106,7 +107,7 @@ sign_place (c ∷ cs) = if is_sign c then 0 else sign_place cs + 1
 -- nothing, or a sign and a number
 abbrev pub is_offset_word : List ℕ → Bool
 is_offset_word [] = true
-is_offset_word (sign ∷ digits) = is_number 1 1099511627776 digits
+is_offset_word (sign ∷ digits) = is_number 1 max_offset digits
 
 -- it is wrong where it does not fit
 abbrev pub number_fault : Bool → Option FaultKind
@@ -129,7 +130,7 @@ part_fault stage ThreadPart word = number_fault (is_decimal word && nat_lt (form
 part_fault stage NamePart word = if is_name word then None else Some BadName
 part_fault stage RefPart word = ref_fault word
 part_fault stage SizePart word = number_fault (is_number 0 18446744073709551615 word)
-part_fault stage LengthPart word = number_fault (is_number 1 1048576 word)
+part_fault stage LengthPart word = number_fault (is_number 1 max_length word)
 part_fault stage BytePart word = number_fault (is_byte word)
 
 -- the first, or else the later one

@@ -9,6 +9,7 @@ use Rattle.hm_trace.specs.declared.progress.Open.{Open}
 use Rattle.hm_trace.specs.declared.progress.Open.TheVariants.{Nothing, InRound, InScript}
 use Rattle.hm_trace.specs.Views.{StepView, ScriptView}
 use Rattle.hm_trace.specs.Gives.{◌>>=◌, or_fault}
+use Rattle.hm_trace.specs.Limits.{max_line, max_threads, max_rounds, max_steps}
 use Rattle.hm_trace.specs.Names.{is_word}
 use Rattle.hm_trace.specs.Traces.{sets_again}
 use Rattle.hm_trace.specs.Lines.{words_at}
@@ -47,7 +48,7 @@ rounds_of p = rounds_after p.stage p.rounds p.scripts p.steps
 
 -- a new round begins
 unfoldable pub round_at : Progress → Result Progress FaultKind
-round_at p = if nat_lt (length (rounds_of p)) 1024
+round_at p = if nat_lt (length (rounds_of p)) max_rounds
     then Ok (record { rounds = rounds_of p; scripts = []; steps = []; stage = InRound; count = p.count })
     else Err TooManyRounds
 
@@ -63,7 +64,7 @@ thread_line_at p (word ∷ []) = do
   former ← former_thread p.stage
   thread ← or_fault BadNumber (thread_at word)
   if nat_le thread former then Err BadNumber
-      else (if nat_lt 16 thread then Err TooManyThreads
+      else (if nat_lt max_threads thread then Err TooManyThreads
       else Ok (record {
         rounds = p.rounds;
         scripts = scripts_after p.stage p.scripts p.steps;
@@ -84,7 +85,7 @@ unfoldable pub next_step_at : Progress → List (List ℕ) → Result StepView F
 next_step_at p words = do
   _ ← in_script p.stage
   step ← step_at words
-  if nat_le 200000 p.count then Err TooManySteps else (if sets_again p.scripts step then Err NameSetTwice else Ok step)
+  if nat_le max_steps p.count then Err TooManySteps else (if sets_again p.scripts step then Err NameSetTwice else Ok step)
 
 -- a step joins the open script
 unfoldable pub step_line_at : Progress → List (List ℕ) → Result Progress FaultKind
@@ -107,7 +108,7 @@ words_line_at p (first ∷ rest) = if is_word first (codes "round")
 
 -- a line of plain bytes
 abbrev pub plain_at : List ℕ → Result (Unit {0}) FaultKind
-plain_at line = if nat_lt 256 (length line) then Err LineTooLong
+plain_at line = if nat_lt max_line (length line) then Err LineTooLong
     else (if list_all is_plain line then Ok tt else Err NotAscii)
 
 -- a line

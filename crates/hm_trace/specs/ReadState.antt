@@ -11,6 +11,7 @@ use Rattle.hm_trace.specs.declared.fault.ReadRefusal.TheVariants as text
 use Rattle.hm_trace.specs.declared.names.Name.{Name}
 use Rattle.hm_trace.specs.declared.progress.Open.TheVariants.{InRound}
 use Rattle.hm_trace.specs.declared.progress.Progress as code
+use Rattle.hm_trace.specs.Limits.{max_rounds, max_steps}
 use Rattle.hm_trace.specs.Names.{is_word}
 use Rattle.hm_trace.specs.Views.{ScriptView, name_view, steps_view}
 use Rattle.hm_trace.specs.Traces.{is_set, is_round, step_count}
@@ -43,9 +44,9 @@ pub record IsProgress (p : Progress) : Type 0 where
   pub closed : list_all is_round p.rounds ≡ true
   pub open_round : is_round (scripts_after p.stage p.scripts p.steps) ≡ true
   pub fresh : p.stage ≡ InRound → p.scripts ≡ []
-  pub rounds_fit : length (rounds_of p) ≤ 1024
+  pub rounds_fit : length (rounds_of p) ≤ max_rounds
   pub counted : step_count (rounds_of p) ≡ p.count
-  pub count_fits : p.count ≤ 200000
+  pub count_fits : p.count ≤ max_steps
 
 -- what the reader needs before a line
 pub record IsReady (p : code.Progress) : Type 0 where

@@ -5,6 +5,7 @@ use Rattle.hm_trace.specs.declared.fault.FaultKind.{FaultKind}
 use Rattle.hm_trace.specs.declared.fault.FaultKind.TheVariants.{BadWord, BadName, BadNumber}
 use Rattle.hm_trace.specs.Views.{PlaceView, Null, At, Named, StepView, Malloc, Calloc, Aligned, Realloc, Free, Sfree, Write, Read, Size}
 use Rattle.hm_trace.specs.Gives.{◌>>=◌, or_fault}
+use Rattle.hm_trace.specs.Limits.{max_length, max_offset}
 use Rattle.hm_trace.specs.Names.{is_word, is_name}
 use Rattle.hm_trace.specs.Lines.{sign_place}
 use Rattle.hm_trace.specs.ReadNumbers.{number_at, hex_digit, hex_at}
@@ -23,11 +24,11 @@ within low high n = if nat_le low n && nat_le n high then Ok n else Err BadNumbe
 
 -- how many bytes are read or written
 unfoldable pub length_at : List ℕ → Result ℕ FaultKind
-length_at word = size_at word >>= λ n. within 1 1048576 n
+length_at word = size_at word >>= λ n. within 1 max_length n
 
 -- how far an offset goes
 unfoldable pub distance_at : List ℕ → Result ℕ FaultKind
-distance_at word = size_at word >>= λ n. within 1 1099511627776 n
+distance_at word = size_at word >>= λ n. within 1 max_offset n
 
 -- two hexadecimal digits
 unfoldable pub byte_at : List ℕ → Result ℕ FaultKind

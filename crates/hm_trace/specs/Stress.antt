@@ -7,7 +7,7 @@ use Rattle.hm_trace.specs.Views.{PlaceView, Named, StepView, Malloc, Free, Write
 abbrev pub first : ℕ → ℕ → ℕ
 first number t = (number * 16 + t) % 2 ^ 64
 
--- x(j + 1) after x(j)
+-- x(j + 1) after x(j), by the multiplier and the increment of the generator of Knuth's MMIX
 abbrev pub next : ℕ → ℕ
 next x = (x * 6364136223846793005 + 1442695040888963407) % 2 ^ 64
 

@@ -2,6 +2,7 @@
 use Rattle.std.specs.Prelude.{◌≡◌, ℕ, suc, ◌≤◌, Bool, true, false, not, ◌&&◌, nat_lt, nat_le, List, [], ◌∷◌, ◌++◌, length, Option, Some, None, ℤ, pos, negsuc}
 use Rattle.std.specs.List.{list_any, list_all, flat_map}
 use Rattle.std.specs.Option.{option_map_or}
+use Rattle.hm_trace.specs.Limits.{max_threads, max_rounds, max_steps, max_length, max_offset}
 use Rattle.hm_trace.specs.Names.{is_word, is_name}
 use Rattle.hm_trace.specs.Views.{PlaceView, Null, At, Named, StepView, Malloc, Calloc, Aligned, Realloc, Free, Sfree, Write, Read, Size, ScriptView}
 
@@ -11,12 +12,12 @@ is_u64 n = nat_le n 18446744073709551615
 
 -- how many bytes are read or written
 abbrev pub is_length : ℕ → Bool
-is_length n = nat_le 1 n && nat_le n 1048576
+is_length n = nat_le 1 n && nat_le n max_length
 
--- at most 2 ^ 40 up or down
+-- so many bytes up or down
 abbrev pub is_offset : ℤ → Bool
-is_offset (pos n) = nat_le n 1099511627776
-is_offset (negsuc n) = nat_le (suc n) 1099511627776
+is_offset (pos n) = nat_le n max_offset
+is_offset (negsuc n) = nat_le (suc n) max_offset
 
 -- null, an address, or a name with an offset
 abbrev pub is_place : PlaceView → Bool
@@ -38,7 +39,7 @@ is_step (Size place) = is_place place
 
 -- the steps of a thread from 1 to 16
 abbrev pub is_script : ScriptView → Bool
-is_script s = nat_le 1 s.thread && nat_le s.thread 16 && list_all is_step s.steps
+is_script s = nat_le 1 s.thread && nat_le s.thread max_threads && list_all is_step s.steps
 
 -- the name that a step sets
 abbrev pub name_set : StepView → Option (List ℕ)
@@ -81,5 +82,5 @@ step_count rounds = length (flat_map (λ (r : List ScriptView). flat_map (λ s. 
 -- the rounds of a trace: at most 1,024, with at most 200,000 steps
 pub record IsTrace (rounds : List (List ScriptView)) : Type 0 where
   pub each : list_all is_round rounds ≡ true
-  pub rounds_fit : length rounds ≤ 1024
-  pub steps_fit : step_count rounds ≤ 200000
+  pub rounds_fit : length rounds ≤ max_rounds
+  pub steps_fit : step_count rounds ≤ max_steps

@@ -1,6 +1,7 @@
 //! The faults of a text that is no trace, and why a text or a line was not read.
 ghost use Rattle.std.specs.Prelude.{◌≡◌};
 ghost use Rattle.hm_trace.specs.declared.fault.LineRefusal.TheVariants as line;
+ghost use Rattle.hm_trace.specs.declared.fault.ReadRefusal.TheVariants as text;
 
 use std::alloc::AllocError;
 
@@ -46,6 +47,14 @@ pub struct TraceFault {
 pub enum ReadRefusal {
     Fault(TraceFault),
     NoMemory,
+}
+
+impl From<AllocError> for ReadRefusal {
+    ghost from_gives = { λ _ e. e ≡ text.NoMemory };
+
+    fn from(_error: AllocError) -> ReadRefusal {
+        ReadRefusal::NoMemory
+    }
 }
 
 /// Why a line was not read.

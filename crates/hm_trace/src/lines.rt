@@ -19,7 +19,7 @@ pub(crate) fn lines_of(alloc: Global, bytes: &[u8]) -> Result<Vec<&[u8]>, AllocE
 fn are_plain(line: &[u8]) -> bool
     ensures { result ≡ list_all is_plain line.now }
 {
-    line.iter().all(|c| 32 <= *c && *c <= 126)
+    line.iter().all(|c| (b' '..=b'~').contains(c))
 }
 
 /// At most 256 bytes, from a space to a tilde.

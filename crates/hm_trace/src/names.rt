@@ -10,7 +10,7 @@ ghost use Rattle.std.specs.Ordering.{nat_cmp, on, as_partial_cmp};
 
 use std::cmp::Ordering;
 
-/// A name of a block: a letter, then up to 31 letters, digits or `_`, and not `null`.
+/// A name of a block: a letter from `a` to `z`, then at most 31 such letters, digits or `_`, and not `null`.
 #[derive(Clone, Copy, Debug)]
 pub struct Name {
     len: u8,

@@ -2,16 +2,13 @@
 ghost use Rattle.std.specs.Prelude.{◌≡◌, ◌<◌, ◌≤◌, length, IfSome};
 ghost use Rattle.hm_trace.specs.ReadNumbers.{next_value, value_after, number_at, thread_after, thread_at, hex_digit, hex_after, hex_at};
 
+use crate::limits::MAX_THREADS;
+
 fn push_digit(value: u64, digit: u8) -> Option<u64>
     ensures { result ≡ next_value value digit }
 {
-    if b'0' <= digit && digit <= b'9' {
-        let more = 10 * u128::from(value) + u128::from(digit - b'0');
-        if more < 1 << 64 {
-            Some(more as u64)
-        } else {
-            None
-        }
+    if digit.is_ascii_digit() {
+        value.checked_mul(10)?.checked_add(u64::from(digit - b'0'))
     } else {
         None
     }
@@ -44,8 +41,8 @@ fn thread_value_of(word: &[u8]) -> Option<u32>
 {
     let mut value = 0u32;
     for c in word {
-        if b'0' <= *c && *c <= b'9' {
-            value = (10 * value + u32::from(*c - b'0')).min(17);
+        if c.is_ascii_digit() {
+            value = (10 * value + u32::from(*c - b'0')).min(MAX_THREADS + 1);
         } else {
             return None;
         }
@@ -53,7 +50,7 @@ fn thread_value_of(word: &[u8]) -> Option<u32>
     Some(value)
 }
 
-/// The same, with 17 for each greater number.
+/// The same, with `MAX_THREADS + 1` for each greater number.
 #[tactic(auto, unfolding(crate::specs::ReadNumbers::thread_at))]
 pub(crate) fn thread_of(word: &[u8]) -> Option<u32>
     ensures { result ≡ thread_at word.now }
@@ -70,10 +67,10 @@ pub(crate) fn digit_of(digit: u8) -> Option<u8>
     ensures value { result ≡ hex_digit digit }
     ensures small { IfSome result (λ d. d < 16) }
 {
-    if b'0' <= digit && digit <= b'9' {
+    if digit.is_ascii_digit() {
         Some(digit - b'0')
-    } else if b'a' <= digit && digit <= b'f' {
-        Some(digit - 87)
+    } else if (b'a'..=b'f').contains(&digit) {
+        Some(digit - b'a' + 10)
     } else {
         None
     }

@@ -1,6 +1,7 @@
 //! What was read of a trace so far, and what each line makes of it.
 ghost use Rattle.std.specs.Prelude.{◌≡◌, ◌<◌, map, OnOk};
 ghost use Rattle.hm_trace.specs.Gives.{GivesBy};
+ghost use Rattle.hm_trace.specs.Limits.{max_steps};
 ghost use Rattle.hm_trace.specs.ReadLines.{start, scripts_after, rounds_of, former_thread, round_at, thread_line_at, next_step_at, step_line_at, words_line_at, line_at};
 ghost use Rattle.hm_trace.specs.ReadState.{IsIndex, IsReady, progress_of, GivesLine};
 ghost use Rattle.hm_trace.specs.Views.{step_view, steps_view};
@@ -150,7 +151,7 @@ impl Progress {
     #[tactic(auto, unfolding(crate::specs::ReadLines::next_step_at))]
     fn next_step(&self, words: &[&[u8]]) -> Result<Step, FaultKind>
         requires { IsReady self.now }
-        ensures room { OnOk result (self.now.count < 200000) }
+        ensures room { OnOk result (self.now.count < max_steps) }
         ensures next { GivesBy step_view result (next_step_at (progress_of self.now) (map (λ w. w.now) words.now)) }
     {
         let Open::InScript(_) = self.stage else {
@@ -173,14 +174,10 @@ impl Progress {
             (step_line_at (progress_of self.old) (map (λ w. w.now) words.now)) }
         ensures indexed { OnOk result (IsIndex self.new.names.keys self.new.scripts.items) }
     {
-        match self.next_step(words) {
-            Ok(step) => {
-                push_step(&mut self.steps, step)?;
-                self.count += 1;
-                Ok(())
-            }
-            Err(kind) => Err(LineRefusal::Kind(kind)),
-        }
+        let step = self.next_step(words)?;
+        push_step(&mut self.steps, step)?;
+        self.count += 1;
+        Ok(())
     }
 
     #[tactic(auto, unfolding(crate::specs::ReadLines::words_line_at))]

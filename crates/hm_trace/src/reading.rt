@@ -29,10 +29,8 @@ pub fn read_trace(alloc: Global, bytes: &[u8]) -> Result<Trace, ReadRefusal>
 fn read_exact(alloc: Global, bytes: &[u8]) -> Result<Trace, ReadRefusal>
     ensures { GivesText result (read_text bytes.now) }
 {
-    match lines_of(alloc, bytes) {
-        Ok(lines) => read_lines_of(alloc, &lines),
-        Err(_) => Err(ReadRefusal::NoMemory),
-    }
+    let lines = lines_of(alloc, bytes)?;
+    read_lines_of(alloc, &lines)
 }
 
 fn fault(line: u64, kind: FaultKind) -> ReadRefusal
@@ -102,11 +100,7 @@ fn close(alloc: Global, mut progress: Progress) -> Result<Trace, ReadRefusal>
     ensures rounds { IfOk result (λ t. t ≡ rounds_of (progress_of progress)) }
     ensures err { IfErr result (λ e. e ≡ ReadRefusal.NoMemory) }
 {
-    match progress.close_round(alloc) {
-        Ok(()) => {
-            let Progress { rounds, .. } = progress;
-            Ok(Trace::of(rounds))
-        }
-        Err(_) => Err(ReadRefusal::NoMemory),
-    }
+    progress.close_round(alloc)?;
+    let Progress { rounds, .. } = progress;
+    Ok(Trace::of(rounds))
 }

@@ -33,10 +33,8 @@ fn take_name(names: &mut BTreeSet<Name>, name: Name) -> Result<(), AllocError>
     ensures { OnOk result ((q : Name) → has_name names.new.keys (name_view q)
         ≡ (if is_word (name_view name) (name_view q) then true else has_name names.old.keys (name_view q))) }
 {
-    match names.insert(name) {
-        Ok(_) => Ok(()),
-        Err(_) => Err(AllocError),
-    }
+    names.insert(name)?;
+    Ok(())
 }
 
 /// The names that a script sets join the others.

@@ -54,8 +54,6 @@ impl Step {
 pub(crate) fn push_step(steps: &mut Vec<Step>, step: Step) -> Result<(), AllocError>
     ensures { OnOk result (steps_view steps.new.items ≡ steps_view steps.old.items ++ step_view step ∷ []) }
 {
-    match steps.push(step) {
-        Ok(()) => Ok(()),
-        Err(_) => Err(AllocError),
-    }
+    steps.push(step)?;
+    Ok(())
 }

@@ -25,6 +25,12 @@ const NAMES: u64 = 50;
 /// How many steps each thread makes: five in each of its groups.
 const STEPS: usize = 5 * GROUPS as usize;
 
+/// What each number of a thread is multiplied by for the next one, as in the generator of Knuth's MMIX.
+const MULTIPLIER: u64 = 6_364_136_223_846_793_005;
+
+/// What is then added, as in the same generator.
+const INCREMENT: u64 = 1_442_695_040_888_963_407;
+
 /// The stress trace of a number. Four threads make its scripts.
 pub fn stress_trace<R: Threads>(rt: &R, alloc: Global, number: u64) -> Result<Trace, NoMemory>
     ensures exact { IfOk result (λ trace. trace ≡ stress number) }
@@ -121,8 +127,7 @@ fn first(number: u64, thread: u32) -> u64
 fn next(x: u64) -> u64
     ensures { result ≡ next x }
 {
-    x.wrapping_mul(6_364_136_223_846_793_005)
-        .wrapping_add(1_442_695_040_888_963_407)
+    x.wrapping_mul(MULTIPLIER).wrapping_add(INCREMENT)
 }
 
 /// Adds the steps of a thread's group `j`, whose size follows from `v`. The block that it frees is that of 25

@@ -2,6 +2,7 @@
 //! make them.
 ghost use Rattle.std.specs.Prelude.{◌≡◌, ◌≤◌, true, length};
 ghost use Rattle.std.specs.List.{list_all};
+ghost use Rattle.hm_trace.specs.Limits.{max_steps};
 ghost use Rattle.hm_trace.specs.Traces.{is_step, is_script, is_round, IsTrace};
 ghost use Rattle.hm_trace.specs.Views.{ScriptView, steps_view};
 
@@ -18,6 +19,7 @@ pub struct Script {
 
 impl Model for Script {
     ghost use Rattle.std.specs.Prelude.{◌≡◌, ◌≤◌, true, length};
+    ghost use Rattle.hm_trace.specs.Limits.{max_steps};
     ghost use Rattle.hm_trace.specs.Traces.{is_script};
     ghost use Rattle.hm_trace.specs.Views.{ScriptView, steps_view};
 
@@ -26,13 +28,13 @@ impl Model for Script {
     ghost view = { λ s. record { thread = s.thread; steps = steps_view s.steps } };
 
     ghost invariant = { λ s. (is_script (record { thread = s.thread; steps = steps_view s.steps }) ≡ true)
-        × (length s.steps ≤ 200000) };
+        × (length s.steps ≤ max_steps) };
 }
 
 impl Script {
     pub(crate) fn of(thread: u32, steps: Vec<Step>) -> Script
         requires valid { is_script (record { thread = thread; steps = steps_view steps.items }) ≡ true }
-        requires few { length steps.items ≤ 200000 }
+        requires few { length steps.items ≤ max_steps }
         ensures { result ≡ record { thread = thread; steps = steps_view steps.items } }
     {
         Script {

@@ -1,7 +1,8 @@
 //! The words of a line, and the names, numbers, places and bytes that they are.
-ghost use Rattle.std.specs.Prelude.{◌≡◌, ◌≤◌, ◌<◌, length, map, IfOk};
+ghost use Rattle.std.specs.Prelude.{◌≡◌, ◌≤◌, ◌<◌, length, map, position, IfOk};
 ghost use Rattle.hm_trace.specs.Gives.{GivesBy, or_fault};
-ghost use Rattle.hm_trace.specs.Lines.{words_at, sign_place};
+ghost use Rattle.hm_trace.specs.Limits.{max_offset};
+ghost use Rattle.hm_trace.specs.Lines.{words_at, is_sign, sign_place};
 ghost use Rattle.hm_trace.specs.Views.{name_view, place_view};
 ghost use Rattle.hm_trace.specs.ReadNumbers.{hex_digit, hex_at};
 ghost use Rattle.hm_trace.specs.ReadWords.{name_at, size_at, length_at, distance_at, byte_at, offset_at, named_at, place_at};
@@ -39,7 +40,7 @@ pub(crate) fn length_of(word: &[u8]) -> Result<u64, FaultKind>
     ensures { GivesBy (λ n. n) result (length_at word.now) }
 {
     let length = size_of(word)?;
-    if 1 <= length && length <= MAX_LENGTH {
+    if (1..=MAX_LENGTH).contains(&length) {
         Ok(length)
     } else {
         Err(FaultKind::BadNumber)
@@ -49,10 +50,10 @@ pub(crate) fn length_of(word: &[u8]) -> Result<u64, FaultKind>
 #[tactic(auto, unfolding(crate::specs::ReadWords::distance_at))]
 fn distance_of(word: &[u8]) -> Result<u64, FaultKind>
     ensures value { GivesBy (λ n. n) result (distance_at word.now) }
-    ensures small { IfOk result (λ n. n ≤ 1099511627776) }
+    ensures small { IfOk result (λ n. n ≤ max_offset) }
 {
     let distance = size_of(word)?;
-    if 1 <= distance && distance <= MAX_OFFSET {
+    if (1..=MAX_OFFSET).contains(&distance) {
         Ok(distance)
     } else {
         Err(FaultKind::BadNumber)
@@ -73,19 +74,19 @@ fn offset_of(word: &[u8]) -> Result<i64, FaultKind>
     }
 }
 
-// Where the first sign stands, or the length.
+// Where the first sign stands.
+fn first_sign(word: &[u8]) -> Option<usize>
+    ensures { result ≡ position is_sign word.now }
+{
+    word.iter().position(|c| *c == b'+' || *c == b'-')
+}
+
+// The same, or the length.
 fn sign_at(word: &[u8]) -> usize
     ensures place { result ≡ sign_place word.now }
     ensures within { result ≤ length word.now }
 {
-    let mut at = 0;
-    for c in word {
-        if *c == b'+' || *c == b'-' {
-            return at;
-        }
-        at += 1;
-    }
-    at
+    first_sign(word).unwrap_or(word.len())
 }
 
 #[tactic(auto, unfolding(crate::specs::ReadWords::named_at))]
