@@ -12,7 +12,8 @@ use Rattle.hm_heap.specs.Origins.{origin_in}
 use Rattle.hm_heap.specs.Passes.{AreLocks, AreOf, region_at}
 use Rattle.hm_heap.proofs.Origins.{origin_back}
 use Rattle.hm_heap.specs.declared.close.History.{History}
-use Rattle.hm_heap.specs.Closes.{Closes, ClosesAll, ClosesFrom, IsClosed, IsEnd}
+use Rattle.hm_heap.specs.Closes.{Closes, ClosesAll, IsClosed, IsEnd}
+use Rattle.hm_heap.proofs.Loops.{ClosesFrom}
 
 before_last : {X : Type 0} (xs ys : List X) (x d : X) (k : ℕ) → xs ≡ ys ++ x ∷ [] → k < length ys → slice_index_or ys k d ≡ slice_index_or xs k d
 before_last xs ys x d k e b = sym (ap (λ z. slice_index_or z k d) e ∙ get_or_append_left ys (x ∷ []) d k b)
@@ -89,9 +90,11 @@ module _ {P : Type 0} (meaning : pages.Ghosts P) where
         let it = are.each r l below in
         let o : Origin = record { config = c; number = number; region = region_at c r; told = it.told } in
         let closed = all.each r t h p lt in
+        let same : origin_in (slice_index_or turns r t).knows.origin ≡ o = ap origin_in ((of.each r l t below).1 ∙ it.is) ∙ origin_back o in
         record {
           told = it.told;
-          end = subst (λ (z : Origin). IsEnd meaning z (slice_index_or hs r h) (slice_index_or ps r p)) (ap origin_in ((of.each r l t below).1 ∙ it.is) ∙ origin_back o) closed.end;
+          told_is = sym (ap (λ (z : Origin). z.told) same);
+          end = subst (λ (z : Origin). IsEnd meaning z (slice_index_or hs r h) (slice_index_or ps r p)) same closed.end;
           whole = closed.whole;
         };
   }

@@ -13,8 +13,9 @@ use Rattle.hm_sizes.specs.Homes.{region_count}
 use Rattle.hm_sizes.specs.Origins.{large_region_number}
 use Rattle.hm_heap.specs.Origins.{numbers_of}
 use Rattle.hm_heap.specs.Passes.{AreLocks, AreOf, IsPass, region_at}
-use Rattle.hm_heap.specs.Founds.{IsFounded, BuildsTo, Founds}
+use Rattle.hm_heap.specs.Founds.{IsFounded, Founds}
 use Rattle.hm_heap.proofs.Splitting.{founder_has}
+use Rattle.hm_heap.proofs.Loops.{BuildsTo}
 
 pub region_class : (c : Config) (r : ℕ) → r < region_count c → region_at c r ≡ r
 region_class c r lt = ap (λ (b : Bool). if b then r else large_region_number) (lt-ltb r (region_count c) lt)

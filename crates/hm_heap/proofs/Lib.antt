@@ -4,8 +4,10 @@ pub mod LargeRegions
 pub mod Entering
 pub mod Placing
 pub mod Reaching
+pub mod Loops
 pub mod Maps
 pub mod Splitting
+pub mod Starting
 pub mod Founding
 pub mod Closing
 pub mod Answering

@@ -4,8 +4,8 @@ use Rattle.hm_turn.specs.Known.{Known}
 use Rattle.std.proofs.lemmas.Bool.{cases_lt}
 use Rattle.std.proofs.lemmas.List.{get_or-set_same, get_or-set_other, get_or_default, take_more, map-append}
 use mathlib.Core.Logic.{inl, inr}
-use Rattle.hm_heap.specs.Loops.{ChangedTo}
 use Rattle.hm_heap.specs.Passes.{met, all_met}
+use Rattle.hm_heap.proofs.Loops.{ChangedTo}
 
 pub map_at : {X : Type 0} (f : X → X) (xs ys : List X) → length ys ≡ length xs → ((k : ℕ) (x : X) → k < length xs → slice_index_or ys k x ≡ f (slice_index_or xs k x)) → ys ≡ map f xs
 map_at f [] [] s e = refl

@@ -41,7 +41,7 @@ pub record Called (who : Who) (call : Call) (result : Result Reply NoMemory) (be
   pub own : calls_of after.seen before.caller ≡ after.mine
   pub made : MatchResult result (λ reply. Makes who call reply before after) (λ _. Lacks call before after)
 
--- a call that may find the turn held: then one more step of this turn found it so, and nothing else changed
+-- a call that may find the turn not free: then one more step of this turn found it so, and nothing else changed
 abbrev pub Tried : Who → Call → Option (Result Reply NoMemory) → Knowledge → Knowledge → Type 0
 Tried who call tried before after =
     MatchOption tried (after ≡ with_lost before) (λ result. Called who call result before after)

@@ -154,3 +154,7 @@ AnswerInReach (answer.Reply reply) = ReplyInReach reply
 AnswerInReach (answer.Kept a usable) = IsInReach a
 AnswerInReach (answer.HalfMoved a usable cause) = IsInReach a
 AnswerInReach other = ⊤
+
+-- a block that is given begins at a multiple of the alignment
+abbrev pub StartsAligned : ℕ → Answer → Type 0
+StartsAligned align given = (a usable : ℕ) → given ≡ answer.Reply (Given a usable) → a % align ≡ 0

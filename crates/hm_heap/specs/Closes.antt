@@ -1,5 +1,5 @@
 -- What closing a heap hands out.
-use Rattle.std.specs.Prelude.{◌≡◌, ◌+◌, ◌<◌, ◌≤◌, ℕ, Bool, List, length, slice_index_or}
+use Rattle.std.specs.Prelude.{◌≡◌, ◌<◌, ℕ, Bool, List, length, slice_index_or}
 use Rattle.hm_outside.specs.declared.pages.Pages as pages
 use Rattle.hm_sizes.specs.declared.config.Config.{Config}
 use Rattle.hm_sizes.specs.Origins.{Origin}
@@ -18,9 +18,11 @@ module _ {P : Type 0} (meaning : pages.Ghosts P) where
     pub told_is : meaning.told p ≡ o.told
     pub sound : IsSound meaning o h.entries p
 
-  -- the history and the pages of this region of a heap: the history goes on from what its last turn had seen
+  -- the history and the pages of this region of a heap, whose pages tell as its turn says: the history goes on from what
+  -- its last turn had seen
   pub record IsClosedRegion (c : Config) (number region : ℕ) (t : Known) (h : History) (p : P) : Type 0 where
     pub told : Bool
+    pub told_is : told ≡ (origin_in t.knows.origin).told
     pub end : IsEnd (record { config = c; number = number; region = region; told = told }) h p
     pub whole : IsWhole h.entries t.knows
 
@@ -42,15 +44,3 @@ module _ {P : Type 0} (meaning : pages.Ghosts P) where
     pub pages : length ps ≡ length turns
     pub each : (r : ℕ) (t : Known) (h : History) (p : P) → r < length turns
         → IsClosed (slice_index_or turns r t) (slice_index_or hs r h) (slice_index_or ps r p)
-
-  -- how far a loop that closes from the last region on has come
-  pub record ClosesFrom {L : Type 0} (locks : List L) (turns : List Known) (locks_left : List L) (turns_left : List Known)
-      (hs : List History) (ps : List P) : Type 0 where
-    pub same : length turns_left ≡ length locks_left
-    pub fewer : length locks_left ≤ length locks
-    pub locks_are : (k : ℕ) (l : L) → k < length locks_left → slice_index_or locks_left k l ≡ slice_index_or locks k l
-    pub turns_are : (k : ℕ) (t : Known) → k < length locks_left → slice_index_or turns_left k t ≡ slice_index_or turns k t
-    pub histories : length hs + length locks_left ≡ length locks
-    pub pages : length ps + length locks_left ≡ length locks
-    pub each : (j k : ℕ) (t : Known) (h : History) (p : P) → j < length hs → j + k + 1 ≡ length locks
-        → IsClosed (slice_index_or turns k t) (slice_index_or hs j h) (slice_index_or ps j p)

@@ -3,7 +3,7 @@ use Rattle.std.specs.Prelude.{◌≡◌, ◌<◌, ℕ, List, length, slice_index
 use Rattle.hm_sizes.specs.declared.config.Config.{Config}
 use Rattle.hm_turn.specs.Knowledge.{founding}
 use Rattle.hm_turn.specs.Known.{Lock, Known}
-use Rattle.hm_heap.specs.Passes.{IsOriginOf, region_at}
+use Rattle.hm_heap.specs.Passes.{IsOriginOf}
 
 -- a lock of this region, and its first turn, which has seen nothing
 pub record IsFounded (c : Config) (number region : ℕ) (lock : Lock) (turn : Known) : Type 0 where
@@ -15,10 +15,3 @@ pub record IsFounded (c : Config) (number region : ℕ) (lock : Lock) (turn : Kn
 abbrev pub Founds : List Lock → List Known → Type 0
 Founds locks turns = (r : ℕ) (l : Lock) (t : Known) → r < length locks
     → (slice_index_or turns r t).knows ≡ founding (slice_index_or locks r l).origin
-
--- so many locks and turns are made
-pub record BuildsTo (c : Config) (number : ℕ) (locks : List Lock) (turns : List Known) (count : ℕ) : Type 0 where
-  pub locks_long : length locks ≡ count
-  pub turns_long : length turns ≡ count
-  pub each : (r : ℕ) (l : Lock) (t : Known) → r < count
-      → IsFounded c number (region_at c r) (slice_index_or locks r l) (slice_index_or turns r t)

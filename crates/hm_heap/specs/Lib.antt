@@ -9,6 +9,5 @@ pub mod Parts
 pub mod Plans
 pub mod Calls
 pub mod Founds
-pub mod Loops
 pub mod Closes
 pub mod Laws

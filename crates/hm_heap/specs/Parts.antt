@@ -20,7 +20,7 @@ pub record HasPart (p q : PassView) (place : ℕ) (who : Who) (call : Call) (res
   pub called : (t : Known) → (turn.lock ≡ (slice_index_or p.turns place t).lock)
       × Called who call result (slice_index_or p.turns place t).knows turn.knows
 
--- the same, where the turn may have been held
+-- the same, where the turn may not have been free
 pub record HasTried (p q : PassView) (place : ℕ) (who : Who) (call : Call)
     (made : Option (Result Reply NoMemory)) : Type 0 where
   pub inside : place < length p.turns

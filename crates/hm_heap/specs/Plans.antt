@@ -43,7 +43,7 @@ pub record Serves (IsPlan : Plan → Type 0) (p q : PassView) (step : ℕ) (answ
   pub follows : Follows p q step 1 plan answer
 
 -- ---- a plan is tried
--- the first part may have found the turn held: then the answer is Busy
+-- the first part may have found the turn not free: then the answer is Busy
 pub record TriesPart (p q : PassView) (place : ℕ) (who : Who) (call : Call) (answer : Result Answer NoMemory)
     (Rest : PassView → Reply → Type 0) : Type 0 where
   pub between : PassView

@@ -66,8 +66,8 @@ impl<'g, P: Pages, G: Gate> Heap<'g, P, G> {
         }
     }
 
-    /// As `malloc`, but it waits for nobody: the answer is `Busy` where its one step found the turn of the
-    /// region held.
+    /// As `malloc`, but it waits for nobody: the answer is `Busy` where its one step found the turn of the region not
+    /// free, as another had drawn a ticket that was not yet served, or drew one first.
     pub fn try_malloc(&self, pass: &mut Pass, step: u32, asked: u64) -> Result<Answer, NoMemory>
         requires of { AreOf self.now.locks pass.old.turns }
         ensures same { pass.new ≡ record pass.old { turns = pass.new.turns } }

@@ -1,10 +1,11 @@
 //! The calls of a heap that are one part.
 ghost use Rattle.std.specs.Prelude.{◌≡◌, ◌<◌, ◌≤◌, ◌^◌, None, Some, length, IfOk};
 ghost use Rattle.hm_model.specs.Runs.{expand};
+ghost use Rattle.hm_sizes.specs.Aligned.{AlignedGives};
 ghost use Rattle.hm_heap.specs.Requests.{call_of, Asks, AsksAtHome, AsksOfKind, IsInReach};
 ghost use Rattle.hm_heap.specs.Passes.{AreOf, region_at};
 ghost use Rattle.hm_heap.specs.Plans.{Part, Follows, Serves};
-ghost use Rattle.hm_heap.specs.Calls.{replied, at_home, home_place, allot_plan, IsMallocPlan, IsCallocPlan, IsAlignedPlan, free_plan, usable_plan, read_plan, write_plan, AnswerInReach};
+ghost use Rattle.hm_heap.specs.Calls.{replied, at_home, home_place, allot_plan, IsMallocPlan, IsCallocPlan, IsAlignedPlan, free_plan, usable_plan, read_plan, write_plan, AnswerInReach, StartsAligned};
 
 use crate::heap::Heap;
 use crate::homes::{class_place, home_place, large_place};
@@ -77,6 +78,7 @@ impl<'g, P: Pages, G: Gate> Heap<'g, P, G> {
         ensures answer { Follows pass.old pass.new step 1
             (allot_plan self.now.config pass.old.thread asked align kind) result }
         ensures reach { IfOk result AnswerInReach }
+        ensures multiple { AlignedGives asked align (Some kind) → IfOk result (StartsAligned align) }
     {
         match kind {
             Kind::TooLarge => Ok(Answer::TooLarge),
@@ -110,7 +112,7 @@ impl<'g, P: Pages, G: Gate> Heap<'g, P, G> {
         self.allot(rt, pass, step, asked, 1, class_of(asked))
     }
 
-    /// A block of at least `count` times `size` bytes. All bytes of a given block are zero.
+    /// A block of at least `count` times `size` bytes. All bytes of a given block are zero, where bytes are told.
     pub fn calloc<R: Wait>(
         &self,
         rt: &R,
@@ -146,6 +148,7 @@ impl<'g, P: Pages, G: Gate> Heap<'g, P, G> {
         ensures answer { Serves (IsAlignedPlan self.now.config pass.old.thread align asked) pass.old pass.new step
             result }
         ensures reach { IfOk result AnswerInReach }
+        ensures multiple { IfOk result (StartsAligned align) }
     {
         match class_aligned(asked, align) {
             None => Ok(Answer::BadAlignment),
@@ -173,8 +176,8 @@ impl<'g, P: Pages, G: Gate> Heap<'g, P, G> {
         self.reply_at(rt, pass, step, addr, Request::GiveBack { addr, stated })
     }
 
-    /// Takes a block back. One that is live and whose canary is whole never lacks memory, unless it is a
-    /// large one of which a page failed as it was to be taken back before.
+    /// Takes a block back. Where bytes are told, one that is live and whose canary is whole never lacks memory, unless it
+    /// is a large one of which a page failed as it was to be taken back before.
     pub fn free<R: Wait>(
         &self,
         rt: &R,

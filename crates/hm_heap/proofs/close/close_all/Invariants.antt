@@ -1,5 +1,5 @@
 use Rattle.std.proofs.Common.{◌≤◌, vec_len, vec_capacity}
-use Rattle.hm_heap.specs.Closes.{ClosesFrom}
+use Rattle.hm_heap.proofs.Loops.{ClosesFrom}
 use Rattle.hm_heap.proofs.close.close_all.Given as goal
 
 abbrev pub invariant-loop-lock : goal.invariant-loop-lock

@@ -1,6 +1,6 @@
 use Rattle.std.proofs.Common.{ℕ, ◌<◌, ◌≤◌, vec_len, slice_index_or}
 use Rattle.hm_turn.specs.Known.{Known, KnowsCallers}
-use Rattle.hm_heap.specs.Loops.{MetFrom}
+use Rattle.hm_heap.proofs.Loops.{MetFrom}
 use Rattle.hm_heap.proofs.split.join_all.Given as goal
 
 abbrev pub invariant-loop-other : goal.invariant-loop-other

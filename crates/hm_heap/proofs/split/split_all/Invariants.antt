@@ -1,7 +1,7 @@
 use Rattle.std.proofs.Common.{ℕ, ◌<◌, ◌≤◌, vec_len, vec_capacity, slice_index_or}
 use Rattle.hm_turn.specs.Known.{Known, KnowsCallers}
 use Rattle.hm_heap.specs.Passes.{cut, born}
-use Rattle.hm_heap.specs.Loops.{ChangedTo}
+use Rattle.hm_heap.proofs.Loops.{ChangedTo}
 use Rattle.hm_heap.proofs.split.split_all.Given as goal
 
 abbrev pub invariant-loop-r : goal.invariant-loop-r

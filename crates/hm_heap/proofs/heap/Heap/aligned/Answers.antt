@@ -11,3 +11,6 @@ returns-in-None-clause-answer g c = record {
   is = no_alignment_plan _ _ c.args.align c.args.asked (subst (AlignedGives c.args.asked c.args.align) c.in-None.is c.class_aligned.ensures);
   follows = answers_at_once c.args.pass.now c.args.step BadAlignment;
 }
+
+pub returns-in-Some-clause-multiple : goal.returns-in-Some-clause-multiple
+returns-in-Some-clause-multiple g c = c.allot.ensures.multiple (subst (AlignedGives c.args.asked c.args.align) c.in-Some.is c.class_aligned.ensures)

@@ -1,0 +1,22 @@
+use Rattle.std.proofs.Common.{Some, sym, subst}
+use Rattle.hm_sizes.specs.Aligned.{AlignedGives}
+use Rattle.hm_sizes.specs.declared.class.Kind.{Kind}
+use Rattle.hm_heap.specs.Passes.{HeapView, AreOf}
+use Rattle.hm_heap.specs.Requests.{AsksOfKind}
+use Rattle.hm_heap.proofs.Starting.{small_starts, large_starts_at}
+use Rattle.hm_heap.proofs.heap.Heap.allot.Goals as goal
+
+pub returns-in-Small-clause-multiple : goal.returns-in-Small-clause-multiple
+returns-in-Small-clause-multiple g c gives =
+    let h = c.self.inside in
+    let of = subst (λ (z : HeapView). AreOf z.locks c.args.pass.now.turns) (sym c.self.view_is) c.requires.of in
+    small_starts h.config h.number h.locks.items c.args.pass.now c.args.align c.self.invariant of c.reply_of.new.pass c.args.step c.args.asked c.class_place-place.result c.pass.inside.thread c.in-Small.class c.reply_of.result
+    c.class_place-place.ensures.place c.class_place-place.ensures.below (subst (AsksOfKind c.args.asked c.args.align) c.in-Small.is c.requires.kind).0
+    (subst (λ (z : Kind). AlignedGives c.args.asked c.args.align (Some z)) c.in-Small.is gives) c.reply_of.ensures.answer
+
+pub returns-in-Large-clause-multiple : goal.returns-in-Large-clause-multiple
+returns-in-Large-clause-multiple g c gives =
+    let h = c.self.inside in
+    let of = subst (λ (z : HeapView). AreOf z.locks c.args.pass.now.turns) (sym c.self.view_is) c.requires.of in
+    large_starts_at h.config h.number h.locks.items c.args.pass.now c.args.align c.self.invariant of c.reply_of-in-Large.new.pass c.args.step c.args.asked c.large_place-place.result c.reply_of-in-Large.result
+    c.large_place-place.ensures gives.0 c.reply_of-in-Large.ensures.answer
