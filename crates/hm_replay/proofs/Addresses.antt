@@ -1,6 +1,7 @@
 -- Addresses by names, searched by the order of names, are searched by their bytes.
 use Rattle.std.proofs.Common.{◌≡◌, ◌⊎◌, inl, inr, ℕ, Bool, true, false, cond, List, [], ◌∷◌, Option, Some, None, Result, Ok, Err, nat_eq, refl, sym, ◌∙◌, ap, subst}
 use Rattle.std.specs.Prelude.{IfSome, OnOk, OnErr}
+use Rattle.std.proofs.lemmas.Bool.{cond_both}
 use Rattle.std.specs.BTreeMap.{is_at}
 use Rattle.std.specs.Map.{lookup}
 use Rattle.std.specs.Cmp.Lexicographic.{pointwise, same_text, slice_cmp, texts_ties}
@@ -62,13 +63,9 @@ pub updated : (es fs : List (Name × ℕ)) (name : Name) (given : Option ℕ) �
 updated es fs name given h = λ i q. updated_at es fs name given h q i
 
 -- addresses stay in reach
-chosen_in_reach : (b : Bool) (one other : Option ℕ) → IfSome one IsInReach → IfSome other IsInReach → IfSome (cond b one other) IsInReach
-chosen_in_reach true one other p q = p
-chosen_in_reach false one other p q = q
-
 pub updated_in_reach : (es fs : List (Name × ℕ)) (name : Name) (given : Option ℕ) → Updated es fs name given → AllInReach es → IfSome given IsInReach → AllInReach fs
 updated_in_reach es fs name given h all new q =
-    subst (λ (o : Option ℕ). IfSome o IsInReach) (sym (updated_at es fs name given h q)) (chosen_in_reach (is_word (name_view name) q) given (held es q) new (all q))
+    subst (λ (o : Option ℕ). IfSome o IsInReach) (sym (updated_at es fs name given h q)) (cond_both (is_word (name_view name) q) given (held es q) (λ (o : Option ℕ). IfSome o IsInReach) (λ e. new) (λ e. all q))
 
 -- also where memory may have lacked
 pub inserted_in_reach : {A B U : Type 0} (r : Result A B) (es fs : List (Name × ℕ)) (name : Name) (given : Option ℕ) → (U → Updated es fs name given) → OnOk r U → OnErr r (fs ≡ es) → AllInReach es → IfSome given IsInReach → AllInReach fs

@@ -1,7 +1,7 @@
 -- The results of rounds ascend by round, and within a round by thread.
 use Rattle.std.proofs.Common.{◌≡◌, ◌⊎◌, ℕ, ◌+◌, ◌<◌, ◌≤◌, ◌&&◌, nat_lt, nat_le, true, List, [], ◌∷◌, ◌++◌, length, arith, refl, sym, subst}
 use Rattle.std.specs.List.{list_all}
-use Rattle.std.proofs.lemmas.Bool.{and_from, and_parts}
+use Rattle.std.proofs.lemmas.Bool.{and_from, and_parts, leb-true, ltb-true}
 use mathlib.Core.Logic.{inl, inr}
 use Rattle.hm_report.specs.declared.results.Results.{Results}
 use Rattle.hm_report.specs.Findings.{ascends, precedes}
@@ -34,9 +34,6 @@ earlier : (round later thread least : ℕ) (rs : List Results) → round < later
 earlier round later thread least [] l a = tt
 earlier round later thread least (r ∷ rs) l a = (inl (elim a.0 [ inl m ↦ omega (arith, l, m) | inr e ↦ let same : later ≡ r.round = e.0 in omega (arith, l, same) ]), a.1)
 
-less_is : (a b : ℕ) → nat_lt a b ≡ true → a < b
-less_is a b e = grind (arith, e)
-
 round_after : (c : Config) (own : ℕ → Own) (caller round : ℕ) (names now after : Names) (scripts ones : List ScriptView) (thread : ℕ) (these later : List Results) → are_scripts ones thread scripts ≡ true
     → RunsRound c own caller round names now scripts these after → ((t : ℕ) → AreAfter round t later) → AreAfter round thread (these ++ later)
 round_after c own caller round names now after [] ones thread these later valid ran rest = subst (λ (l : List Results). AreAfter round thread (l ++ later)) (sym ran.0) (rest thread)
@@ -44,7 +41,7 @@ round_after c own caller round names now after (s ∷ scripts) ones thread these
     let one = and_parts (nat_lt thread s.thread && is_script s && avoids ones s.steps) (are_scripts (ones ++ s ∷ []) s.thread scripts) valid in
     let two = and_parts (nat_lt thread s.thread && is_script s) (avoids ones s.steps) one.0 in
     let three = and_parts (nat_lt thread s.thread) (is_script s) two.0 in
-    let less : thread < s.thread = less_is thread s.thread three.0 in
+    let less : thread < s.thread = ltb-true thread s.thread three.0 in
     let next : AreAfter round s.thread (ran.later ++ later) = round_after c own (caller + 1) round names (settled now s.steps ran.last) after scripts (ones ++ s ∷ []) s.thread ran.later later one.1 ran.rest rest in
     subst (λ (l : List Results). AreAfter round thread (l ++ later)) (sym ran.results_are) (
       inr (sym ran.round_is, subst (λ (t : ℕ). thread < t) (sym ran.thread_is) less),
@@ -70,8 +67,7 @@ few : (s : ScriptView) → is_script s ≡ true → s.thread ≤ 16
 few s valid =
     let one = and_parts (nat_le 1 s.thread && nat_le s.thread 16) (list_all is_step s.steps) valid in
     let two = and_parts (nat_le 1 s.thread) (nat_le s.thread 16) one.0 in
-    let most = two.1 in
-    grind (arith, most)
+    leb-true s.thread 16 two.1
 
 fewer : (scripts ones : List ScriptView) (last : ℕ) → last ≤ 16 → are_scripts ones last scripts ≡ true → length scripts + last ≤ 16
 fewer [] ones last most valid = omega (arith, most)
@@ -79,7 +75,7 @@ fewer (s ∷ scripts) ones last most valid =
     let one = and_parts (nat_lt last s.thread && is_script s && avoids ones s.steps) (are_scripts (ones ++ s ∷ []) s.thread scripts) valid in
     let two = and_parts (nat_lt last s.thread && is_script s) (avoids ones s.steps) one.0 in
     let three = and_parts (nat_lt last s.thread) (is_script s) two.0 in
-    let less : last < s.thread = less_is last s.thread three.0 in
+    let less : last < s.thread = ltb-true last s.thread three.0 in
     let rest : length scripts + s.thread ≤ 16 = fewer scripts (ones ++ s ∷ []) s.thread (few s three.1) one.1 in
     omega (arith, less, rest)
 

@@ -1,10 +1,22 @@
 -- One more pass is joined.
-use Rattle.std.proofs.Common.{◌≡◌, ◌-◌, List, [], ◌∷◌, ◌++◌, length-append, slice_index_or, map, arith, ap, ◌∙◌, sym, subst, suc, append_assoc}
+use Rattle.std.proofs.Common.{◌≡◌, ℕ, ◌+◌, ◌-◌, ◌<◌, List, [], ◌∷◌, ◌++◌, length, length-append, slice_index_or, map, arith, ap, ◌∙◌, sym, subst, suc, append_assoc}
 use Rattle.hm_turn.specs.Known.{Lock, Known, IsOf}
 use Rattle.hm_heap.specs.Passes.{PassView, AreOf, AllKnow, all_met}
 use Rattle.hm_heap.proofs.Splitting.{met_index, met_long}
 use Rattle.hm_replay.specs.declared.round.Worker.{Worker}
-use Rattle.hm_replay.specs.Workers.{FinishingFrom, after_joins}
+use Rattle.hm_replay.specs.Workers.{after_joins}
+
+-- how far the passes were joined: these workers, of which the rest is still to join
+pub record FinishingFrom {X : Type 0} (result_of : Worker → X) (locks : List Lock) (p q : PassView)
+    (workers rest : List Worker) (results : List X) : Type 0 where
+  pub turns_are : after_joins q.turns rest ≡ after_joins p.turns workers
+  pub out_is : q.out - length rest ≡ p.out - length workers
+  pub same : q ≡ record p { out = q.out; turns = q.turns }
+  pub of : AreOf locks q.turns
+  pub rest_of : (i : ℕ) (w : Worker) → i < length rest → AreOf locks (slice_index_or rest i w).pass.turns
+  pub results_are : results ++ map result_of rest ≡ map result_of workers
+  pub knows : length rest < length workers → AllKnow q.turns
+  pub count : length results + length rest ≡ length workers
 
 pub met_of : (locks : List Lock) (ts us : List Known) → AreOf locks ts → AreOf locks us → AreOf locks (all_met ts us)
 met_of locks ts us a b = record {

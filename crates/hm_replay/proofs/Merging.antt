@@ -1,5 +1,6 @@
 -- The names that steps set are gathered, and one more is merged.
 use Rattle.std.proofs.Common.{◌≡◌, ℕ, ◌||◌, Bool, true, false, cond, List, [], ◌∷◌, ◌++◌, Option, Some, None, Result, Ok, Err, IfOk, IfSome, refl, sym, ◌∙◌, ap, subst}
+use Rattle.std.proofs.Math.Bool.{or_comm, or_self_left, or-false}
 use Rattle.std.specs.BTreeSet.{BTreeSet, insert_key}
 use Rattle.std.specs.Result.{result_ok}
 use Rattle.hm_outside.specs.declared.memory.NoMemory.{NoMemory}
@@ -27,22 +28,12 @@ or_swap true false c = refl
 or_swap false true c = refl
 or_swap false false c = refl
 
-or_again : (b c : Bool) → (b || c) ≡ (b || (b || c))
-or_again true c = refl
-or_again false c = refl
-
-or_turned : (b c : Bool) → (b || c) ≡ (c || b)
-or_turned true true = refl
-or_turned true false = refl
-or_turned false true = refl
-or_turned false false = refl
-
 joined : (k n : Name) (ns : List Name) (q : List ℕ) (o : Ordering) → by_bytes k n ≡ o → is_one_of q (insert_key by_bytes ns k) ≡ (is_word (name_view k) q || is_one_of q ns)
     → is_one_of q (match_ordering o (k ∷ n ∷ ns) (n ∷ ns) (n ∷ insert_key by_bytes ns k)) ≡ (is_word (name_view k) q || is_one_of q (n ∷ ns))
 joined k n ns q Less is later = refl
 joined k n ns q Equal is later =
     let same : name_view k ≡ name_view n = same_text (name_view k) (name_view n) (sym (texts_ties (name_view k) (name_view n) ∙ ap is_eq is)) in
-    or_again (is_word (name_view n) q) (is_one_of q ns) ∙ ap (λ (w : List ℕ). is_word w q || is_one_of q (n ∷ ns)) (sym same)
+    sym (or_self_left (is_word (name_view n) q) (is_one_of q ns)) ∙ ap (λ (w : List ℕ). is_word w q || is_one_of q (n ∷ ns)) (sym same)
 joined k n ns q Greater is later = ap (λ (b : Bool). is_word (name_view n) q || b) later ∙ or_swap (is_word (name_view n) q) (is_word (name_view k) q) (is_one_of q ns)
 
 inserted : (k : Name) (ns : List Name) (q : List ℕ) → is_one_of q (insert_key by_bytes ns k) ≡ (is_word (name_view k) q || is_one_of q ns)
@@ -54,12 +45,12 @@ taken_by ns s q o is = ap (λ (o : Option (List ℕ)). is_one_of q ns || option_
 
 -- a step that sets none
 pub none_taken : (ns : List Name) (s : StepView) (q : List ℕ) → None ≡ name_set s → is_one_of q ns ≡ (is_one_of q ns || sets_name q s)
-none_taken ns s q is = sym (or_turned (is_one_of q ns) false) ∙ taken_by ns s q None is
+none_taken ns s q is = sym (or-false (is_one_of q ns)) ∙ taken_by ns s q None is
 
 -- a step that sets this name
 pub one_taken : (ns ms : List Name) (k : Name) (s : StepView) (q : List ℕ) → Some (name_view k) ≡ name_set s → ms ≡ insert_key by_bytes ns k → is_one_of q ms ≡ (is_one_of q ns || sets_name q s)
 one_taken ns ms k s q is keys =
-    ap (λ (l : List Name). is_one_of q l) keys ∙ (inserted k ns q ∙ (or_turned (is_word (name_view k) q) (is_one_of q ns) ∙ taken_by ns s q (Some (name_view k)) is))
+    ap (λ (l : List Name). is_one_of q l) keys ∙ (inserted k ns q ∙ (or_comm (is_word (name_view k) q) (is_one_of q ns) ∙ taken_by ns s q (Some (name_view k)) is))
 
 -- ---- one more name is merged
 chosen : (names last : Names) (name q : List ℕ) (b rest : Bool) → is_word name q ≡ b → cond rest (last q) (cond b (last name) (names q)) ≡ cond (b || rest) (last q) (names q)

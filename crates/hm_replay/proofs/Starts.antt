@@ -14,7 +14,16 @@ use Rattle.hm_trace.specs.Views.{ScriptView}
 use Rattle.hm_replay.specs.Names.{Names, held}
 use Rattle.hm_replay.specs.Gains.{mine_of}
 use Rattle.hm_replay.specs.declared.round.Worker.{Worker}
-use Rattle.hm_replay.specs.Workers.{IsReady, HasParted, IsStarted, HasCut, StartedTo}
+use Rattle.hm_replay.specs.Workers.{IsReady, HasParted, IsStarted, IsBegun, HasCut}
+
+-- the workers that were started so far, each for the script at its place
+pub record StartedTo (locks : List Lock) (round : ℕ) (p q : PassView) (scripts : List ScriptView) (names : Names)
+    (workers : List Worker) : Type 0 where
+  pub parted : HasParted locks (length workers) p q
+  pub each : (i : ℕ) (w : Worker) → i < length workers
+      → IsBegun locks (p.splits + 1 + i) round p names (slice_index_or workers i w)
+  pub scripts_are : (i : ℕ) (w : Worker) (s : ScriptView) → i < length workers
+      → (slice_index_or workers i w).script.now ≡ slice_index_or scripts i s
 
 still_unused : (first count c : ℕ) (used : List ℕ) → (c < first) ⊎ (first + (count + 1) ≤ c) → is_among c ((first + count) ∷ used) ≡ is_among c used
 still_unused first count c used o = let away : c ≢ first + count = λ e. elim o [ inl l ↦ omega (arith, e, l) | inr l ↦ omega (arith, e, l) ] in grind (arith, common_steps, away)

@@ -1,4 +1,4 @@
--- A call that tries first, and waits only where the turn is held.
+-- A call that tries first, and waits only where the turn was not free.
 use Rattle.std.proofs.Common.{◌≡◌, ◌==◌, Bool, true, false, cond, ℕ, ◌<◌, List, [], ◌++◌, length, map, slice_index_or, slice_set, Option, Some, None, Result, Ok, Err, refl, sym, ◌∙◌, ap, subst, arith, true≢false}
 use Rattle.std.specs.Prelude.{IfOk, MatchOption}
 use Rattle.std.proofs.lemmas.Bool.{cases_eq}
@@ -77,7 +77,7 @@ chosen_single false p q s t = t
 pub free_single : (c : Config) (a : ℕ) (stated : Option ℕ) → IsSingle (free_plan c a stated)
 free_single c a stated = chosen_single (a == 0) (Done answer.Nothing) _ tt (home_single (home_place c a) _)
 
--- ---- the turn was held: nothing was gained
+-- ---- the turn was not free: nothing was gained
 pub record Idles (ts us : List Known) : Type 0 where
   pub gains : Gains ts us (λ xs ys. xs ≡ ys)
   pub grew : AllGrew ts us
@@ -124,7 +124,7 @@ pub tries_idle : (p q : PassView) (step : ℕ) (plan : Plan) (r : Result Answer 
 tries_idle p q step (Done a) r single busy t = idles_none p.turns q.turns (ap (λ (z : PassView). z.turns) t.1)
 tries_idle p q step (Part place call next) r single busy t = part_idle p t.between q step place (who_of p step 1) call next r t.tried single busy t.part t.rest
 
--- ---- it was not held: the plan was followed
+-- ---- it was free: the plan was followed
 part_follows : (p m q : PassView) (step place : ℕ) (call : Call) (next : Reply → Plan) (r : Result Answer NoMemory) (tried : Option (Result Reply NoMemory))
     → (IsBusy r → ⊥) → m ≡ record p { turns = m.turns } → HasTried p m place (who_of p step 1) call tried
     → MatchOption tried ((q ≡ m) × (r ≡ Ok answer.Busy)) (GoesOn m q r (λ between reply. Follows between q step 2 (next reply) r)) → Follows p q step 1 (Part place call next) r
@@ -141,7 +141,7 @@ pub tries_follows : (p q : PassView) (step : ℕ) (plan : Plan) (r : Result Answ
 tries_follows p q step (Done a) r not t = t
 tries_follows p q step (Part place call next) r not t = part_follows p t.between q step place call next r t.tried not t.same t.part t.rest
 
--- ---- the call that waits, after one that found the turn held
+-- ---- the call that waits, after one that found the turn not free
 pub after_busy : (IsPlan : ℕ → Plan → Type 0) (p m q : PassView) (step : ℕ) (r : Result Answer NoMemory) → m ≡ record p { turns = m.turns } → Idles p.turns m.turns
     → IfOk r (λ a. Gains m.turns q.turns (Answers (IsPlan m.thread) (λ part. who_of m step part) a))
     → IfOk r (λ a. Gains p.turns q.turns (Answers (IsPlan p.thread) (λ part. who_of p step part) a))

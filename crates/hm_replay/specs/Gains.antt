@@ -50,7 +50,7 @@ pub record AllGrew (ts us : List Known) : Type 0 where
   pub as_many : length us ≡ length ts
   pub each : (place : ℕ) (t : Known) → Grew (slice_index_or ts place t) (slice_index_or us place t)
 
--- the turn was held
+-- the turn was not free
 abbrev pub is_busy : Answer → Bool
 is_busy answer.Busy = true
 is_busy a = false

@@ -1,6 +1,5 @@
--- The workers of a round: their passes before and after their scripts are run, and how far the loops over them
--- have come.
-use Rattle.std.specs.Prelude.{◌≡◌, ℕ, ◌+◌, ◌-◌, ◌<◌, ◌≤◌, ◌⊎◌, List, [], ◌∷◌, ◌++◌, length, slice_index_or, map, IfSome}
+-- The workers of a round: their passes before and after their scripts are run, and after they are joined.
+use Rattle.std.specs.Prelude.{◌≡◌, ℕ, ◌+◌, ◌-◌, ◌<◌, ◌≤◌, ◌⊎◌, List, [], ◌∷◌, length, slice_index_or, map, IfSome}
 use Rattle.hm_report.specs.declared.results.Results.{Results}
 use Rattle.hm_sizes.specs.declared.config.Config.{Config}
 use Rattle.hm_trace.specs.Views.{ScriptView}
@@ -66,14 +65,6 @@ pub record IsStarted (locks : List Lock) (caller round : ℕ) (root p : PassView
 abbrev pub IsBegun : List Lock → ℕ → ℕ → PassView → Names → Worker → Type 0
 IsBegun locks caller round root names w = IsStarted locks caller round root w.pass w.script.now names (held w.env)
 
-pub record StartedTo (locks : List Lock) (round : ℕ) (p q : PassView) (scripts : List ScriptView) (names : Names)
-    (workers : List Worker) : Type 0 where
-  pub parted : HasParted locks (length workers) p q
-  pub each : (i : ℕ) (w : Worker) → i < length workers
-      → IsBegun locks (p.splits + 1 + i) round p names (slice_index_or workers i w)
-  pub scripts_are : (i : ℕ) (w : Worker) (s : ScriptView) → i < length workers
-      → (slice_index_or workers i w).script.now ≡ slice_index_or scripts i s
-
 -- ---- passes are joined
 -- the turns after the passes are joined, in order
 abbrev pub after_joins : List Known → List Worker → List Known
@@ -86,18 +77,6 @@ pub record FinishedTo {X : Type 0} (result_of : Worker → X) (locks : List Lock
   pub of : AreOf locks q.turns
   pub results_are : results ≡ map result_of workers
   pub knows : 0 < length workers → AllKnow q.turns
-
--- with these passes still to join
-pub record FinishingFrom {X : Type 0} (result_of : Worker → X) (locks : List Lock) (p q : PassView)
-    (workers rest : List Worker) (results : List X) : Type 0 where
-  pub turns_are : after_joins q.turns rest ≡ after_joins p.turns workers
-  pub out_is : q.out - length rest ≡ p.out - length workers
-  pub same : q ≡ record p { out = q.out; turns = q.turns }
-  pub of : AreOf locks q.turns
-  pub rest_of : (i : ℕ) (w : Worker) → i < length rest → AreOf locks (slice_index_or rest i w).pass.turns
-  pub results_are : results ++ map result_of rest ≡ map result_of workers
-  pub knows : length rest < length workers → AllKnow q.turns
-  pub count : length results + length rest ≡ length workers
 
 -- ---- names are merged
 -- where memory was found, the worker knows which names its script sets

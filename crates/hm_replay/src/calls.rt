@@ -15,19 +15,19 @@ use hm_trace::Step;
 use std::alloc::Global;
 use std::sync::Wait;
 
-// The turn was held by another.
+// The turn was not free.
 fn is_busy(answer: &Answer) -> bool
     ensures { result ≡ is_busy answer.now }
 {
     matches!(answer, Answer::Busy)
 }
 
-// A block is asked for. This waits only where the turn is held.
+// A block is asked for. This waits only where the turn was not free.
 fn malloc<R: Wait, P: Pages, G: Gate>(
     rt: &R,
     heap: &Heap<'_, P, G>,
     pass: &mut Pass,
-    number: u32,
+    step_number: u32,
     size: u64,
 ) -> Result<Answer, NoMemory>
     requires of { AreOf heap.now.locks pass.old.turns }
@@ -35,22 +35,22 @@ fn malloc<R: Wait, P: Pages, G: Gate>(
     ensures of { AreOf heap.now.locks pass.new.turns }
     ensures grew { AllGrew pass.old.turns pass.new.turns }
     ensures gains { IfOk result
-        (GainsAnswer (IsMallocPlan heap.now.config pass.old.thread size) pass.old pass.new number) }
+        (GainsAnswer (IsMallocPlan heap.now.config pass.old.thread size) pass.old pass.new step_number) }
     ensures reach { IfOk result AnswerInReach }
 {
-    let tried = heap.try_malloc(pass, number, size)?;
+    let tried = heap.try_malloc(pass, step_number, size)?;
     if is_busy(&tried) {
-        return heap.malloc(rt, pass, number, size);
+        return heap.malloc(rt, pass, step_number, size);
     }
     Ok(tried)
 }
 
-// A block is given back. This waits only where the turn is held.
+// A block is given back. This waits only where the turn was not free.
 fn free<R: Wait, P: Pages, G: Gate>(
     rt: &R,
     heap: &Heap<'_, P, G>,
     pass: &mut Pass,
-    number: u32,
+    step_number: u32,
     addr: u64,
 ) -> Result<Answer, NoMemory>
     requires of { AreOf heap.now.locks pass.old.turns }
@@ -58,11 +58,11 @@ fn free<R: Wait, P: Pages, G: Gate>(
     ensures of { AreOf heap.now.locks pass.new.turns }
     ensures grew { AllGrew pass.old.turns pass.new.turns }
     ensures gains { IfOk result
-        (GainsAnswer (λ plan. plan ≡ free_plan heap.now.config addr None) pass.old pass.new number) }
+        (GainsAnswer (λ plan. plan ≡ free_plan heap.now.config addr None) pass.old pass.new step_number) }
 {
-    let tried = heap.try_free(pass, number, addr)?;
+    let tried = heap.try_free(pass, step_number, addr)?;
     if is_busy(&tried) {
-        return heap.free(rt, pass, number, addr);
+        return heap.free(rt, pass, step_number, addr);
     }
     Ok(tried)
 }
@@ -73,7 +73,7 @@ fn write<R: Wait, P: Pages, G: Gate>(
     alloc: Global,
     heap: &Heap<'_, P, G>,
     pass: &mut Pass,
-    number: u32,
+    step_number: u32,
     addr: u64,
     len: u64,
     byte: u8,
@@ -85,20 +85,21 @@ fn write<R: Wait, P: Pages, G: Gate>(
     ensures of { AreOf heap.now.locks pass.new.turns }
     ensures grew { AllGrew pass.old.turns pass.new.turns }
     ensures gains { IfOk result
-        (GainsAnswer (λ plan. plan ≡ write_plan heap.now.config addr (same_runs byte len)) pass.old pass.new number) }
+        (GainsAnswer (λ plan. plan ≡ write_plan heap.now.config addr (same_runs byte len)) pass.old pass.new
+        step_number) }
 {
     let runs = Runs::same(alloc, byte, len)?;
-    heap.write(rt, pass, number, addr, &runs)
+    heap.write(rt, pass, step_number, addr, &runs)
 }
 
 /// Makes the call of a step, at the address that the step refers to.
-#[tactic(auto, using(crate::proofs::Gaining::serves_answer, crate::proofs::Gaining::serves_grew, crate::proofs::Gaining::follows_is, crate::proofs::Gaining::follows_grew))]
+#[tactic(auto, using(crate::proofs::Gaining::serves_grew, crate::proofs::Gaining::follows_grew))]
 pub(crate) fn call<R: Wait, P: Pages, G: Gate>(
     rt: &R,
     alloc: Global,
     heap: &Heap<'_, P, G>,
     pass: &mut Pass,
-    number: u32,
+    step_number: u32,
     step: &Step,
     base: u64,
 ) -> Result<Answer, NoMemory>
@@ -108,18 +109,28 @@ pub(crate) fn call<R: Wait, P: Pages, G: Gate>(
     ensures of { AreOf heap.now.locks pass.new.turns }
     ensures grew { AllGrew pass.old.turns pass.new.turns }
     ensures gains { IfOk result
-        (GainsAnswer (IsStepPlan heap.now.config pass.old.thread (step_view step.now) base) pass.old pass.new number) }
+        (GainsAnswer (IsStepPlan heap.now.config pass.old.thread (step_view step.now) base) pass.old pass.new
+        step_number) }
     ensures reach { IfOk result (SetsInReach (step_view step.now)) }
 {
     match step {
-        Step::Malloc { size, .. } => malloc(rt, heap, pass, number, *size),
-        Step::Calloc { count, size, .. } => heap.calloc(rt, pass, number, *count, *size),
-        Step::Aligned { align, size, .. } => heap.aligned(rt, pass, number, *align, *size),
-        Step::Realloc { size, .. } => heap.realloc(rt, pass, number, base, *size),
-        Step::Free { .. } => free(rt, heap, pass, number, base),
-        Step::Sfree { size, .. } => heap.free_sized(rt, pass, number, base, *size),
-        Step::Write { len, byte, .. } => write(rt, alloc, heap, pass, number, base, *len, *byte),
-        Step::Read { len, .. } => heap.read(rt, pass, number, base, *len),
-        Step::Size { .. } => heap.usable(rt, pass, number, base),
+        Step::Malloc { size, .. } => malloc(rt, heap, pass, step_number, *size),
+        Step::Calloc { count, size, .. } => heap.calloc(rt, pass, step_number, *count, *size),
+        Step::Aligned { align, size, .. } => heap.aligned(rt, pass, step_number, *align, *size),
+        Step::Realloc { size, .. } => heap.realloc(rt, pass, step_number, base, *size),
+        Step::Free { .. } => free(rt, heap, pass, step_number, base),
+        Step::Sfree { size, .. } => heap.free_sized(rt, pass, step_number, base, *size),
+        Step::Write { len, byte, .. } => write(
+            rt,
+            alloc,
+            heap,
+            pass,
+            step_number,
+            base,
+            *len,
+            *byte,
+        ),
+        Step::Read { len, .. } => heap.read(rt, pass, step_number, base, *len),
+        Step::Size { .. } => heap.usable(rt, pass, step_number, base),
     }
 }

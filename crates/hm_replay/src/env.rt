@@ -68,9 +68,7 @@ impl Env {
     pub(crate) fn copy(&self) -> Result<Env, NoMemory>
         ensures { IfOk result (λ env. held env ≡ held self.now) }
     {
-        match self.addresses.clone() {
-            Ok(addresses) => Ok(Env { addresses }),
-            Err(_) => Err(NoMemory),
-        }
+        let addresses = self.addresses.clone()?;
+        Ok(Env { addresses })
     }
 }

@@ -11,6 +11,7 @@ mod round;
 mod script;
 
 pub use env::Env;
+pub use hm_report::{Results, StepResult};
 pub use laws::{replayed_rounds, small_rounds};
 pub use round::run_round;
 pub use script::run_script;

@@ -79,7 +79,7 @@ fn start<'s, P: Pages, G: Gate>(
     alloc: Global,
     heap: &Heap<'_, P, G>,
     root: &mut Pass,
-    number: u32,
+    round_number: u32,
     scripts: &'s [Script],
     env: &Env,
     workers: &mut Vec<Worker<'s>>,
@@ -90,7 +90,7 @@ fn start<'s, P: Pages, G: Gate>(
     requires room { (workers.old.items ≡ []) × (length scripts.now ≤ vec_capacity workers.old) }
     ensures root { HasParted heap.now.locks (vec_len workers.new) root.old root.new }
     ensures workers { (i : ℕ) (w : _) → i < vec_len workers.new
-        → IsBegun heap.now.locks (root.old.splits + 1 + i) number root.old (held env.now)
+        → IsBegun heap.now.locks (root.old.splits + 1 + i) round_number root.old (held env.now)
         (slice_index_or workers.new.items i w) }
     ensures scripts { (i : ℕ) (w : _) (s : _) → i < vec_len workers.new
         → (slice_index_or workers.new.items i w).script.now ≡ slice_index_or scripts.now i s }
@@ -99,7 +99,7 @@ fn start<'s, P: Pages, G: Gate>(
 {
     for script in scripts {
         let env = env.copy()?;
-        let pass = heap.split(alloc, root, number, script.thread())?;
+        let pass = heap.split(alloc, root, round_number, script.thread())?;
         workers.push_reserved(Worker {
             script,
             pass,

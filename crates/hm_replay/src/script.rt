@@ -27,7 +27,7 @@ fn run_step<R: Wait, P: Pages, G: Gate>(
     heap: &Heap<'_, P, G>,
     pass: &mut Pass,
     env: &mut Env,
-    number: u32,
+    step_number: u32,
     step: &Step,
 ) -> Result<StepResult, NoMemory>
     requires of { AreOf heap.now.locks pass.old.turns }
@@ -35,7 +35,7 @@ fn run_step<R: Wait, P: Pages, G: Gate>(
     ensures same { pass.new ≡ record pass.old { turns = pass.new.turns } }
     ensures of { AreOf heap.now.locks pass.new.turns }
     ensures grew { AllGrew pass.old.turns pass.new.turns }
-    ensures ran { IfOk result (GainsResult heap.now pass.old pass.new number (held env.old) (step_view step.now)) }
+    ensures ran { IfOk result (GainsResult heap.now pass.old pass.new step_number (held env.old) (step_view step.now)) }
     ensures names { IfOk result (λ r. held env.new ≡ names_after (held env.old) (step_view step.now) r.answer) }
 {
     let Some(base) = base_of(env, step) else {
@@ -44,7 +44,7 @@ fn run_step<R: Wait, P: Pages, G: Gate>(
             answer: None,
         });
     };
-    let answer = call(rt, alloc, heap, pass, number, step, base)?;
+    let answer = call(rt, alloc, heap, pass, step_number, step, base)?;
     name(env, step, &answer)?;
     Ok(StepResult {
         base,

@@ -7,7 +7,7 @@ use hm_heap::{Heap, Pass};
 use hm_model::{Answer, Entry, Reply};
 use hm_outside::{Gate, NoGate, NoMemory, Pages, PlainMaker};
 use hm_report::{Results, StepResult, report};
-use hm_sizes::Config;
+use hm_sizes::{CLASSES, Config};
 use hm_trace::{Round, read_trace};
 use std::alloc::Global;
 use std::slice;
@@ -106,23 +106,23 @@ fn reports_of_rounds(rt: HostRuntime) -> Result<(), Fail> {
 fn many_scripts(alloc: Global) -> Result<Vec<u8>, NoMemory> {
     let mut text = Vec::new(alloc);
     text.extend_from_slice(b"hmtrace 1\nround\n")?;
-    for number in 1u8..17 {
-        text.extend_from_slice(b"thread ")?;
-        if number > 9 {
-            text.push(b'1')?;
-        }
-        text.push(b'0' + number % 10)?;
-        text.push(b'\n')?;
+    for thread in 1u8..17 {
+        let head = format!(in alloc; "thread {thread}\n")?;
+        let pair = format!(in alloc; "malloc n{thread} 100\nfree n{thread}\n")?;
+        text.extend_from_slice(head.as_bytes())?;
         for _ in 0u32..500 {
-            text.extend_from_slice(b"malloc ")?;
-            text.push(b'a' + number)?;
-            text.extend_from_slice(b" 100\nfree ")?;
-            text.push(b'a' + number)?;
-            text.push(b'\n')?;
+            text.extend_from_slice(pair.as_bytes())?;
         }
     }
     text.extend_from_slice(b"end\n")?;
     Ok(text)
+}
+
+/// The place of the region that serves the script at an index of the round: the threads, 1, 2 and so on, go to the
+/// four arenas in turn, and a block of 100 bytes is of class 7.
+fn place_of_script(index: usize) -> usize {
+    let arena = index % 4;
+    arena * CLASSES as usize + 7
 }
 
 /// Whether a result is that of an entry.
@@ -164,8 +164,7 @@ fn many_scripts_at_once(rt: HostRuntime) -> Result<(), Fail> {
     let closed = heap.close(alloc, root)?;
     assert_eq!(rt; results.len(), 16);
     for (index, of_script) in results.iter().enumerate() {
-        let region = 7 + 49 * (index % 4);
-        let history = closed.histories.items().get(region);
+        let history = closed.histories.items().get(place_of_script(index));
         let entries = history
             .map(|history| history.entries.items())
             .unwrap_or(&[]);

@@ -1,6 +1,5 @@
 use Rattle.std.proofs.Common.{arith, ◌≡◌, ◌∷◌, subst}
-use Rattle.hm_replay.specs.Workers.{FinishingFrom}
-use Rattle.hm_replay.proofs.Finishes.{finishing_more}
+use Rattle.hm_replay.proofs.Finishes.{FinishingFrom, finishing_more}
 use Rattle.hm_replay.proofs.round.finish.Goals as goal
 
 pub loop-worker-preserved : goal.loop-worker-preserved

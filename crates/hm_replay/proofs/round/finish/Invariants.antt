@@ -1,5 +1,5 @@
 use Rattle.std.proofs.Common.{◌≤◌, vec_len, vec_capacity}
-use Rattle.hm_replay.specs.Workers.{FinishingFrom}
+use Rattle.hm_replay.proofs.Finishes.{FinishingFrom}
 use Rattle.hm_replay.proofs.round.finish.Given as goal
 
 abbrev pub invariant-loop-worker : goal.invariant-loop-worker
