@@ -63,51 +63,43 @@ Faultless = (trace : List (List ScriptView)) → IsTrace trace → text_fault (s
 abbrev pub Short : Type 0
 Short = (trace : List (List ScriptView)) → IsTrace trace → length (spelling trace) ≤ 67108864
 
-module _ {P : Type 0} (meaning : pages.Ghosts P) (status : ℕ) (closed : Option (Closed P)) where
-  ran_well : (o : Options) (trace : List (List ScriptView)) (text_of : Closed P → List Results → List ℕ) (held held' : Option (List ℕ)) (sink_rose : Type 0)
-      → (sink_rose → ⊥) → RunsTrace meaning status closed o trace text_of held held' sink_rose → EndsWell status
-  ran_well o trace text_of held held' sink_rose sink ran = by_writing ran.results ran.written
+module _ {P : Type 0} (meaning : pages.Ghosts P) (status : ℕ) (closed : Option (Closed P)) (held held' : Option (List ℕ)) (sink_rose : Type 0) (sink : sink_rose → ⊥) where
+  ran_well : (o : Options) (trace : List (List ScriptView)) (text_of : Closed P → List Results → List ℕ)
+      → RunsTrace meaning status closed held held' sink_rose o trace text_of → EndsWell status
+  ran_well o trace text_of ran = by_writing ran.results ran.written
     where
       by_writing : (results : List Results) → IsWritten status (status_after results) held held' sink_rose (text_of ran.left results) → EndsWell status
       by_writing results (inl w) = finding_or_none (has_finding results) status w.0
       by_writing results (inr w) = absurd (sink w.1)
 
-  stress_ends : (o : Options) (number : ℕ) (held held' : Option (List ℕ)) (sink_rose : Type 0) → (sink_rose → ⊥)
-      → StressEnds meaning status closed o number held held' sink_rose → EndsWell status
-  stress_ends o number held held' sink_rose sink (inl ran) = ran_well o _ _ held held' sink_rose sink ran
-  stress_ends o number held held' sink_rose sink (inr none) = inr (inr none.status_is)
+  stress_ends : (o : Options) (number : ℕ) → StressEnds meaning status closed held held' sink_rose o number → EndsWell status
+  stress_ends o number (inl ran) = ran_well o _ _ ran
+  stress_ends o number (inr none) = inr (inr none.status_is)
 
-  pub complete_stress : (words : List (String Global)) (left left' held held' : Option (List ℕ)) (source_rose sink_rose : Type 0)
-      → Ends meaning status closed words left left' source_rose held held' sink_rose → AsksStress words → (sink_rose → ⊥) → EndsWell status
-  complete_stress words left left' held held' source_rose sink_rose (inl run) asks sink = absurd (run_not_stress _ run.options asks.0 run.output asks.1 run.words_are asks.2)
-  complete_stress words left left' held held' source_rose sink_rose (inr (inl ended)) asks sink =
-      stress_ends ended.options ended.number held held' sink_rose sink ended.ends
-  complete_stress words left left' held held' source_rose sink_rose (inr (inr unasked)) asks sink = absurd (none-some _ (sym unasked.words_are ∙ asks.2))
+  pub complete_stress : (words : List (String Global)) (left left' : Option (List ℕ)) (source_rose : Type 0)
+      → Ends meaning status closed words left left' source_rose held held' sink_rose → AsksStress words → EndsWell status
+  complete_stress words left left' source_rose (inl run) asks = absurd (run_not_stress _ run.options asks.0 run.output asks.1 run.words_are asks.2)
+  complete_stress words left left' source_rose (inr (inl ended)) asks = stress_ends ended.options ended.number ended.ends
+  complete_stress words left left' source_rose (inr (inr unasked)) asks = absurd (none-some _ (sym unasked.words_are ∙ asks.2))
 
-  module _ (faultless : Faultless) (short : Short) where
-    text_ends : (o : Options) (output : Output) (trace : List (List ScriptView)) (bytes : List ℕ) (held held' : Option (List ℕ)) (sink_rose : Type 0)
-        → IsTrace trace → bytes ≡ spelling trace → (sink_rose → ⊥) → TextEnds meaning status closed o output bytes held held' sink_rose → EndsWell status
-    text_ends o output trace bytes held held' sink_rose is spelled sink (inl ran) = ran_well o _ _ held held' sink_rose sink ran.runs
-    text_ends o output trace bytes held held' sink_rose is spelled sink (inr (inl faulty)) =
-        absurd (none-some faulty.fault (sym (ap text_fault spelled ∙ faultless trace is) ∙ faulty.first))
-    text_ends o output trace bytes held held' sink_rose is spelled sink (inr (inr none)) = inr (inr none.status_is)
+  module _ (faultless : Faultless) (short : Short) (trace : List (List ScriptView)) (is : IsTrace trace) where
+    text_ends : (o : Options) (output : Output) (bytes : List ℕ)
+        → bytes ≡ spelling trace → TextEnds meaning status closed held held' sink_rose o output bytes → EndsWell status
+    text_ends o output bytes spelled (inl ran) = ran_well o _ _ ran.runs
+    text_ends o output bytes spelled (inr (inl faulty)) = absurd (none-some faulty.fault (sym (ap text_fault spelled ∙ faultless trace is) ∙ faulty.first))
+    text_ends o output bytes spelled (inr (inr none)) = inr (inr none.status_is)
 
-    source_ends : (o : Options) (output : Output) (trace : List (List ScriptView)) (bytes : List ℕ) (left' held held' : Option (List ℕ)) (source_rose sink_rose : Type 0)
-        → IsTrace trace → bytes ≡ spelling trace → (source_rose → ⊥) → (sink_rose → ⊥)
-        → SourceEnds meaning status closed o output (Some bytes) left' source_rose held held' sink_rose → EndsWell status
-    source_ends o output trace bytes left' held held' source_rose sink_rose is spelled source sink (inl read) =
-        text_ends o output trace read.bytes held held' sink_rose is (read_all bytes read.bytes left' read.read ∙ spelled) sink read.ends
-    source_ends o output trace bytes left' held held' source_rose sink_rose is spelled source sink (inr (inl ended)) =
-        let fits : length bytes ≤ 67108864 = omega (arith, ap (λ (l : List ℕ). length l) spelled, short trace is) in
-        absurd (refused ended.refusal bytes left' source_rose fits source ended.cause)
-    source_ends o output trace bytes left' held held' source_rose sink_rose is spelled source sink (inr (inr none)) = inr (inr none.status_is)
+    module _ (bytes : List ℕ) (spelled : bytes ≡ spelling trace) (left' : Option (List ℕ)) (source_rose : Type 0) (source : source_rose → ⊥) where
+      source_ends : (o : Options) (output : Output)
+          → SourceEnds meaning status closed held held' sink_rose (Some bytes) left' source_rose o output → EndsWell status
+      source_ends o output (inl read) = text_ends o output read.bytes (read_all bytes read.bytes left' read.read ∙ spelled) read.ends
+      source_ends o output (inr (inl ended)) =
+          let fits : length bytes ≤ 67108864 = omega (arith, ap (λ (l : List ℕ). length l) spelled, short trace is) in
+          absurd (refused ended.refusal bytes left' source_rose fits source ended.cause)
+      source_ends o output (inr (inr none)) = inr (inr none.status_is)
 
-    pub complete : (words : List (String Global)) (trace : List (List ScriptView)) (bytes : List ℕ) (left' held held' : Option (List ℕ)) (source_rose sink_rose : Type 0)
-        → Ends meaning status closed words (Some bytes) left' source_rose held held' sink_rose
-        → AsksRun words → IsTrace trace → bytes ≡ spelling trace → (source_rose → ⊥) → (sink_rose → ⊥) → EndsWell status
-    complete words trace bytes left' held held' source_rose sink_rose (inl run) asks is spelled source sink =
-        source_ends run.options run.output trace bytes left' held held' source_rose sink_rose is spelled source sink run.ends
-    complete words trace bytes left' held held' source_rose sink_rose (inr (inl ended)) asks is spelled source sink =
-        absurd (run_not_stress _ asks.0 ended.options asks.1 ended.number asks.2 ended.words_are)
-    complete words trace bytes left' held held' source_rose sink_rose (inr (inr unasked)) asks is spelled source sink =
-        absurd (none-some _ (sym unasked.words_are ∙ asks.2))
+      pub complete : (words : List (String Global))
+          → Ends meaning status closed words (Some bytes) left' source_rose held held' sink_rose → AsksRun words → EndsWell status
+      complete words (inl run) asks = source_ends run.options run.output run.ends
+      complete words (inr (inl ended)) asks = absurd (run_not_stress _ asks.0 ended.options asks.1 ended.number asks.2 ended.words_are)
+      complete words (inr (inr unasked)) asks = absurd (none-some _ (sym unasked.words_are ∙ asks.2))

@@ -29,58 +29,52 @@ refused_past Usage left left' rose cause e = absurd cause
 refused_past ReadFault left left' rose cause e = absurd (omega (arith, e))
 refused_past TooLong left left' rose cause e = cause
 
--- with no fault of the source or the sink
-refused_long : (refusal : Refusal) (left left' held held' : Option (List ℕ)) (source_rose sink_rose : Type 0) (status : ℕ) (text : List ℕ)
-    → (source_rose → ⊥) → (sink_rose → ⊥) → IsRefused refusal left left' source_rose → IsWritten status (status_of refusal) held held' sink_rose text → status ≡ 7
-refused_long refusal left left' held held' source_rose sink_rose status text source sink cause (inr w) = absurd (sink w.1)
-refused_long Usage left left' held held' source_rose sink_rose status text source sink cause (inl w) = absurd cause
-refused_long ReadFault left left' held held' source_rose sink_rose status text source sink cause (inl w) = absurd (source cause.0)
-refused_long TooLong left left' held held' source_rose sink_rose status text source sink cause (inl w) = w.0
+module _ {P : Type 0} (meaning : pages.Ghosts P) (status : ℕ) (closed : Option (Closed P)) (held held' : Option (List ℕ)) (sink_rose : Type 0) where
+  ran_not : (o : Options) (trace : List (List ScriptView)) (text_of : Closed P → List Results → List ℕ)
+      → RunsTrace meaning status closed held held' sink_rose o trace text_of → status ≡ 7 → ⊥
+  ran_not o trace text_of ran e =
+      finding_not (has_finding ran.results) (status_after ran.results) refl (planned_is status (status_after ran.results) held held' sink_rose _ ran.written e)
 
-module _ {P : Type 0} (meaning : pages.Ghosts P) (status : ℕ) (closed : Option (Closed P)) where
-  ran_not : (o : Options) (trace : List (List ScriptView)) (text_of : Closed P → List Results → List ℕ) (held held' : Option (List ℕ)) (rose : Type 0)
-      → RunsTrace meaning status closed o trace text_of held held' rose → status ≡ 7 → ⊥
-  ran_not o trace text_of held held' rose ran e =
-      finding_not (has_finding ran.results) (status_after ran.results) refl (planned_is status (status_after ran.results) held held' rose _ ran.written e)
+  stress_not : (o : Options) (number : ℕ) → StressEnds meaning status closed held held' sink_rose o number → status ≡ 7 → ⊥
+  stress_not o number (inl ran) e = ran_not o _ _ ran e
+  stress_not o number (inr none) e = omega (arith, none.status_is, e)
 
-  stress_not : (o : Options) (number : ℕ) (held held' : Option (List ℕ)) (rose : Type 0) → StressEnds meaning status closed o number held held' rose → status ≡ 7 → ⊥
-  stress_not o number held held' rose (inl ran) e = ran_not o _ _ held held' rose ran e
-  stress_not o number held held' rose (inr none) e = omega (arith, none.status_is, e)
+  text_not : (o : Options) (output : Output) (bytes : List ℕ) → TextEnds meaning status closed held held' sink_rose o output bytes → status ≡ 7 → ⊥
+  text_not o output bytes (inl ran) e = ran_not o _ _ ran.runs e
+  text_not o output bytes (inr (inl faulty)) e = omega (arith, planned_is status 3 held held' sink_rose _ faulty.written e)
+  text_not o output bytes (inr (inr none)) e = omega (arith, none.status_is, e)
 
-  text_not : (o : Options) (output : Output) (bytes : List ℕ) (held held' : Option (List ℕ)) (rose : Type 0) → TextEnds meaning status closed o output bytes held held' rose → status ≡ 7 → ⊥
-  text_not o output bytes held held' rose (inl ran) e = ran_not o _ _ held held' rose ran.runs e
-  text_not o output bytes held held' rose (inr (inl faulty)) e = omega (arith, planned_is status 3 held held' rose _ faulty.written e)
-  text_not o output bytes held held' rose (inr (inr none)) e = omega (arith, none.status_is, e)
+  module _ (left left' : Option (List ℕ)) (source_rose : Type 0) where
+    source_past : (o : Options) (output : Output)
+        → SourceEnds meaning status closed held held' sink_rose left left' source_rose o output → status ≡ 7 → IsTakenPast 67108864 left left'
+    source_past o output (inl read) e = absurd (text_not o output read.bytes read.ends e)
+    source_past o output (inr (inl ended)) e =
+        refused_past ended.refusal left left' source_rose ended.cause (planned_is status (status_of ended.refusal) held held' sink_rose _ ended.tells.written e)
+    source_past o output (inr (inr none)) e = absurd (omega (arith, none.status_is, e))
 
-  source_past : (o : Options) (output : Output) (left left' held held' : Option (List ℕ)) (source_rose sink_rose : Type 0)
-      → SourceEnds meaning status closed o output left left' source_rose held held' sink_rose → status ≡ 7 → IsTakenPast 67108864 left left'
-  source_past o output left left' held held' source_rose sink_rose (inl read) e = absurd (text_not o output read.bytes held held' sink_rose read.ends e)
-  source_past o output left left' held held' source_rose sink_rose (inr (inl ended)) e =
-      refused_past ended.refusal left left' source_rose ended.cause (planned_is status (status_of ended.refusal) held held' sink_rose _ ended.tells.written e)
-  source_past o output left left' held held' source_rose sink_rose (inr (inr none)) e = absurd (omega (arith, none.status_is, e))
+    pub only_past : (words : List (String Global))
+        → Ends meaning status closed words left left' source_rose held held' sink_rose → status ≡ 7 → IsTakenPast 67108864 left left'
+    only_past words (inl run) e = source_past run.options run.output run.ends e
+    only_past words (inr (inl ended)) e = absurd (stress_not ended.options ended.number ended.ends e)
+    only_past words (inr (inr unasked)) e = absurd (omega (arith, planned_is status 2 held held' sink_rose _ unasked.tells.written e))
 
-  pub only_past : (words : List (String Global)) (left left' held held' : Option (List ℕ)) (source_rose sink_rose : Type 0)
-      → Ends meaning status closed words left left' source_rose held held' sink_rose → status ≡ 7 → IsTakenPast 67108864 left left'
-  only_past words left left' held held' source_rose sink_rose (inl run) e = source_past run.options run.output left left' held held' source_rose sink_rose run.ends e
-  only_past words left left' held held' source_rose sink_rose (inr (inl ended)) e = absurd (stress_not ended.options ended.number held held' sink_rose ended.ends e)
-  only_past words left left' held held' source_rose sink_rose (inr (inr unasked)) e =
-      absurd (omega (arith, planned_is status 2 held held' sink_rose _ unasked.tells.written e))
+  -- with no fault of the source or the sink
+  module _ (bytes : List ℕ) (left' : Option (List ℕ)) (source_rose : Type 0) (source : source_rose → ⊥) (sink : sink_rose → ⊥) (long : 67108864 < length bytes) where
+    refused_long : (refusal : Refusal) (text : List ℕ)
+        → IsRefused refusal (Some bytes) left' source_rose → IsWritten status (status_of refusal) held held' sink_rose text → status ≡ 7
+    refused_long refusal text cause (inr w) = absurd (sink w.1)
+    refused_long Usage text cause (inl w) = absurd cause
+    refused_long ReadFault text cause (inl w) = absurd (source cause.0)
+    refused_long TooLong text cause (inl w) = w.0
 
-  source_long : (o : Options) (output : Output) (bytes : List ℕ) (left' held held' : Option (List ℕ)) (source_rose sink_rose : Type 0)
-      → SourceEnds meaning status closed o output (Some bytes) left' source_rose held held' sink_rose
-      → 67108864 < length bytes → (source_rose → ⊥) → (sink_rose → ⊥) → (status ≡ 7) ⊎ (status ≡ 6)
-  source_long o output bytes left' held held' source_rose sink_rose (inl read) long source sink =
-      absurd (omega (arith, ap (λ (l : List ℕ). length l) (read_all bytes read.bytes left' read.read), read.within, long))
-  source_long o output bytes left' held held' source_rose sink_rose (inr (inl ended)) long source sink =
-      inl (refused_long ended.refusal (Some bytes) left' held held' source_rose sink_rose status _ source sink ended.cause ended.tells.written)
-  source_long o output bytes left' held held' source_rose sink_rose (inr (inr none)) long source sink = inr none.status_is
+    source_long : (o : Options) (output : Output)
+        → SourceEnds meaning status closed held held' sink_rose (Some bytes) left' source_rose o output → (status ≡ 7) ⊎ (status ≡ 6)
+    source_long o output (inl read) = absurd (omega (arith, ap (λ (l : List ℕ). length l) (read_all bytes read.bytes left' read.read), read.within, long))
+    source_long o output (inr (inl ended)) = inl (refused_long ended.refusal _ ended.cause ended.tells.written)
+    source_long o output (inr (inr none)) = inr none.status_is
 
-  pub long_refused : (words : List (String Global)) (bytes : List ℕ) (left' held held' : Option (List ℕ)) (source_rose sink_rose : Type 0)
-      → Ends meaning status closed words (Some bytes) left' source_rose held held' sink_rose
-      → AsksRun words → 67108864 < length bytes → (source_rose → ⊥) → (sink_rose → ⊥) → (status ≡ 7) ⊎ (status ≡ 6)
-  long_refused words bytes left' held held' source_rose sink_rose (inl run) asks long source sink =
-      source_long run.options run.output bytes left' held held' source_rose sink_rose run.ends long source sink
-  long_refused words bytes left' held held' source_rose sink_rose (inr (inl ended)) asks long source sink =
-      absurd (run_not_stress _ asks.0 ended.options asks.1 ended.number asks.2 ended.words_are)
-  long_refused words bytes left' held held' source_rose sink_rose (inr (inr unasked)) asks long source sink =
-      absurd (none-some _ (sym unasked.words_are ∙ asks.2))
+    pub long_refused : (words : List (String Global))
+        → Ends meaning status closed words (Some bytes) left' source_rose held held' sink_rose → AsksRun words → (status ≡ 7) ⊎ (status ≡ 6)
+    long_refused words (inl run) asks = source_long run.options run.output run.ends
+    long_refused words (inr (inl ended)) asks = absurd (run_not_stress _ asks.0 ended.options asks.1 ended.number asks.2 ended.words_are)
+    long_refused words (inr (inr unasked)) asks = absurd (none-some _ (sym unasked.words_are ∙ asks.2))

@@ -81,11 +81,12 @@ output_text o Report left results = report_text results
 output_text o Journal left results = journal_text (config_of o) o.seed left.histories
 
 -- ---- endings
-module _ {P : Type 0} (meaning : pages.Ghosts P) (status : ℕ) (closed : Option (Closed P)) where
+module _ {P : Type 0} (meaning : pages.Ghosts P) (status : ℕ) (closed : Option (Closed P))
+    (held held' : Option (List ℕ)) (sink_rose : Type 0) where
   -- the trace was run and the heap closed, and the text of what it left was written, or a front of it where the sink
   -- failed
   pub record RunsTrace (o : Options) (trace : List (List ScriptView)) (text_of : Closed P → List Results → List ℕ)
-      (held held' : Option (List ℕ)) (sink_rose : Type 0) : Type 0 where
+      : Type 0 where
     pub left : Closed P
     pub closed_is : closed ≡ Some left
     pub results : List Results
@@ -93,91 +94,83 @@ module _ {P : Type 0} (meaning : pages.Ghosts P) (status : ℕ) (closed : Option
     pub written : IsWritten status (status_after results) held held' sink_rose (text_of left results)
 
   -- memory was wanted: nothing was written
-  pub record LacksMemory (held held' : Option (List ℕ)) : Type 0 where
+  pub record LacksMemory : Type 0 where
     pub status_is : status ≡ 6
     pub unwritten : held' ≡ held
     pub not_closed : closed ≡ None
 
   -- the text is a trace, which was run: its report or its journal was written
-  pub record RunsText (o : Options) (output : Output) (bytes : List ℕ) (held held' : Option (List ℕ))
-      (sink_rose : Type 0) : Type 0 where
+  pub record RunsText (o : Options) (output : Output) (bytes : List ℕ) : Type 0 where
     pub trace : List (List ScriptView)
     pub is_trace : IsTrace trace
     pub text : bytes ≡ spelling trace
-    pub runs : RunsTrace o trace (output_text o output) held held' sink_rose
+    pub runs : RunsTrace o trace (output_text o output)
 
   -- the text is no trace, and the line that names its first fault was written, or a front of it where the sink failed
-  pub record IsFaulty (bytes : List ℕ) (held held' : Option (List ℕ)) (sink_rose : Type 0) : Type 0 where
+  pub record IsFaulty (bytes : List ℕ) : Type 0 where
     pub fault : TraceFault
     pub first : text_fault bytes ≡ Some fault
     pub not_closed : closed ≡ None
     pub written : IsWritten status 3 held held' sink_rose (fault_line fault)
 
   -- how a text that was read ends
-  abbrev pub TextEnds : Options → Output → List ℕ → Option (List ℕ) → Option (List ℕ) → Type 0 → Type 0
-  TextEnds o output bytes held held' sink_rose =
-      RunsText o output bytes held held' sink_rose ⊎ IsFaulty bytes held held' sink_rose ⊎ LacksMemory held held'
+  abbrev pub TextEnds : Options → Output → List ℕ → Type 0
+  TextEnds o output bytes = RunsText o output bytes ⊎ IsFaulty bytes ⊎ LacksMemory
+
+  -- the run of the trace that a number makes: its summary was written
+  abbrev pub StressEnds : Options → ℕ → Type 0
+  StressEnds o number = RunsTrace o (stress number) (λ left. summary_text number) ⊎ LacksMemory
 
   -- a line that says why a run is refused was written, or a front of it where the sink failed
-  pub record TellsRefusal (refusal : Refusal) (held held' : Option (List ℕ)) (sink_rose : Type 0) : Type 0 where
+  pub record TellsRefusal (refusal : Refusal) : Type 0 where
     pub not_closed : closed ≡ None
     pub written : IsWritten status (status_of refusal) held held' sink_rose (line_of refusal)
 
-  -- the source failed, or has too many bytes
-  pub record SourceRefused (left left' : Option (List ℕ)) (source_rose : Type 0) (held held' : Option (List ℕ))
-      (sink_rose : Type 0) : Type 0 where
-    pub refusal : Refusal
-    pub cause : IsRefused refusal left left' source_rose
-    pub tells : TellsRefusal refusal held held' sink_rose
+  -- ---- by the source
+  module _ (left left' : Option (List ℕ)) (source_rose : Type 0) where
+    -- it failed, or has too many bytes
+    pub record SourceRefused : Type 0 where
+      pub refusal : Refusal
+      pub cause : IsRefused refusal left left' source_rose
+      pub tells : TellsRefusal refusal
 
-  -- the source was read to its end, and has no more bytes than may be taken
-  pub record SourceRead (o : Options) (output : Output) (left left' held held' : Option (List ℕ)) (sink_rose : Type 0)
-      : Type 0 where
-    pub bytes : List ℕ
-    pub read : IsReadToEnd left left' bytes
-    pub within : length bytes ≤ 67108864
-    pub ends : TextEnds o output bytes held held' sink_rose
+    -- it was read to its end, and has no more bytes than may be taken
+    pub record SourceRead (o : Options) (output : Output) : Type 0 where
+      pub bytes : List ℕ
+      pub read : IsReadToEnd left left' bytes
+      pub within : length bytes ≤ 67108864
+      pub ends : TextEnds o output bytes
 
-  -- how the run of a source ends
-  abbrev pub SourceEnds : Options → Output → Option (List ℕ) → Option (List ℕ) → Type 0 → Option (List ℕ)
-      → Option (List ℕ) → Type 0 → Type 0
-  SourceEnds o output left left' source_rose held held' sink_rose =
-      SourceRead o output left left' held held' sink_rose
-      ⊎ SourceRefused left left' source_rose held held' sink_rose
-      ⊎ LacksMemory held held'
+    -- how the run of a source ends
+    abbrev pub SourceEnds : Options → Output → Type 0
+    SourceEnds o output = SourceRead o output ⊎ SourceRefused ⊎ LacksMemory
 
-  -- the run of the trace that a number makes: its summary was written
-  abbrev pub StressEnds : Options → ℕ → Option (List ℕ) → Option (List ℕ) → Type 0 → Type 0
-  StressEnds o number held held' sink_rose =
-      RunsTrace o (stress number) (λ left. summary_text number) held held' sink_rose ⊎ LacksMemory held held'
+    -- ---- by the words
+    -- they are not accepted: nothing was taken from the source
+    pub record EndsUnasked (words : List (String Global)) : Type 0 where
+      pub words_are : asked_in words ≡ None
+      pub untouched : left' ≡ left
+      pub tells : TellsRefusal Usage
 
-  -- ---- by the words
-  -- they are not accepted: nothing was taken from the source
-  pub record EndsUnasked (words : List (String Global)) (left left' : Option (List ℕ)) (held held' : Option (List ℕ))
-      (sink_rose : Type 0) : Type 0 where
-    pub words_are : asked_in words ≡ None
-    pub untouched : left' ≡ left
-    pub tells : TellsRefusal Usage held held' sink_rose
+    pub record EndsRun (words : List (String Global)) : Type 0 where
+      pub options : Options
+      pub output : Output
+      pub words_are : asked_in words ≡ Some (record { command = Run output; options = options })
+      pub ends : SourceEnds options output
 
-  pub record EndsRun (words : List (String Global)) (left left' : Option (List ℕ)) (source_rose : Type 0)
-      (held held' : Option (List ℕ)) (sink_rose : Type 0) : Type 0 where
-    pub options : Options
-    pub output : Output
-    pub words_are : asked_in words ≡ Some (record { command = Run output; options = options })
-    pub ends : SourceEnds options output left left' source_rose held held' sink_rose
+    -- nothing was taken from the source
+    pub record EndsStress (words : List (String Global)) : Type 0 where
+      pub options : Options
+      pub number : ℕ
+      pub words_are : asked_in words ≡ Some (record { command = Stress number; options = options })
+      pub untouched : left' ≡ left
+      pub ends : StressEnds options number
 
-  -- nothing was taken from the source
-  pub record EndsStress (words : List (String Global)) (left left' : Option (List ℕ)) (held held' : Option (List ℕ))
-      (sink_rose : Type 0) : Type 0 where
-    pub options : Options
-    pub number : ℕ
-    pub words_are : asked_in words ≡ Some (record { command = Stress number; options = options })
-    pub untouched : left' ≡ left
-    pub ends : StressEnds options number held held' sink_rose
+    abbrev pub EndsAsAsked : List (String Global) → Type 0
+    EndsAsAsked words = EndsRun words ⊎ EndsStress words ⊎ EndsUnasked words
 
-  abbrev pub Ends : List (String Global) → Option (List ℕ) → Option (List ℕ) → Type 0 → Option (List ℕ)
-      → Option (List ℕ) → Type 0 → Type 0
-  Ends words left left' source_rose held held' sink_rose =
-      EndsRun words left left' source_rose held held' sink_rose
-      ⊎ EndsStress words left left' held held' sink_rose
-      ⊎ EndsUnasked words left left' held held' sink_rose
+-- how a run ends: the words, what was left of the source before and after, what the sink held before and after
+abbrev pub Ends : {P : Type 0} → pages.Ghosts P → ℕ → Option (Closed P) → List (String Global) → Option (List ℕ)
+    → Option (List ℕ) → Type 0 → Option (List ℕ) → Option (List ℕ) → Type 0 → Type 0
+Ends meaning status closed words left left' source_rose held held' sink_rose =
+    EndsAsAsked meaning status closed held held' sink_rose left left' source_rose words

@@ -18,14 +18,15 @@ use Rattle.hmreplay.specs.Replayed.{IsReplayed}
 abbrev pub IsSpelled : List ℕ → List (List ScriptView) → Type 0
 IsSpelled bytes trace = IsTrace trace × (bytes ≡ spelling trace)
 
--- the trace whose spelling was read to its end
-abbrev pub IsReadTrace : Option (List ℕ) → Option (List ℕ) → List (List ScriptView) → Type 0
-IsReadTrace left left' trace = IsTrace trace × IsReadToEnd left left' (spelling trace)
+module _ (left left' : Option (List ℕ)) where
+  -- the trace whose spelling was read to its end
+  abbrev pub IsReadTrace : List (List ScriptView) → Type 0
+  IsReadTrace trace = IsTrace trace × IsReadToEnd left left' (spelling trace)
 
--- the trace that a command asks for: that of the source, or that of the number
-abbrev pub IsAskedTrace : Command → Option (List ℕ) → Option (List ℕ) → List (List ScriptView) → Type 0
-IsAskedTrace (Run output) left left' trace = IsReadTrace left left' trace
-IsAskedTrace (Stress number) left left' trace = trace ≡ stress number
+  -- the trace that a command asks for: that of the source, or that of the number
+  abbrev pub IsAskedTrace : Command → List (List ScriptView) → Type 0
+  IsAskedTrace (Run output) trace = IsReadTrace trace
+  IsAskedTrace (Stress number) trace = trace ≡ stress number
 
 module _ {P : Type 0} (meaning : pages.Ghosts P) where
   -- where a trace was run, and only there, the heap that was closed then, and the results of that trace's steps
@@ -41,5 +42,5 @@ module _ {P : Type 0} (meaning : pages.Ghosts P) where
   abbrev pub HandsOutAs : Option Asked → Option (List ℕ) → Option (List ℕ) → Option (Closed P)
       → Option (List Results) → Type 0
   HandsOutAs (Some asked) left left' closed results =
-      HandsOut (IsAskedTrace asked.command left left') asked.options closed results
+      HandsOut (IsAskedTrace left left' asked.command) asked.options closed results
   HandsOutAs None left left' closed results = (closed ≡ None) × (results ≡ None)

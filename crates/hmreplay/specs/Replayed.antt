@@ -15,10 +15,10 @@ use Rattle.hm_replay.specs.Rounds.{IsOfTrace, EachIs}
 use Rattle.hmreplay.specs.declared.words.Options.{Options}
 use Rattle.hmreplay.specs.Words.{config_of}
 
-module _ {P : Type 0} (meaning : pages.Ghosts P) where
+module _ {P : Type 0} (meaning : pages.Ghosts P) (o : Options) where
   -- the region at a place: its configuration and number are those of the words, and these are its pages
-  abbrev pub origin_at : Options → ℕ → P → Origin
-  origin_at o place kept = record {
+  abbrev pub origin_at : ℕ → P → Origin
+  origin_at place kept = record {
     config = config_of o;
     number = o.seed;
     region = region_at (config_of o) place;
@@ -28,17 +28,16 @@ module _ {P : Type 0} (meaning : pages.Ghosts P) where
   -- there is a history for each region, by ascending number, beside its pages: it is legal, and its choices are drawn
   -- from the words of the region's stream; its count of faults is the pages' own; where they tell, their runs and bytes
   -- are what the history says
-  pub record AreEnds (o : Options) (hs : List History) (ps : List P) : Type 0 where
+  pub record AreEnds (hs : List History) (ps : List P) : Type 0 where
     pub histories : length hs ≡ region_count (config_of o) + 1
     pub pages : length ps ≡ length hs
     pub each : (r : ℕ) (h : History) (p : P) → r < length hs
-        → IsEnd meaning (origin_at o r (slice_index_or ps r p)) (slice_index_or hs r h) (slice_index_or ps r p)
+        → IsEnd meaning (origin_at r (slice_index_or ps r p)) (slice_index_or hs r h) (slice_index_or ps r p)
 
   -- beside that: the histories hold each script's calls once, in order and round by round, with these results; and each
   -- entry is of a step of a script
-  pub record IsReplayed (o : Options) (closed : Closed P) (trace : List (List ScriptView)) (results : List Results)
-      : Type 0 where
-    pub ends : AreEnds o closed.histories closed.pages
+  pub record IsReplayed (closed : Closed P) (trace : List (List ScriptView)) (results : List Results) : Type 0 where
+    pub ends : AreEnds closed.histories closed.pages
     pub names : Names
     pub rounds : AreReplayed (config_of o) closed.histories trace results names
     pub entries : (r : ℕ) (h : History) → r < length closed.histories

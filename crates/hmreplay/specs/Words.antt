@@ -118,11 +118,12 @@ AsksStress words =
     (options : Options) × (number : ℕ)
     × (asked_in words ≡ Some (record { command = Stress number; options = options }))
 
--- what holds where no source is asked for: they are not accepted, or ask for the trace that a number makes
+-- what holds where a command asks for the trace that a number makes
 abbrev pub IfMade : Command → Type 0 → Type 0
 IfMade (Run output) claim = ⊤
 IfMade (Stress number) claim = claim
 
+-- what holds where no source is asked for: the words are not accepted, or ask for the trace that a number makes
 abbrev pub IfUnasked : Option Asked → Type 0 → Type 0
 IfUnasked None claim = claim
 IfUnasked (Some asked) claim = IfMade asked.command claim

@@ -1,8 +1,7 @@
 //! Runs over pages, sources and sinks that fail, over broken texts, and at the ends of regions.
 
-use crate::run::replay;
-use crate::tests::{run_text, source, text_of, words};
-use hm_outside::{FailingMaker, NoGate, PlainMaker, RegionId, VecSink};
+use crate::test_runs::{failing_maker, replay_plain, run_plain, run_text, source, text_of, words};
+use hm_outside::{FailingMaker, NoGate, VecSink};
 use std::alloc::Global;
 use std::sync::Wait;
 use std::test::Fail;
@@ -12,15 +11,6 @@ use std::thread::Threads;
 const TEXT: &[u8] = b"hmtrace 1\nround\nthread 1\nmalloc x 100\nfree x\nend\n";
 
 const REPORT: &[u8] = b"1.1.1 given 104\n1.1.2 freed\n";
-
-fn failing_maker(alloc: Global, region: u32, call: u64) -> Result<FailingMaker, Fail> {
-    let mut fail_calls = Vec::new(alloc);
-    fail_calls.push(call)?;
-    Ok(FailingMaker {
-        region: RegionId(region),
-        fail_calls,
-    })
-}
 
 /// Steps of thread 1, what is written, and the status.
 struct Steps {
@@ -146,15 +136,7 @@ fn prefixes_have_no_end(rt: HostRuntime) -> Result<(), Fail> {
             .saturating_add(1);
         let told = format!(in alloc; "fault: trace line {line} NoEnd\n")?;
         let mut sink = VecSink::build(alloc, 99, 99, Vec::new(alloc))?;
-        let run = run_text(
-            &rt,
-            alloc,
-            "run",
-            prefix,
-            &mut sink,
-            &mut PlainMaker,
-            &NoGate,
-        )?;
+        let run = run_plain(&rt, alloc, "run", prefix, &mut sink)?;
         assert_eq!(rt; run.status, 3);
         assert_eq!(rt; sink.held.as_slice(), told.as_bytes());
     }
@@ -169,15 +151,7 @@ fn source_fails_at_each_call(rt: HostRuntime) -> Result<(), Fail> {
     for call in 1..10 {
         let mut source = source(alloc, TEXT, 8, call)?;
         let mut sink = VecSink::build(alloc, 99, 99, Vec::new(alloc))?;
-        let run = replay(
-            &rt,
-            alloc,
-            &asked,
-            &mut source,
-            &mut sink,
-            &mut PlainMaker,
-            &NoGate,
-        );
+        let run = replay_plain(&rt, alloc, &asked, &mut source, &mut sink);
         let (status, told): (u8, &[u8]) = if call < 9 {
             (4, b"fault: read\n")
         } else {
@@ -197,14 +171,14 @@ fn sink_fails_at_each_call(rt: HostRuntime) -> Result<(), Fail> {
         let mut fail_calls = Vec::new(alloc);
         fail_calls.push(call as u64)?;
         let mut sink = VecSink::build(alloc, 99, 4, fail_calls)?;
-        let run = run_text(&rt, alloc, "run", TEXT, &mut sink, &mut PlainMaker, &NoGate)?;
+        let run = run_plain(&rt, alloc, "run", TEXT, &mut sink)?;
         let held = if call < 8 { 4 * (call - 1) } else { 28 };
         assert_eq!(rt; run.status, if call < 8 { 5 } else { 0 });
         assert_eq!(rt; sink.held.as_slice(), &REPORT[..held]);
         assert!(rt; run.closed.is_some());
     }
     let mut sink = VecSink::build(alloc, 99, 0, Vec::new(alloc))?;
-    let run = run_text(&rt, alloc, "run", TEXT, &mut sink, &mut PlainMaker, &NoGate)?;
+    let run = run_plain(&rt, alloc, "run", TEXT, &mut sink)?;
     assert_eq!(rt; run.status, 5);
     assert!(rt; sink.held.is_empty() && run.closed.is_some());
     Ok(())

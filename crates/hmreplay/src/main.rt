@@ -5,6 +5,8 @@
 
 #[cfg(test)]
 mod hostile_tests;
+#[cfg(test)]
+mod journal_tests;
 mod laws;
 mod reading;
 mod refusal;
@@ -12,9 +14,13 @@ mod rounds;
 mod run;
 mod status;
 #[cfg(test)]
+mod test_runs;
+#[cfg(test)]
 mod tests;
 mod trace_fault;
 mod words;
+#[cfg(test)]
+mod words_tests;
 mod writing;
 
 use hm_frames::FrameMaker;

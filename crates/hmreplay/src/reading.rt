@@ -15,8 +15,11 @@ const PIECE: usize = 65_536;
 /// Why a source was not read to its end.
 #[derive(Clone, Copy, Debug, PartialEq, Eq)]
 pub enum ReadStop {
+    /// There was no memory for the bytes.
     NoMemory,
+    /// The source failed.
     Fault,
+    /// The source has more bytes than are read.
     TooLong,
 }
 

@@ -22,7 +22,9 @@ use std::thread::Threads;
 /// What a trace that was run hands out, and its results.
 #[derive(Drop)]
 pub struct Ran<P> {
+    /// The histories, and the pages of each region.
     pub closed: Closed<P>,
+    /// The results of the trace's steps, in the order of a report.
     pub results: Vec<Results>,
 }
 

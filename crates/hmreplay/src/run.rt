@@ -26,12 +26,14 @@ use std::alloc::Global;
 use std::sync::Wait;
 use std::thread::{Threads, join};
 
-/// What a run ends with: the status of the program, and what was closed, with the results of the steps, if it came
-/// so far.
+/// What a run ends with.
 #[derive(Drop)]
 pub struct Run<P> {
+    /// The exit status of the program.
     pub status: u8,
+    /// The histories, and the pages of each region, if the run came so far that its text was written, or a front of it.
     pub closed: Option<Closed<P>>,
+    /// The results of the trace's steps, where `closed` is there, and only there.
     pub results: Option<List<Results>>,
 }
 
@@ -132,8 +134,8 @@ fn run_text<R: Threads + Wait + Sync, K: Sink, M: PageMaker, G: Gate>(
     gate: &G,
 ) -> Run<M::P>
     requires valid { IsValid (config_of options.now) }
-    ensures ends { TextEnds M.P.Pages result.status result.closed options.now output bytes.now
-        (K.held sink.old) (K.held sink.new) (Rose (K.faults sink.old) (K.faults sink.new)) }
+    ensures ends { TextEnds M.P.Pages result.status result.closed (K.held sink.old) (K.held sink.new)
+        (Rose (K.faults sink.old) (K.faults sink.new)) options.now output bytes.now }
     ensures handed { HandsOut M.P.Pages (IsSpelled bytes.now) options.now result.closed result.results }
 {
     let trace = match read_trace(alloc, bytes) {
@@ -167,9 +169,9 @@ fn run_source<R: Threads + Wait + Sync, S: Source, K: Sink, M: PageMaker, G: Gat
 ) -> Run<M::P>
     requires valid { IsValid (config_of options.now) }
     ensures bound { IsTakenWithin 67108865 (S.left source.old) (S.left source.new) }
-    ensures ends { SourceEnds M.P.Pages result.status result.closed options.now output
-        (S.left source.old) (S.left source.new) (Rose (S.faults source.old) (S.faults source.new))
-        (K.held sink.old) (K.held sink.new) (Rose (K.faults sink.old) (K.faults sink.new)) }
+    ensures ends { SourceEnds M.P.Pages result.status result.closed (K.held sink.old) (K.held sink.new)
+        (Rose (K.faults sink.old) (K.faults sink.new)) (S.left source.old) (S.left source.new)
+        (Rose (S.faults source.old) (S.faults source.new)) options.now output }
     ensures handed { HandsOut M.P.Pages (IsReadTrace (S.left source.old) (S.left source.new)) options.now
         result.closed result.results }
 {
@@ -192,8 +194,8 @@ fn run_stress<R: Threads + Wait + Sync, K: Sink, M: PageMaker, G: Gate>(
     gate: &G,
 ) -> Run<M::P>
     requires valid { IsValid (config_of options.now) }
-    ensures ends { StressEnds M.P.Pages result.status result.closed options.now number
-        (K.held sink.old) (K.held sink.new) (Rose (K.faults sink.old) (K.faults sink.new)) }
+    ensures ends { StressEnds M.P.Pages result.status result.closed (K.held sink.old) (K.held sink.new)
+        (Rose (K.faults sink.old) (K.faults sink.new)) options.now number }
     ensures handed { HandsOut M.P.Pages (λ trace. trace ≡ stress number) options.now result.closed result.results }
 {
     let trace = match stress_trace(rt, alloc, number) {

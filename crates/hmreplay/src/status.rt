@@ -27,6 +27,8 @@ pub enum Status {
 impl Status {
     ghost use Rattle.hmreplay.specs.Statuses.{code_of};
 
+    /// The exit status that the system is handed: the number, from 0 to 7 or 9, that the table of statuses in README.md
+    /// has for it.
     pub fn code(self) -> u8
         ensures { result ≡ code_of self }
     {

@@ -1,13 +1,12 @@
-//! Runs over objects in memory.
+//! Runs over objects in memory: the table of traces, how a run ends by its words, its source and its sink, the threads
+//! of a round, what the number of a run moves, and what is asked of a source.
 ghost use Rattle.std.specs.Prelude.{None};
 
-use crate::run::{Run, replay};
-use crate::words::{Asked, Command, Options, Output, read_words};
+use crate::run::replay;
+use crate::test_runs::{failing_maker, replay_plain, run_plain, run_text, source, text_of, words};
 use hm_frames::FrameMaker;
-use hm_outside::{
-    FailingMaker, Gate, NoGate, PageMaker, PlainMaker, RegionId, Source, SourceFault, VecSink,
-    VecSource,
-};
+use hm_outside::{Gate, NoGate, PageMaker, PlainMaker, RegionId, Source, SourceFault, VecSink};
+use hm_trace::{read_trace, write_trace};
 use std::alloc::Global;
 use std::sync::Wait;
 use std::sync::atomic::{AtomicU64, Ordering};
@@ -180,51 +179,6 @@ const ROWS: [Row; 20] = [
         status: 0,
     },
 ];
-
-pub(crate) fn words(alloc: Global, words: &str) -> Result<Vec<String>, Fail> {
-    let mut all = Vec::new(alloc);
-    for word in words.split(' ') {
-        all.push(String::from_str(alloc, word)?)?;
-    }
-    Ok(all)
-}
-
-pub(crate) fn source(
-    alloc: Global,
-    bytes: &[u8],
-    piece: usize,
-    fails: u64,
-) -> Result<VecSource, Fail> {
-    let mut fail_calls = Vec::new(alloc);
-    fail_calls.push(fails)?;
-    Ok(VecSource {
-        bytes: Vec::from_slice(alloc, bytes)?,
-        piece,
-        fail_calls,
-        calls: 0,
-        faults: 0,
-        at: 0,
-    })
-}
-
-// Runs a text. What is written is in the sink.
-pub(crate) fn run_text<R: Threads + Wait + Sync, M: PageMaker, G: Gate>(
-    rt: &R,
-    alloc: Global,
-    asked: &str,
-    text: &[u8],
-    sink: &mut VecSink,
-    maker: &mut M,
-    gate: &G,
-) -> Result<Run<M::P>, Fail> {
-    let words = words(alloc, asked)?;
-    let mut source = source(alloc, text, 65_536, 0)?;
-    Ok(replay(rt, alloc, &words, &mut source, sink, maker, gate))
-}
-
-pub(crate) fn text_of(alloc: Global, steps: &str) -> Result<String, Fail> {
-    Ok(format!(in alloc; "hmtrace 1\nround\nthread 1\n{steps}end\n")?)
-}
 
 // Runs the steps of a row with these words behind its own, and compares what is written with its reports.
 fn check_row<R: Threads + Wait + Sync, M: PageMaker>(
@@ -399,123 +353,62 @@ const ENDINGS: [Ending; 6] = [
     },
 ];
 
+// Whether a run ends so.
+fn check_ending<R: Threads + Wait + Sync, M: PageMaker>(
+    rt: &R,
+    alloc: Global,
+    ending: &Ending,
+    maker: &mut M,
+) -> Result<bool, Fail> {
+    let asked = words(alloc, ending.words)?;
+    let mut source = source(alloc, ending.text, 8, ending.source_fails)?;
+    let mut sink = VecSink::build(alloc, ending.room, ending.piece, Vec::new(alloc))?;
+    let run = replay(rt, alloc, &asked, &mut source, &mut sink, maker, &NoGate);
+    Ok(run.status == ending.status && sink.held.as_slice() == ending.output)
+}
+
 #[test]
 fn endings(rt: HostRuntime) -> Result<(), Fail> {
     let alloc = rt.alloc();
     for ending in &ENDINGS {
-        let asked = words(alloc, ending.words)?;
-        let mut source = source(alloc, ending.text, 8, ending.source_fails)?;
-        let mut sink = VecSink::build(alloc, ending.room, ending.piece, Vec::new(alloc))?;
-        let run = replay(
-            &rt,
-            alloc,
-            &asked,
-            &mut source,
-            &mut sink,
-            &mut PlainMaker,
-            &NoGate,
+        assert!(rt;
+            check_ending(&rt, alloc, ending, &mut PlainMaker)?,
+            "status {} over plain pages",
+            ending.status
         );
-        assert_eq!(rt; run.status, ending.status);
-        assert_eq!(rt; sink.held.as_slice(), ending.output);
+        assert!(rt;
+            check_ending(&rt, alloc, ending, &mut FrameMaker)?,
+            "status {} over raw memory",
+            ending.status
+        );
     }
     Ok(())
 }
 
-/// Words that are accepted with an empty trace, and the status.
-const WORDS: [(&str, u8); 31] = [
-    ("run --seed 7", 0),
-    ("run --seed 0007 --large-space 1048576", 0),
-    (
-        "run --large-space 1099511627776 --seed 18446744073709551615 --class-region 34359738368",
-        0,
-    ),
-    ("run --class-region 00000000000001048576", 0),
-    ("run --seed 18446744073709551616", 2),
-    ("run --seed 000000000000000000007", 2),
-    ("run --seed=7", 2),
-    ("run --seed +7", 2),
-    ("run --seed -7", 2),
-    ("run --seed 7 --seed 7", 2),
-    ("run --seed 7 --class-region 1048576 --seed 7", 2),
-    ("run --seed", 2),
-    ("run --class-region 1048577", 2),
-    ("run --class-region 1044480", 2),
-    ("run --class-region 34359742464", 2),
-    ("run --large-space 1099511631872", 2),
-    ("run --", 2),
-    ("run ", 2),
-    ("run --help 1", 2),
-    ("run 7", 2),
-    ("run --seed 7 stress 7", 2),
-    ("journal --seed 7", 0),
-    ("journal 7", 2),
-    ("stress", 2),
-    ("stress --seed 7", 2),
-    ("stress x", 2),
-    ("stress 18446744073709551616", 2),
-    ("stress 7 --seed", 2),
-    ("stress 7 run", 2),
-    ("help", 2),
-    ("--seed 7 run", 2),
-];
-
+// A trace is written as it was read.
 #[test]
-fn accepted_words(rt: HostRuntime) -> Result<(), Fail> {
+fn texts_come_back(rt: HostRuntime) -> Result<(), Fail> {
     let alloc = rt.alloc();
-    for (asked, status) in WORDS {
-        let mut sink = VecSink::build(alloc, 65_536, 65_536, Vec::new(alloc))?;
-        let run = run_text(
-            &rt,
-            alloc,
-            asked,
-            b"hmtrace 1\nend\n",
-            &mut sink,
-            &mut PlainMaker,
-            &NoGate,
-        )?;
-        assert_eq!(rt; run.status, status, "{asked}");
+    for row in &ROWS {
+        let text = text_of(alloc, row.steps)?;
+        let trace = read_trace(alloc, text.as_bytes()).ok().ok_or("no trace")?;
+        let written = write_trace(alloc, &trace)?;
+        assert_eq!(rt; written.as_slice(), text.as_bytes());
     }
-    let mut sink = VecSink::build(alloc, 99, 99, Vec::new(alloc))?;
-    let mut source = source(alloc, b"hmtrace 1\nend\n", 99, 0)?;
-    let run = replay(
-        &rt,
-        alloc,
-        &[],
-        &mut source,
-        &mut sink,
-        &mut PlainMaker,
-        &NoGate,
-    );
-    assert_eq!(rt; run.status, 2);
     Ok(())
 }
 
-#[test]
-fn options_of_words(rt: HostRuntime) -> Result<(), Fail> {
-    let asked = words(rt.alloc(), "run --seed 0007 --large-space 1048576")?;
-    let wanted = Asked {
-        command: Command::Run {
-            output: Output::Report,
-        },
-        options: Options {
-            seed: 7,
-            class_region: 34_359_738_368,
-            large_space: 1_048_576,
-        },
-    };
-    assert_eq!(rt; read_words(&asked), Some(wanted));
-    Ok(())
-}
+/// What each run of the trace that 7 makes writes.
+const SEVEN: &[u8] =
+    b"stress 7: steps 200000 given 40000 written 40000 size 40000 bytes 40000 freed 39600 skipped 400\n";
 
-// No call is made on the source, whose first one would fail.
-#[test]
-fn stress_of_seven(rt: HostRuntime) -> Result<(), Fail> {
-    let alloc = rt.alloc();
-    let asked = words(alloc, "stress 0007 --seed 1")?;
+// Whether these words run that trace: no call is made on the source, whose first one would fail.
+fn runs_seven<R: Threads + Wait + Sync>(rt: &R, alloc: Global, line: &str) -> Result<bool, Fail> {
+    let asked = words(alloc, line)?;
     let mut source = source(alloc, b"", 8, 1)?;
     let mut sink = VecSink::build(alloc, 999, 99, Vec::new(alloc))?;
     let run = replay(
-        &rt,
+        rt,
         alloc,
         &asked,
         &mut source,
@@ -523,76 +416,18 @@ fn stress_of_seven(rt: HostRuntime) -> Result<(), Fail> {
         &mut FrameMaker,
         &NoGate,
     );
-    assert_eq!(rt; run.status, 0);
-    assert_eq!(rt; source.calls, 0);
-    assert_eq!(rt;
-        sink.held.as_slice(),
-        b"stress 7: steps 200000 given 40000 written 40000 size 40000 bytes 40000 freed 39600 skipped 400\n".as_slice()
-    );
-    Ok(())
-}
-
-// The journal of a text, and its status.
-fn journal_of<R: Threads + Wait + Sync>(
-    rt: &R,
-    alloc: Global,
-    text: &[u8],
-) -> Result<(Vec<u8>, u8), Fail> {
-    let mut sink = VecSink::build(alloc, 65_536, 999, Vec::new(alloc))?;
-    let run = run_text(
-        rt,
-        alloc,
-        "journal",
-        text,
-        &mut sink,
-        &mut PlainMaker,
-        &NoGate,
-    )?;
-    Ok((sink.held, run.status))
-}
-
-// How many lines there are, and which one begins region 7, counted from 0.
-fn lines_of(journal: &[u8]) -> (usize, Option<usize>) {
-    let lines = journal.iter().filter(|byte| **byte == b'\n').count();
-    let place = journal
-        .split(|byte| *byte == b'\n')
-        .position(|line| line.starts_with(b"region 7 "));
-    (lines, place)
+    Ok(run.status == 0 && source.calls == 0 && sink.held.as_slice() == SEVEN)
 }
 
 #[test]
-fn journals(rt: HostRuntime) -> Result<(), Fail> {
-    let alloc = rt.alloc();
-    let (none, status) = journal_of(&rt, alloc, b"hmtrace 1\nend\n")?;
-    assert_eq!(rt; status, 0);
-    assert_eq!(rt; lines_of(&none), (398, Some(17)));
-    let text = text_of(alloc, "malloc x 100\nfree x\n")?;
-    let (one, status) = journal_of(&rt, alloc, text.as_bytes())?;
-    assert_eq!(rt; status, 0);
-    assert_eq!(rt; lines_of(&one), (400, Some(17)));
+fn stress_of_seven(rt: HostRuntime) -> Result<(), Fail> {
+    assert!(rt; runs_seven(&rt, rt.alloc(), "stress 7")?);
     Ok(())
 }
 
-/// Region 7 of the journal of a double free: the gap, the canary, slot 24 and the array's place are those of the words
-/// that ChaCha8 gives of the number 0 in stream 7.
-const DOUBLE_FREE: &[u8] = b"\nregion 7 1592101122048 4\n\
-1 1 1 1 1 0 0 3 3231088256 3392945114 2935142444 14572588304984079872 0 - - - - - allot 100 1 : 1 1592101124736 104\n\
-1 1 1 2 1 0 0 1 2409532924 0 0 - - - - - - - giveback 1592101124736 - : 7\n\
-1 1 1 3 1 0 0 0 0 0 0 - - - - - - - giveback 1592101124736 - : 10\n\
-1 1 1 4 1 0 0 0 0 0 0 - - - - - - - measure 1592101124736 : 10\n\
-closed 0\nregion 8 ";
-
 #[test]
-fn journal_of_a_double_free(rt: HostRuntime) -> Result<(), Fail> {
-    let alloc = rt.alloc();
-    let text = text_of(alloc, "malloc x 100\nfree x\nfree x\nsize x\n")?;
-    let (journal, status) = journal_of(&rt, alloc, text.as_bytes())?;
-    assert_eq!(rt; status, 1);
-    assert!(rt;
-        journal
-            .windows(DOUBLE_FREE.len())
-            .any(|window| window == DOUBLE_FREE)
-    );
+fn stress_of_seven_at_another_number(rt: HostRuntime) -> Result<(), Fail> {
+    assert!(rt; runs_seven(&rt, rt.alloc(), "stress 0007 --seed 1")?);
     Ok(())
 }
 
@@ -601,15 +436,7 @@ fn too_long(rt: HostRuntime) -> Result<(), Fail> {
     let alloc = rt.alloc();
     let bytes = vec![in alloc; 0x23u8; 67_108_865]?;
     let mut sink = VecSink::build(alloc, 99, 99, Vec::new(alloc))?;
-    let run = run_text(
-        &rt,
-        alloc,
-        "run",
-        &bytes,
-        &mut sink,
-        &mut PlainMaker,
-        &NoGate,
-    )?;
+    let run = run_plain(&rt, alloc, "run", &bytes, &mut sink)?;
     assert_eq!(rt; run.status, 7);
     assert_eq!(rt; sink.held.as_slice(), b"fault: too long\n".as_slice());
     Ok(())
@@ -620,12 +447,7 @@ fn failed_page(rt: HostRuntime) -> Result<(), Fail> {
     let alloc = rt.alloc();
     let text = text_of(alloc, "malloc x 100\nmalloc y 100\n")?;
     let mut sink = VecSink::build(alloc, 99, 99, Vec::new(alloc))?;
-    let mut fail_calls = Vec::new(alloc);
-    fail_calls.push(1)?;
-    let mut maker = FailingMaker {
-        region: RegionId(7),
-        fail_calls,
-    };
+    let mut maker = failing_maker(alloc, 7, 1)?;
     let run = run_text(
         &rt,
         alloc,
@@ -770,15 +592,7 @@ fn run_numbered<R: Threads + Wait + Sync>(
 ) -> Result<(Vec<u8>, u64), Fail> {
     let text = text_of(alloc, "malloc x 100\nfree x\nmalloc y 100\nsize y\n")?;
     let mut sink = VecSink::build(alloc, 99, 99, Vec::new(alloc))?;
-    let run = run_text(
-        rt,
-        alloc,
-        asked,
-        text.as_bytes(),
-        &mut sink,
-        &mut PlainMaker,
-        &NoGate,
-    )?;
+    let run = run_plain(rt, alloc, asked, text.as_bytes(), &mut sink)?;
     let closed = run.closed.ok_or("closed")?;
     let history = closed.histories.items().get(7).ok_or("region 7")?;
     Ok((sink.held, history.first))
@@ -839,15 +653,7 @@ fn what_is_asked(rt: HostRuntime) -> Result<(), Fail> {
         ended: false,
     };
     let mut sink = VecSink::build(alloc, 99, 99, Vec::new(alloc))?;
-    let run = replay(
-        &rt,
-        alloc,
-        &asked,
-        &mut source,
-        &mut sink,
-        &mut PlainMaker,
-        &NoGate,
-    );
+    let run = replay_plain(&rt, alloc, &asked, &mut source, &mut sink);
     assert_eq!(rt; run.status, 3);
     assert!(rt; source.longest <= 65_536);
     Ok(())

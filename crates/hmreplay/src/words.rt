@@ -8,37 +8,49 @@ use hm_sizes::{Config, LEAST_SPACE, MOST_CLASS_REGION, MOST_LARGE_SPACE, PAGE};
 /// An option, which has a value behind it.
 #[derive(Clone, Copy, Debug, PartialEq, Eq)]
 pub enum OptionName {
+    /// `--seed`, the number of the run.
     Seed,
+    /// `--class-region`, the bytes of a class region.
     ClassRegion,
+    /// `--large-space`, the bytes of the large space.
     LargeSpace,
 }
 
-/// What is written of a trace that was read: the replies of its steps, or every history.
+/// What is written of a trace that was read.
 #[derive(Clone, Copy, Debug, PartialEq, Eq, Drop)]
 pub enum Output {
+    /// The replies of its steps, a line each.
     Report,
+    /// Every history.
     Journal,
 }
 
-/// What is run: a trace from the source, or the trace that a number makes.
+/// What is run.
 #[derive(Clone, Copy, Debug, PartialEq, Eq, Drop)]
 pub enum Command {
+    /// A trace from the source, of which `output` is written.
     Run { output: Output },
+    /// The trace that the number makes.
     Stress { number: u64 },
 }
 
-/// What the options say: the number of the run, and the bytes of a class region and of the large space.
+/// What the options say.
 #[derive(Clone, Copy, Debug, PartialEq, Eq, Drop)]
 pub struct Options {
+    /// The number of the run, which decides every random choice.
     pub seed: u64,
+    /// The bytes of a class region.
     pub class_region: u64,
+    /// The bytes of the large space.
     pub large_space: u64,
 }
 
 /// What the words ask for.
 #[derive(Clone, Copy, Debug, PartialEq, Eq, Drop)]
 pub struct Asked {
+    /// What is run.
     pub command: Command,
+    /// The values of the options, also of those that are not given.
     pub options: Options,
 }
 

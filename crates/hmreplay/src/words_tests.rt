@@ -1,0 +1,77 @@
+//! Lists of words after the program's name: which of them are accepted, by the status that the run of an empty trace
+//! ends with, and what accepted ones ask for.
+
+use crate::test_runs::{replay_plain, run_plain, source, words};
+use crate::words::{Asked, Command, Options, Output, read_words};
+use hm_outside::VecSink;
+use std::test::Fail;
+
+/// Words that are accepted with an empty trace, and the status.
+const WORDS: [(&str, u8); 31] = [
+    ("run --seed 7", 0),
+    ("run --seed 0007 --large-space 1048576", 0),
+    (
+        "run --large-space 1099511627776 --seed 18446744073709551615 --class-region 34359738368",
+        0,
+    ),
+    ("run --class-region 00000000000001048576", 0),
+    ("run --seed 18446744073709551616", 2),
+    ("run --seed 000000000000000000007", 2),
+    ("run --seed=7", 2),
+    ("run --seed +7", 2),
+    ("run --seed -7", 2),
+    ("run --seed 7 --seed 7", 2),
+    ("run --seed 7 --class-region 1048576 --seed 7", 2),
+    ("run --seed", 2),
+    ("run --class-region 1048577", 2),
+    ("run --class-region 1044480", 2),
+    ("run --class-region 34359742464", 2),
+    ("run --large-space 1099511631872", 2),
+    ("run --", 2),
+    ("run ", 2),
+    ("run --help 1", 2),
+    ("run 7", 2),
+    ("run --seed 7 stress 7", 2),
+    ("journal --seed 7", 0),
+    ("journal 7", 2),
+    ("stress", 2),
+    ("stress --seed 7", 2),
+    ("stress x", 2),
+    ("stress 18446744073709551616", 2),
+    ("stress 7 --seed", 2),
+    ("stress 7 run", 2),
+    ("help", 2),
+    ("--seed 7 run", 2),
+];
+
+#[test]
+fn accepted_words(rt: HostRuntime) -> Result<(), Fail> {
+    let alloc = rt.alloc();
+    for (asked, status) in WORDS {
+        let mut sink = VecSink::build(alloc, 65_536, 65_536, Vec::new(alloc))?;
+        let run = run_plain(&rt, alloc, asked, b"hmtrace 1\nend\n", &mut sink)?;
+        assert_eq!(rt; run.status, status, "{asked}");
+    }
+    let mut sink = VecSink::build(alloc, 99, 99, Vec::new(alloc))?;
+    let mut source = source(alloc, b"hmtrace 1\nend\n", 99, 0)?;
+    let run = replay_plain(&rt, alloc, &[], &mut source, &mut sink);
+    assert_eq!(rt; run.status, 2);
+    Ok(())
+}
+
+#[test]
+fn options_of_words(rt: HostRuntime) -> Result<(), Fail> {
+    let asked = words(rt.alloc(), "run --seed 0007 --large-space 1048576")?;
+    let wanted = Asked {
+        command: Command::Run {
+            output: Output::Report,
+        },
+        options: Options {
+            seed: 7,
+            class_region: 34_359_738_368,
+            large_space: 1_048_576,
+        },
+    };
+    assert_eq!(rt; read_words(&asked), Some(wanted));
+    Ok(())
+}
