@@ -26,4 +26,12 @@ AgreesText (Err f) fault = fault ≡ Some f
 
 -- what the reader's state says of the lines before
 abbrev pub seen_of : Progress → Before
-seen_of p = record { ended = false; first = false; stage = p.stage; rounds = length (rounds_of p); steps = p.count; taken = λ name. is_set name p.scripts }
+seen_of p =
+    record {
+      ended = false;
+      first = false;
+      stage = p.stage;
+      rounds = length (rounds_of p);
+      steps = p.count;
+      taken = λ name. is_set name p.scripts;
+    }

@@ -12,7 +12,9 @@ use Rattle.hm_trace.proofs.Hex.{digit_is, glyph_read}
 abbrev ok : ℕ → Result ℕ FaultKind
 ok n = Ok n
 
-byte_is_at : (h l b : ℕ) (p q : Option ℕ) → hex_digit h ≡ p → hex_digit l ≡ q → (or_fault BadNumber p >>= λ high. or_fault BadNumber q >>= λ low. ok (16 * high + low)) ≡ Ok b → (h ∷ l ∷ [] ≡ byte_word b) × (b < 256)
+byte_is_at : (h l b : ℕ) (p q : Option ℕ) → hex_digit h ≡ p → hex_digit l ≡ q
+    → (or_fault BadNumber p >>= λ high. or_fault BadNumber q >>= λ low. ok (16 * high + low)) ≡ Ok b
+    → (h ∷ l ∷ [] ≡ byte_word b) × (b < 256)
 byte_is_at h l b None q e f is = absurd cc
 byte_is_at h l b (Some x) None e f is = absurd cc
 byte_is_at h l b (Some x) (Some y) e f is =
@@ -38,6 +40,10 @@ byte_again b lt =
     let high : b / 16 < 16 = omega arith in
     let low : b % 16 < 16 = omega arith in
     let whole : 16 * (b / 16) + b % 16 ≡ b = omega arith in
-    ap (λ o. or_fault BadNumber o >>= λ x. or_fault BadNumber (hex_digit (digit_glyph false (b % 16))) >>= λ y. ok (16 * x + y)) (glyph_read (b / 16) high)
+    ap
+    (λ o.
+    or_fault BadNumber o >>= λ x. or_fault BadNumber (hex_digit (digit_glyph false (b % 16)))
+    >>= λ y. ok (16 * x + y))
+    (glyph_read (b / 16) high)
     ∙ ap (λ o. or_fault BadNumber o >>= λ y. ok (16 * (b / 16) + y)) (glyph_read (b % 16) low)
     ∙ ap (λ n. Ok n) whole

@@ -22,7 +22,9 @@ pub record IsNext (n c m : ℕ) : Type 0 where
 pub next : (n c m : ℕ) → next_value n c ≡ Some m → IsNext n c m
 next n c m e = grind (arith, nat_tests)
 
-went_on : (n c : ℕ) (cs : List ℕ) (m : ℕ) (o : Option ℕ) → next_value n c ≡ o → option_and_then (λ k. value_after k cs) o ≡ Some m → (k : ℕ) × (next_value n c ≡ Some k) × (value_after k cs ≡ Some m)
+went_on : (n c : ℕ) (cs : List ℕ) (m : ℕ) (o : Option ℕ) → next_value n c ≡ o
+    → option_and_then (λ k. value_after k cs) o ≡ Some m
+    → (k : ℕ) × (next_value n c ≡ Some k) × (value_after k cs ≡ Some m)
 went_on n c cs m None h e = absurd cc
 went_on n c cs m (Some k) h e = (k, h, e)
 
@@ -40,9 +42,14 @@ valued n (c ∷ cs) m lt e =
     let w = went_on n c cs m (next_value n c) refl e in
     let k = next n c w.0 w.1 in
     let r = valued w.0 cs m k.small w.2 in
-    record { digits = digit_first c cs k.low k.high r.digits; value = subst (λ j. value_from j cs ≡ m) k.value r.value; small = r.small }
+    record {
+      digits = digit_first c cs k.low k.high r.digits;
+      value = subst (λ j. value_from j cs ≡ m) k.value r.value;
+      small = r.small;
+    }
 
-whole : (ds : List ℕ) (n : ℕ) → 0 < length ds → (get_or ds 0 0 ≡ 48 → length ds ≡ 1) → value_after 0 ds ≡ Some n → ds ≡ decimal n
+whole : (ds : List ℕ) (n : ℕ) → 0 < length ds → (get_or ds 0 0 ≡ 48 → length ds ≡ 1) → value_after 0 ds ≡ Some n
+    → ds ≡ decimal n
 whole ds n some plain e =
     let r = valued 0 ds n (omega arith) e in
     sym (ap decimal (sym r.value) ∙ decimal-digits_value own ds r.digits some plain (omega (arith, r.value, r.small)))
@@ -51,7 +58,10 @@ pub spelled : (word : List ℕ) (n : ℕ) → number_at word ≡ Some n → word
 unfolding number_at
 spelled [] n e = absurd cc
 spelled (c ∷ []) n e = whole (c ∷ []) n (omega arith) (λ _. refl) e
-spelled (c ∷ d ∷ cs) n e = ⊎_elim (λ h. absurd (cc (h.1))) (λ h. whole (c ∷ d ∷ cs) n (omega arith) (λ zero_first. absurd (grind (arith, nat_tests, h.0, zero_first))) h.1) (chosen (eqb c 48) None (value_after 0 (c ∷ d ∷ cs)) (Some n) e)
+spelled (c ∷ d ∷ cs) n e =
+    ⊎_elim (λ h. absurd (cc (h.1)))
+    (λ h. whole (c ∷ d ∷ cs) n (omega arith) (λ zero_first. absurd (grind (arith, nat_tests, h.0, zero_first))) h.1)
+    (chosen (eqb c 48) None (value_after 0 (c ∷ d ∷ cs)) (Some n) e)
 
 -- the same of a thread's number, where greater numbers count as 17
 pub record IsThreadValue (k : ℕ) (ds : List ℕ) (m : ℕ) : Type 0 where
@@ -70,7 +80,8 @@ thread_valued k n (c ∷ cs) m is e =
     (λ h. absurd cc)
     (chosen (leb 48 c && leb c 57) (thread_after (min (10 * n + (c - 48)) 17) cs) None (Some m) e)
 
-thread_whole : (ds : List ℕ) (n : ℕ) → 0 < length ds → (get_or ds 0 0 ≡ 48 → length ds ≡ 1) → n ≤ 16 → thread_after 0 ds ≡ Some n → ds ≡ decimal n
+thread_whole : (ds : List ℕ) (n : ℕ) → 0 < length ds → (get_or ds 0 0 ≡ 48 → length ds ≡ 1) → n ≤ 16
+    → thread_after 0 ds ≡ Some n → ds ≡ decimal n
 thread_whole ds n some plain small e =
     let r = thread_valued 0 0 ds n (omega arith) e in
     let same : n ≡ value_from 0 ds = omega (arith, r.value) in
@@ -80,4 +91,9 @@ pub thread_spelled : (word : List ℕ) (n : ℕ) → n ≤ 16 → thread_at word
 unfolding thread_at
 thread_spelled [] n small e = absurd cc
 thread_spelled (c ∷ []) n small e = thread_whole (c ∷ []) n (omega arith) (λ _. refl) small e
-thread_spelled (c ∷ d ∷ cs) n small e = ⊎_elim (λ h. absurd (cc (h.1))) (λ h. thread_whole (c ∷ d ∷ cs) n (omega arith) (λ zero_first. absurd (grind (arith, nat_tests, h.0, zero_first))) small h.1) (chosen (eqb c 48) None (thread_after 0 (c ∷ d ∷ cs)) (Some n) e)
+thread_spelled (c ∷ d ∷ cs) n small e =
+    ⊎_elim (λ h. absurd (cc (h.1)))
+    (λ h.
+    thread_whole (c ∷ d ∷ cs) n (omega arith) (λ zero_first. absurd (grind (arith, nat_tests, h.0, zero_first)))
+    small h.1)
+    (chosen (eqb c 48) None (thread_after 0 (c ∷ d ∷ cs)) (Some n) e)

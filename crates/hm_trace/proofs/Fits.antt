@@ -61,17 +61,33 @@ offset_fits (negsuc n) h = leb-true _ _ h
 place_fits : (p : PlaceView) → is_place p ≡ true → FitsPlace p
 place_fits Null h = tt
 place_fits (At address) h = u64_fits address h
-place_fits (Named name offset) h = let b = and_parts (is_name name) (is_offset offset) h in (b.0, offset_fits offset b.1)
+place_fits (Named name offset) h =
+    let b = and_parts (is_name name) (is_offset offset) h in
+    (b.0, offset_fits offset b.1)
 
 pub step_fits : (s : StepView) → is_step s ≡ true → FitsStep s
 step_fits (Malloc x0 x1) h = let a = and_parts (is_name x0) (is_u64 x1) h in (a.0, (u64_fits x1 a.1, tt))
-step_fits (Calloc x0 x1 x2) h = let a = and_parts (is_name x0 && is_u64 x1) (is_u64 x2) h in let b = and_parts (is_name x0) (is_u64 x1) a.0 in (b.0, (u64_fits x1 b.1, (u64_fits x2 a.1, tt)))
-step_fits (Aligned x0 x1 x2) h = let a = and_parts (is_name x0 && is_u64 x1) (is_u64 x2) h in let b = and_parts (is_name x0) (is_u64 x1) a.0 in (b.0, (u64_fits x1 b.1, (u64_fits x2 a.1, tt)))
-step_fits (Realloc x0 x1 x2) h = let a = and_parts (is_name x0 && is_place x1) (is_u64 x2) h in let b = and_parts (is_name x0) (is_place x1) a.0 in (b.0, (place_fits x1 b.1, (u64_fits x2 a.1, tt)))
+step_fits (Calloc x0 x1 x2) h =
+    let a = and_parts (is_name x0 && is_u64 x1) (is_u64 x2) h in
+    let b = and_parts (is_name x0) (is_u64 x1) a.0 in
+    (b.0, (u64_fits x1 b.1, (u64_fits x2 a.1, tt)))
+step_fits (Aligned x0 x1 x2) h =
+    let a = and_parts (is_name x0 && is_u64 x1) (is_u64 x2) h in
+    let b = and_parts (is_name x0) (is_u64 x1) a.0 in
+    (b.0, (u64_fits x1 b.1, (u64_fits x2 a.1, tt)))
+step_fits (Realloc x0 x1 x2) h =
+    let a = and_parts (is_name x0 && is_place x1) (is_u64 x2) h in
+    let b = and_parts (is_name x0) (is_place x1) a.0 in
+    (b.0, (place_fits x1 b.1, (u64_fits x2 a.1, tt)))
 step_fits (Free x0) h = (place_fits x0 h, tt)
 step_fits (Sfree x0 x1) h = let a = and_parts (is_place x0) (is_u64 x1) h in (place_fits x0 a.0, (u64_fits x1 a.1, tt))
-step_fits (Write x0 x1 x2) h = let a = and_parts (is_place x0 && is_length x1) (leb x2 255) h in let b = and_parts (is_place x0) (is_length x1) a.0 in (place_fits x0 b.0, (length_fits x1 b.1, (byte_fits x2 a.1, tt)))
-step_fits (Read x0 x1) h = let a = and_parts (is_place x0) (is_length x1) h in (place_fits x0 a.0, (length_fits x1 a.1, tt))
+step_fits (Write x0 x1 x2) h =
+    let a = and_parts (is_place x0 && is_length x1) (leb x2 255) h in
+    let b = and_parts (is_place x0) (is_length x1) a.0 in
+    (place_fits x0 b.0, (length_fits x1 b.1, (byte_fits x2 a.1, tt)))
+step_fits (Read x0 x1) h =
+    let a = and_parts (is_place x0) (is_length x1) h in
+    (place_fits x0 a.0, (length_fits x1 a.1, tt))
 step_fits (Size x0) h = (place_fits x0 h, tt)
 
 -- ---- and back
@@ -101,6 +117,7 @@ fits_step (Aligned x0 x1 x2) h = and_from _ _ (and_from _ _ h.0 (fits_u64 x1 h.1
 fits_step (Realloc x0 x1 x2) h = and_from _ _ (and_from _ _ h.0 (fits_place x1 h.1.0)) (fits_u64 x2 h.1.1.0)
 fits_step (Free x0) h = fits_place x0 h.0
 fits_step (Sfree x0 x1) h = and_from _ _ (fits_place x0 h.0) (fits_u64 x1 h.1.0)
-fits_step (Write x0 x1 x2) h = and_from _ _ (and_from _ _ (fits_place x0 h.0) (fits_length x1 h.1.0)) (fits_byte x2 h.1.1.0)
+fits_step (Write x0 x1 x2) h =
+    and_from _ _ (and_from _ _ (fits_place x0 h.0) (fits_length x1 h.1.0)) (fits_byte x2 h.1.1.0)
 fits_step (Read x0 x1) h = and_from _ _ (fits_place x0 h.0) (fits_length x1 h.1.0)
 fits_step (Size x0) h = fits_place x0 h.0

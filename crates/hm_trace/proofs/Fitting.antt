@@ -13,7 +13,9 @@ use Rattle.hm_trace.proofs.Fits.{FitsOffset, FitsPlace}
 use Rattle.hm_trace.proofs.Numerals.{a_number}
 
 pub name_fits : (word n : List ℕ) → name_at word ≡ Ok n → is_name n ≡ true
-name_fits word n e = ⊎_elim (λ h. subst (λ (x : List ℕ). is_name x ≡ true) (ok_is word n h.1) h.0) (λ h. absurd cc) (chosen (is_name word) (ok word) (Err BadName) (Ok n) e)
+name_fits word n e =
+    ⊎_elim (λ h. subst (λ (x : List ℕ). is_name x ≡ true) (ok_is word n h.1) h.0) (λ h. absurd cc)
+    (chosen (is_name word) (ok word) (Err BadName) (Ok n) e)
 
 pub size_fits : (word : List ℕ) (n : ℕ) → size_at word ≡ Ok n → n < 2 ^ 64
 size_fits word n e = (a_number word n (some_is BadNumber (number_at word) n e)).small
@@ -22,7 +24,11 @@ distance_fits : (word : List ℕ) (n : ℕ) → distance_at word ≡ Ok n → (1
 unfolding distance_at
 distance_fits word n e =
     let b = bind_ok (size_at word) (λ m. cond (leb 1 m && leb m 1099511627776) (Ok m) (Err BadNumber)) n e in
-    ⊎_elim (λ h. let t = and_parts (leb 1 b.0) (leb b.0 1099511627776) h.0 in subst (λ m. (1 ≤ m) × (m ≤ 1099511627776)) (ok_is b.0 n h.1) (leb-true _ _ t.0, leb-true _ _ t.1)) (λ h. absurd cc)
+    ⊎_elim
+    (λ h.
+    let t = and_parts (leb 1 b.0) (leb b.0 1099511627776) h.0 in
+    subst (λ m. (1 ≤ m) × (m ≤ 1099511627776)) (ok_is b.0 n h.1) (leb-true _ _ t.0, leb-true _ _ t.1))
+    (λ h. absurd cc)
     (chosen (leb 1 b.0 && leb b.0 1099511627776) (ok b.0) (Err BadNumber) (Ok n) b.2)
 
 signed_fits : (plus : Bool) (n : ℕ) → 1 ≤ n → n ≤ 1099511627776 → FitsOffset (cond plus (pos n) (neg_ℤ (pos n)))

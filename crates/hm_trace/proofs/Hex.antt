@@ -18,13 +18,16 @@ pub record IsDigit (c d : ℕ) : Type 0 where
 pub digit_is : (c d : ℕ) → hex_digit c ≡ Some d → IsDigit c d
 digit_is c d e =
     ⊎_elim
-    (λ (h : ((leb 48 c && leb c 57) ≡ true) × (Option.Some (c - 48) ≡ Some d)). let t = and_parts (leb 48 c) (leb c 57) h.0 in
+    (λ (h : ((leb 48 c && leb c 57) ≡ true) × (Option.Some (c - 48) ≡ Some d)).
+    let t = and_parts (leb 48 c) (leb c 57) h.0 in
     let low : 48 ≤ c = leb-true _ _ t.0 in let high : c ≤ 57 = leb-true _ _ t.1 in
     let is : c - 48 ≡ d = cc in
     let small : ltb d 10 ≡ true = lt-ltb _ _ (omega arith) in
     record { small = omega arith; glyph = rw small (omega arith) })
-    (λ (h : ((leb 48 c && leb c 57) ≡ false) × (cond (leb 97 c && leb c 102) (Some (c - 87)) None ≡ Option.Some d)). ⊎_elim
-    (λ (k : ((leb 97 c && leb c 102) ≡ true) × (Option.Some (c - 87) ≡ Some d)). let t = and_parts (leb 97 c) (leb c 102) k.0 in
+    (λ (h : ((leb 48 c && leb c 57) ≡ false) × (cond (leb 97 c && leb c 102) (Some (c - 87)) None ≡ Option.Some d)).
+    ⊎_elim
+    (λ (k : ((leb 97 c && leb c 102) ≡ true) × (Option.Some (c - 87) ≡ Some d)).
+    let t = and_parts (leb 97 c) (leb c 102) k.0 in
     let low : 97 ≤ c = leb-true _ _ t.0 in let high : c ≤ 102 = leb-true _ _ t.1 in
     let is : c - 87 ≡ d = cc in
     let large : ltb d 10 ≡ false = le-ltb _ _ (omega arith) in
@@ -33,13 +36,19 @@ digit_is c d e =
     (chosen (leb 97 c && leb c 102) (Some (c - 87)) None (Some d) h.1))
     (chosen (leb 48 c && leb c 57) (Some (c - 48)) (cond (leb 97 c && leb c 102) (Some (c - 87)) None) (Some d) e)
 
-went_on : (n c : ℕ) (cs : List ℕ) (m : ℕ) (o : Option ℕ) → hex_digit c ≡ o → option_and_then (λ d. hex_after (16 * n + d) cs) o ≡ Some m → (d : ℕ) × IsDigit c d × (hex_after (16 * n + d) cs ≡ Some m)
+went_on : (n c : ℕ) (cs : List ℕ) (m : ℕ) (o : Option ℕ) → hex_digit c ≡ o
+    → option_and_then (λ d. hex_after (16 * n + d) cs) o ≡ Some m
+    → (d : ℕ) × IsDigit c d × (hex_after (16 * n + d) cs ≡ Some m)
 went_on n c cs m None h e = absurd cc
 went_on n c cs m (Some d) h e = (d, digit_is c d h, e)
 
 -- the digits of m are those of n and then cs
-printed : (k n : ℕ) (cs acc : List ℕ) (m : ℕ) → 0 < n → hex_after n cs ≡ Some m → digits_onto (k + length cs) 16 false m acc ≡ digits_onto k 16 false n (cs ++ acc)
-printed k n [] acc m some e = let is : n ≡ m = cc in let same : k + length {A = ℕ} [] ≡ k = omega arith in rw (same, is) refl
+printed : (k n : ℕ) (cs acc : List ℕ) (m : ℕ) → 0 < n → hex_after n cs ≡ Some m
+    → digits_onto (k + length cs) 16 false m acc ≡ digits_onto k 16 false n (cs ++ acc)
+printed k n [] acc m some e =
+    let is : n ≡ m = cc in
+    let same : k + length {A = ℕ} [] ≡ k = omega arith in
+    rw (same, is) refl
 printed k n (c ∷ cs) acc m some e =
     let w = went_on n c cs m (hex_digit c) refl e in
     let d = w.0 in
@@ -64,9 +73,11 @@ one_digit c n e =
     let nothing : w.0 / 16 ≡ 0 = omega arith in
     let low : w.0 % 16 ≡ w.0 = omega arith in
     let last = digits_onto_last 16 false w.0 [] 64 (omega arith) nothing in
-    sym (ap (λ g. g ∷ []) (ap (digit_glyph false) low ∙ w.1.glyph)) ∙ sym last ∙ digits_onto-nil 16 false w.0 ∙ ap hexadecimal same
+    sym (ap (λ g. g ∷ []) (ap (digit_glyph false) low ∙ w.1.glyph)) ∙ sym last ∙ digits_onto-nil 16 false w.0
+    ∙ ap hexadecimal same
 
-more_digits : (c : ℕ) (cs : List ℕ) (n : ℕ) → (c ≡ 48 → ⊥) → length cs ≤ 15 → hex_after 0 (c ∷ cs) ≡ Some n → c ∷ cs ≡ hexadecimal n
+more_digits : (c : ℕ) (cs : List ℕ) (n : ℕ) → (c ≡ 48 → ⊥) → length cs ≤ 15 → hex_after 0 (c ∷ cs) ≡ Some n
+    → c ∷ cs ≡ hexadecimal n
 more_digits c cs n some short e =
     let w = went_on 0 c cs n (hex_digit c) refl e in
     let d = w.0 in
@@ -79,7 +90,9 @@ more_digits c cs n some short e =
     let nothing : first / 16 ≡ 0 = omega arith in
     let low : first % 16 ≡ d = omega arith in
     let last = digits_onto_last 16 false first (cs ++ []) k (omega arith) nothing in
-    sym (ap (λ g. g ∷ cs) (ap (digit_glyph false) low ∙ w.1.glyph)) ∙ sym (ap (λ (l : List ℕ). digit_glyph false (first % 16) ∷ l) (append-nil cs)) ∙ sym last ∙ sym r ∙ ap (λ j. digits_onto j 16 false n []) len ∙ digits_onto-nil 16 false n
+    sym (ap (λ g. g ∷ cs) (ap (digit_glyph false) low ∙ w.1.glyph))
+    ∙ sym (ap (λ (l : List ℕ). digit_glyph false (first % 16) ∷ l) (append-nil cs)) ∙ sym last ∙ sym r
+    ∙ ap (λ j. digits_onto j 16 false n []) len ∙ digits_onto-nil 16 false n
   where
     first_some : (d c : ℕ) → (c ≡ 48 → ⊥) → IsDigit c d → 0 < 16 * 0 + d
     first_some zero c some i = absurd (some (sym i.glyph))
@@ -108,7 +121,11 @@ zero_or zero = inl refl
 zero_or (suc n) = inr (omega arith)
 
 glyph_low : (d : ℕ) → d < 10 → hex_digit (48 + d) ≡ Some d
-glyph_low d h = let a : leb 48 (48 + d) ≡ true = le-leb _ _ (omega arith) in let b : leb (48 + d) 57 ≡ true = le-leb _ _ (omega arith) in let m : (48 + d) - 48 ≡ d = omega arith in rw (a, b, m) refl
+glyph_low d h =
+    let a : leb 48 (48 + d) ≡ true = le-leb _ _ (omega arith) in
+    let b : leb (48 + d) 57 ≡ true = le-leb _ _ (omega arith) in
+    let m : (48 + d) - 48 ≡ d = omega arith in
+    rw (a, b, m) refl
 
 glyph_high : (d : ℕ) → 10 ≤ d → d < 16 → hex_digit (87 + d) ≡ Some d
 glyph_high d h k =
@@ -133,11 +150,16 @@ read_back zero n acc lt = let is : 0 ≡ n = omega arith in ap (λ m. hex_after 
 read_back (suc k) n acc lt =
     let low : n % 16 < 16 = omega arith in
     ⊎_elim
-    (λ (z : n / 16 ≡ 0). ap (hex_after 0) (digits_onto_last 16 false n acc (suc k) (omega arith) z) ∙ one_read 0 (n % 16) acc low ∙ ap (λ m. hex_after m acc) (omega (arith, z)))
+    (λ (z : n / 16 ≡ 0).
+    ap (hex_after 0) (digits_onto_last 16 false n acc (suc k) (omega arith) z) ∙ one_read 0 (n % 16) acc low
+    ∙ ap (λ m. hex_after m acc) (omega (arith, z)))
     (λ (z : 0 < n / 16).
     let less : suc k - 1 ≡ k = omega arith in
-    ap (hex_after 0) (digits_onto_step 16 false n acc (suc k) (omega arith) (λ e. omega (arith, e, z)) ∙ ap (λ j. digits_onto j 16 false (n / 16) (digit_glyph false (n % 16) ∷ acc)) less)
-    ∙ read_back k (n / 16) (digit_glyph false (n % 16) ∷ acc) (omega arith) ∙ one_read (n / 16) (n % 16) acc low ∙ ap (λ m. hex_after m acc) (omega arith))
+    ap (hex_after 0)
+    (digits_onto_step 16 false n acc (suc k) (omega arith) (λ e. omega (arith, e, z))
+    ∙ ap (λ j. digits_onto j 16 false (n / 16) (digit_glyph false (n % 16) ∷ acc)) less)
+    ∙ read_back k (n / 16) (digit_glyph false (n % 16) ∷ acc) (omega arith)
+    ∙ one_read (n / 16) (n % 16) acc low ∙ ap (λ m. hex_after m acc) (omega arith))
     (zero_or (n / 16))
 
 -- no zero before them, and no more digits than the number has
@@ -153,11 +175,18 @@ no_zero d h some is =
     (λ (t : ltb d 10 ≡ false). let e : 87 + d ≡ 48 = rw t at is in omega (arith, e))
     (cases_Bool (ltb d 10))
 
-written_end : (j k n : ℕ) (acc : List ℕ) → n / 16 ≡ 0 → IsWritten (suc k) n (digits_onto (suc j) 16 false n acc) (length acc)
+written_end : (j k n : ℕ) (acc : List ℕ) → n / 16 ≡ 0
+    → IsWritten (suc k) n (digits_onto (suc j) 16 false n acc) (length acc)
 written_end j k n acc z = let e = digits_onto_last 16 false n acc (suc j) (omega arith) z in
-    subst (λ (w : List ℕ). IsWritten (suc k) n w (length acc)) (sym e) (record { long = omega arith; short = omega arith; first = λ some is. no_zero (n % 16) (omega arith) (omega (arith, z, some)) is })
+    subst (λ (w : List ℕ). IsWritten (suc k) n w (length acc)) (sym e)
+    (record {
+      long = omega arith;
+      short = omega arith;
+      first = λ some is. no_zero (n % 16) (omega arith) (omega (arith, z, some)) is;
+    })
 
-written_at : (j k n : ℕ) (acc : List ℕ) → n < 16 ^ suc k → k ≤ j → IsWritten (suc k) n (digits_onto (suc j) 16 false n acc) (length acc)
+written_at : (j k n : ℕ) (acc : List ℕ) → n < 16 ^ suc k → k ≤ j
+    → IsWritten (suc k) n (digits_onto (suc j) 16 false n acc) (length acc)
 written_at zero zero n acc lt le = written_end 0 0 n acc (omega arith)
 written_at (suc j) zero n acc lt le = written_end (suc j) 0 n acc (omega arith)
 written_at zero (suc k) n acc lt le = absurd (omega arith)
@@ -166,12 +195,16 @@ written_at (suc j) (suc k) n acc lt le =
     (λ (z : n / 16 ≡ 0). written_end (suc j) (suc k) n acc z)
     (λ (z : 0 < n / 16).
     let less : suc (suc j) - 1 ≡ suc j = omega arith in
-    let step = digits_onto_step 16 false n acc (suc (suc j)) (omega arith) (λ e. omega (arith, e, z)) ∙ ap (λ i. digits_onto i 16 false (n / 16) (digit_glyph false (n % 16) ∷ acc)) less in
+    let step =
+    digits_onto_step 16 false n acc (suc (suc j)) (omega arith) (λ e. omega (arith, e, z))
+    ∙ ap (λ i. digits_onto i 16 false (n / 16) (digit_glyph false (n % 16) ∷ acc)) less in
     let r = written_at j k (n / 16) (digit_glyph false (n % 16) ∷ acc) (omega arith) (omega arith) in
-    subst (λ (w : List ℕ). IsWritten (suc (suc k)) n w (length acc)) (sym step) (record { long = r.long; short = omega (arith, r.short); first = λ some is. r.first z is }))
+    subst (λ (w : List ℕ). IsWritten (suc (suc k)) n w (length acc)) (sym step)
+    (record { long = r.long; short = omega (arith, r.short); first = λ some is. r.first z is }))
     (zero_or (n / 16))
 
-hex_reads : (word : List ℕ) (o : Option ℕ) → 0 < length word → length word ≤ 16 → (length word ≡ 1) ⊎ (get_or word 0 0 ≡ 48 → ⊥) → hex_after 0 word ≡ o → hex_at word ≡ o
+hex_reads : (word : List ℕ) (o : Option ℕ) → 0 < length word → length word ≤ 16
+    → (length word ≡ 1) ⊎ (get_or word 0 0 ≡ 48 → ⊥) → hex_after 0 word ≡ o → hex_at word ≡ o
 unfolding hex_at
 hex_reads [] o some short first e = absurd (omega arith)
 hex_reads (c ∷ []) o some short first e = e
@@ -187,9 +220,11 @@ hex_reads (c ∷ d ∷ cs) o some short (inr first) e =
 hex_again_at : (n : ℕ) → n < 2 ^ 64 → (n ≡ 0) ⊎ (0 < n) → hex_at (digits_onto 64 16 false n []) ≡ Some n
 hex_again_at n lt t =
     let w = written_at 63 15 n [] (omega arith) (omega arith) in
-    hex_reads (digits_onto 64 16 false n []) (Some n) w.long (omega (arith, w.short)) (front n t w.first) (read_back 64 n [] (omega arith))
+    hex_reads (digits_onto 64 16 false n []) (Some n) w.long (omega (arith, w.short)) (front n t w.first)
+    (read_back 64 n [] (omega arith))
   where
-    front : (n : ℕ) → (n ≡ 0) ⊎ (0 < n) → (0 < n → get_or (digits_onto 64 16 false n []) 0 0 ≡ 48 → ⊥) → (length (digits_onto 64 16 false n []) ≡ 1) ⊎ (get_or (digits_onto 64 16 false n []) 0 0 ≡ 48 → ⊥)
+    front : (n : ℕ) → (n ≡ 0) ⊎ (0 < n) → (0 < n → get_or (digits_onto 64 16 false n []) 0 0 ≡ 48 → ⊥)
+        → (length (digits_onto 64 16 false n []) ≡ 1) ⊎ (get_or (digits_onto 64 16 false n []) 0 0 ≡ 48 → ⊥)
     front n (inl z) first = inl (ap length (digits_onto_last 16 false n [] 64 (omega arith) (omega (arith, z))))
     front n (inr some) first = inr (first some)
 
@@ -199,7 +234,10 @@ hex_again n lt = ap hex_at (sym (digits_onto-nil 16 false n)) ∙ hex_again_at n
 -- ---- how great it is
 
 bounded : (k n : ℕ) (cs : List ℕ) (m : ℕ) → n < 16 ^ k → hex_after n cs ≡ Some m → m < 16 ^ (k + length cs)
-bounded k n [] m lt e = let is : n ≡ m = cc in let same : k + length {A = ℕ} [] ≡ k = omega arith in rw same (omega (arith, is, lt))
+bounded k n [] m lt e =
+    let is : n ≡ m = cc in
+    let same : k + length {A = ℕ} [] ≡ k = omega arith in
+    rw same (omega (arith, is, lt))
 bounded k n (c ∷ cs) m lt e =
     let w = went_on n c cs m (hex_digit c) refl e in
     let small : w.0 < 16 = w.1.small in
@@ -223,7 +261,9 @@ hex_small [] n e = absurd cc
 hex_small (c ∷ []) n e = in_range (c ∷ []) n (omega arith) e
 hex_small (c ∷ d ∷ cs) n e =
     ⊎_elim (λ h. absurd (cc (h.1)))
-    (λ h. let short : length (c ∷ d ∷ cs) ≤ 16 = ltb-false _ _ (second (eqb c 48) (ltb 16 (length (c ∷ d ∷ cs))) h.0) in in_range (c ∷ d ∷ cs) n short h.1)
+    (λ h.
+    let short : length (c ∷ d ∷ cs) ≤ 16 = ltb-false _ _ (second (eqb c 48) (ltb 16 (length (c ∷ d ∷ cs))) h.0) in
+    in_range (c ∷ d ∷ cs) n short h.1)
     (chosen (eqb c 48 || ltb 16 (length (c ∷ d ∷ cs))) None (hex_after 0 (c ∷ d ∷ cs)) (Some n) e)
   where
     second : (a b : Bool) → (a || b) ≡ false → b ≡ false

@@ -29,6 +29,7 @@ mod Steps
 mod StressNames
 mod Stressed
 mod TextFaults
+mod ThreeWords
 mod Tracks
 mod Values
 mod Written

@@ -14,8 +14,13 @@ finds q names = list_any (is_at (λ (n : Name). slice_cmp nat_cmp q (name_view n
 
 pub found : (names : List Name) (q : List ℕ) → finds q names ≡ has_name names q
 found [] q = refl
-found (n ∷ ns) q = ap (λ b. b || finds q ns) (sym (texts_ties q (name_view n))) ∙ ap (λ b. pointwise nat_eq q (name_view n) || b) (found ns q)
+found (n ∷ ns) q =
+    ap (λ b. b || finds q ns) (sym (texts_ties q (name_view n)))
+    ∙ ap (λ b. pointwise nat_eq q (name_view n) || b) (found ns q)
 
-pub joined_by : (olds news : List Name) (name q : List ℕ) → finds q news ≡ cond (eq_by_cmp (slice_cmp nat_cmp) name q) true (finds q olds) → has_name news q ≡ cond (pointwise nat_eq name q) true (has_name olds q)
+pub joined_by : (olds news : List Name) (name q : List ℕ)
+    → finds q news ≡ cond (eq_by_cmp (slice_cmp nat_cmp) name q) true (finds q olds)
+    → has_name news q ≡ cond (pointwise nat_eq name q) true (has_name olds q)
 joined_by olds news name q h =
-    sym (found news q) ∙ h ∙ ap (λ b. cond b true (finds q olds)) (sym (texts_ties name q)) ∙ ap (λ b. cond (pointwise nat_eq name q) true b) (found olds q)
+    sym (found news q) ∙ h ∙ ap (λ b. cond b true (finds q olds)) (sym (texts_ties name q))
+    ∙ ap (λ b. cond (pointwise nat_eq name q) true b) (found olds q)

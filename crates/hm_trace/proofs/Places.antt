@@ -30,12 +30,16 @@ place_is (c ∷ cs) p e =
     let b = bind_ok (or_fault BadNumber (hex_at cs)) (λ a. ok (At a)) p h.1 in
     let s = some_is BadNumber (hex_at cs) b.0 b.1 in
     let first : c ≡ 64 = grind (arith, nat_tests, h.0) in
-    subst (Goal word) (ok_is (At b.0) p b.2) (ap (λ x. x ∷ cs) first ∙ ap (λ (l : List ℕ). 64 ∷ l) (hex_spelled cs b.0 s), hex_small cs b.0 s))
+    subst (Goal word) (ok_is (At b.0) p b.2)
+    (ap (λ x. x ∷ cs) first ∙ ap (λ (l : List ℕ). 64 ∷ l) (hex_spelled cs b.0 s), hex_small cs b.0 s))
     (λ (h : (eqb c 64 ≡ false) × (cond (is_word word (codes "null")) (Ok Null) (named_at word) ≡ Ok p)).
-    ⊎_elim (λ t. subst (Goal word) (ok_is Null p t.1) (word_is word (codes "null") t.0, tt)) (λ t. (named_is word p t.1, named_fits word p t.1)) (chosen (is_word word (codes "null")) (ok Null) (named_at word) (Ok p) h.1))
+    ⊎_elim (λ t. subst (Goal word) (ok_is Null p t.1) (word_is word (codes "null") t.0, tt))
+    (λ t. (named_is word p t.1, named_fits word p t.1))
+    (chosen (is_word word (codes "null")) (ok Null) (named_at word) (Ok p) h.1))
     (chosen (eqb c 64) address (cond (is_word word (codes "null")) (Ok Null) (named_at word)) (Ok p) e)
 
-named_place : (name : List ℕ) (z : ℤ) → is_name name ≡ true → is_word (name ++ offset_word z) (codes "null") ≡ false → named_at (name ++ offset_word z) ≡ Ok (Named name z) → place_at (name ++ offset_word z) ≡ Ok (Named name z)
+named_place : (name : List ℕ) (z : ℤ) → is_name name ≡ true → is_word (name ++ offset_word z) (codes "null") ≡ false
+    → named_at (name ++ offset_word z) ≡ Ok (Named name z) → place_at (name ++ offset_word z) ≡ Ok (Named name z)
 unfolding place_at
 named_place [] z h n e = absurd (first_letter [] h)
 named_place (c ∷ cs) z h n e = let apart : eqb c 64 ≡ false = first_letter (c ∷ cs) h in rw (apart, n) e

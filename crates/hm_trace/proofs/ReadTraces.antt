@@ -12,7 +12,8 @@ use Rattle.hm_trace.proofs.Decimals.{next}
 use Rattle.hm_trace.proofs.SpelledLines.{ended, in_line_ok}
 use Rattle.hm_trace.proofs.Stays.{ends, line_stays, starts}
 
-lines_fit : (n : ℕ) (p : Progress) (lines : List (List ℕ)) (rounds : List (List ScriptView)) → read_lines n p lines ≡ Ok rounds → IsProgress p → IsTrace rounds
+lines_fit : (n : ℕ) (p : Progress) (lines : List (List ℕ)) (rounds : List (List ScriptView))
+    → read_lines n p lines ≡ Ok rounds → IsProgress p → IsTrace rounds
 unfolding read_lines
 lines_fit n p [] rounds e g = absurd cc
 lines_fit n p (last ∷ []) rounds e g = absurd cc
@@ -24,9 +25,11 @@ lines_fit n p (line ∷ next ∷ more) rounds e g =
     let q = b.0 in
     let a = in_line_ok n (line_at p line) q b.1 in
     lines_fit (n + 1) q (next ∷ more) rounds b.2 (line_stays p q line a g))
-    (chosen (is_word line (codes "end")) (ended_at (n + 1) (rounds_of p) (next ∷ more)) (in_line n (line_at p line) >>= go_on) (Ok rounds) e)
+    (chosen (is_word line (codes "end")) (ended_at (n + 1) (rounds_of p) (next ∷ more))
+    (in_line n (line_at p line) >>= go_on) (Ok rounds) e)
 
-pieces_fit : (pieces : List (List ℕ)) (rounds : List (List ScriptView)) → read_pieces pieces ≡ Ok rounds → IsTrace rounds
+pieces_fit : (pieces : List (List ℕ)) (rounds : List (List ScriptView)) → read_pieces pieces ≡ Ok rounds
+    → IsTrace rounds
 unfolding read_pieces
 pieces_fit [] rounds e = absurd cc
 pieces_fit (last ∷ []) rounds e = absurd cc

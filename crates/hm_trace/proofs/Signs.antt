@@ -1,5 +1,5 @@
 -- The first sign of a word, as a search finds it.
-use Rattle.std.proofs.Common.{◌≡◌, ℕ, ◌+◌, ◌≤◌, Bool, true, false, cond, ltb, List, [], ◌∷◌, length, Option, Some, None, refl, sym, ap, arith}
+use Rattle.std.proofs.Common.{◌≡◌, ℕ, ◌+◌, ◌≤◌, Bool, true, false, cond, ltb, List, [], ◌∷◌, length, Some, None, refl, sym, ap, arith}
 use Rattle.std.specs.Prelude.{position}
 use Rattle.std.specs.List.{position_or_len}
 use Rattle.std.specs.Option.{unwrap_or}
@@ -22,6 +22,7 @@ place_within (c ∷ cs) = by (is_sign c) (place_within cs)
 pub found_sign : (word : List ℕ) → unwrap_or (position is_sign word) (length word) ≡ sign_place word
 found_sign word = by (ltb (position_or_len is_sign word) (length word)) refl
   where
-    by : (t : Bool) → ltb (position_or_len is_sign word) (length word) ≡ t → unwrap_or (cond t (Some (position_or_len is_sign word)) None) (length word) ≡ sign_place word
+    by : (t : Bool) → ltb (position_or_len is_sign word) (length word) ≡ t
+        → unwrap_or (cond t (Some (position_or_len is_sign word)) None) (length word) ≡ sign_place word
     by true e = sym (place_is word)
     by false e = grind (arith, nat_tests, place_is word, place_within word)

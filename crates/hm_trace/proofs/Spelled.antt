@@ -15,7 +15,8 @@ use Rattle.hm_trace.proofs.Choices.{bind_ok, chosen, ok, ok_is, some_is}
 use Rattle.hm_trace.proofs.Decimals.{spelled}
 
 pub name_is : (word n : List ℕ) → name_at word ≡ Ok n → word ≡ n
-name_is word n e = ⊎_elim (λ h. ok_is word n h.1) (λ h. absurd cc) (chosen (is_name word) (ok word) (Err BadName) (Ok n) e)
+name_is word n e =
+    ⊎_elim (λ h. ok_is word n h.1) (λ h. absurd cc) (chosen (is_name word) (ok word) (Err BadName) (Ok n) e)
 
 pub size_is : (word : List ℕ) (n : ℕ) → size_at word ≡ Ok n → word ≡ decimal n
 size_is word n e = spelled word n (some_is BadNumber (number_at word) n e)
@@ -24,13 +25,19 @@ distance_is : (word : List ℕ) (n : ℕ) → distance_at word ≡ Ok n → (wor
 unfolding distance_at
 distance_is word n e =
     let b = bind_ok (size_at word) (λ m. cond (leb 1 m && leb m 1099511627776) (Ok m) (Err BadNumber)) n e in
-    ⊎_elim (λ h. (size_is word n (b.1 ∙ ap (λ z. ok z) (ok_is b.0 n h.1)), subst (λ m. 1 ≤ m) (ok_is b.0 n h.1) (leb-true _ _ (and_parts _ _ h.0).0))) (λ h. absurd cc) (chosen (leb 1 b.0 && leb b.0 1099511627776) (ok b.0) (Err BadNumber) (Ok n) b.2)
+    ⊎_elim
+    (λ h. (
+      size_is word n (b.1 ∙ ap (λ z. ok z) (ok_is b.0 n h.1)),
+      subst (λ m. 1 ≤ m) (ok_is b.0 n h.1) (leb-true _ _ (and_parts _ _ h.0).0),
+    ))
+    (λ h. absurd cc) (chosen (leb 1 b.0 && leb b.0 1099511627776) (ok b.0) (Err BadNumber) (Ok n) b.2)
 
 -- what follows a name is nothing, or begins with a sign
 pub record IsBack (word : List ℕ) : Type 0 where
   pub signed : (c : ℕ) (cs : List ℕ) → word ≡ c ∷ cs → is_sign c ≡ true
 
-back_at : (b : ℕ) (bs : List ℕ) (t : Bool) → is_sign b ≡ t → IsBack (drop (sign_place bs) bs) → IsBack (drop (cond t 0 (sign_place bs + 1)) (b ∷ bs))
+back_at : (b : ℕ) (bs : List ℕ) (t : Bool) → is_sign b ≡ t → IsBack (drop (sign_place bs) bs)
+    → IsBack (drop (cond t 0 (sign_place bs + 1)) (b ∷ bs))
 back_at b bs true h rest = record { signed = λ c cs e. let q : b ≡ c = cc in subst (λ x. is_sign x ≡ true) q h }
 back_at b bs false h rest = rw add-one rest
 
@@ -53,10 +60,14 @@ offset_is (c ∷ cs) z h e =
     let b = bind_ok (distance_at cs) (λ n. ok (cond (eqb c 43) (pos n) (neg_ℤ (pos n)))) z e in
     let d = distance_is cs b.0 b.1 in
     let sign = h.signed c cs refl in
-    let at : (s : ℕ) → c ≡ s → c ∷ cs ≡ s ∷ decimal b.0 = λ s is. ap (λ x. x ∷ cs) is ∙ ap (λ (l : List ℕ). s ∷ l) d.0 in
+    let at : (s : ℕ) → c ≡ s → c ∷ cs ≡ s ∷ decimal b.0 =
+    λ s is. ap (λ x. x ∷ cs) is ∙ ap (λ (l : List ℕ). s ∷ l) d.0 in
     ⊎_elim
-    (λ t. let plus : c ≡ 43 = grind (arith, nat_tests, t.0) in at 43 plus ∙ sym (plus_word b.0 d.1) ∙ ap offset_word t.1)
-    (λ t. let minus : c ≡ 45 = grind (arith, nat_tests, t.0, sign) in at 45 minus ∙ sym (minus_word b.0 d.1) ∙ ap offset_word t.1)
+    (λ t.
+    let plus : c ≡ 43 = grind (arith, nat_tests, t.0) in at 43 plus ∙ sym (plus_word b.0 d.1) ∙ ap offset_word t.1)
+    (λ t.
+    let minus : c ≡ 45 = grind (arith, nat_tests, t.0, sign) in
+    at 45 minus ∙ sym (minus_word b.0 d.1) ∙ ap offset_word t.1)
     (chosen (eqb c 43) (pos b.0) (neg_ℤ (pos b.0)) z (ok_is _ _ b.2))
 
 pub named_is : (word : List ℕ) (p : PlaceView) → named_at word ≡ Ok p → word ≡ place_word p

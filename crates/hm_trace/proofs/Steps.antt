@@ -22,7 +22,8 @@ abbrev Made : List ℕ → List Part → List Value → StepView → Type 0
 Made word parts vs s = (word ∷ map value_word vs ≡ step_words s) × (FitValues parts vs → FitsStep s)
 
 malloc_made : (vs : List Value) (s : StepView) → make_malloc vs ≡ Ok s → Made (codes "malloc") malloc_form vs s
-malloc_made (NameOf x0 ∷ NumberOf x1 ∷ []) s e = subst (Made (codes "malloc") malloc_form (NameOf x0 ∷ NumberOf x1 ∷ [])) (ok_is (Malloc x0 x1) s e) (refl, λ h. h)
+malloc_made (NameOf x0 ∷ NumberOf x1 ∷ []) s e =
+    subst (Made (codes "malloc") malloc_form (NameOf x0 ∷ NumberOf x1 ∷ [])) (ok_is (Malloc x0 x1) s e) (refl, λ h. h)
 malloc_made _ s e = absurd cc
 
 malloc_is : (words : List (List ℕ)) (s : StepView) → malloc_at words ≡ Ok s → Reads (codes "malloc" ∷ words) s
@@ -32,7 +33,9 @@ malloc_is words s e =
     (ap (λ (x : List (List ℕ)). codes "malloc" ∷ x) f.1 ∙ m.0, m.1 f.2)
 
 calloc_made : (vs : List Value) (s : StepView) → make_calloc vs ≡ Ok s → Made (codes "calloc") calloc_form vs s
-calloc_made (NameOf x0 ∷ NumberOf x1 ∷ NumberOf x2 ∷ []) s e = subst (Made (codes "calloc") calloc_form (NameOf x0 ∷ NumberOf x1 ∷ NumberOf x2 ∷ [])) (ok_is (Calloc x0 x1 x2) s e) (refl, λ h. h)
+calloc_made (NameOf x0 ∷ NumberOf x1 ∷ NumberOf x2 ∷ []) s e =
+    subst (Made (codes "calloc") calloc_form (NameOf x0 ∷ NumberOf x1 ∷ NumberOf x2 ∷ [])) (ok_is (Calloc x0 x1 x2) s e)
+    (refl, λ h. h)
 calloc_made _ s e = absurd cc
 
 calloc_is : (words : List (List ℕ)) (s : StepView) → calloc_at words ≡ Ok s → Reads (codes "calloc" ∷ words) s
@@ -42,7 +45,9 @@ calloc_is words s e =
     (ap (λ (x : List (List ℕ)). codes "calloc" ∷ x) f.1 ∙ m.0, m.1 f.2)
 
 aligned_made : (vs : List Value) (s : StepView) → make_aligned vs ≡ Ok s → Made (codes "aligned") aligned_form vs s
-aligned_made (NameOf x0 ∷ NumberOf x1 ∷ NumberOf x2 ∷ []) s e = subst (Made (codes "aligned") aligned_form (NameOf x0 ∷ NumberOf x1 ∷ NumberOf x2 ∷ [])) (ok_is (Aligned x0 x1 x2) s e) (refl, λ h. h)
+aligned_made (NameOf x0 ∷ NumberOf x1 ∷ NumberOf x2 ∷ []) s e =
+    subst (Made (codes "aligned") aligned_form (NameOf x0 ∷ NumberOf x1 ∷ NumberOf x2 ∷ []))
+    (ok_is (Aligned x0 x1 x2) s e) (refl, λ h. h)
 aligned_made _ s e = absurd cc
 
 aligned_is : (words : List (List ℕ)) (s : StepView) → aligned_at words ≡ Ok s → Reads (codes "aligned" ∷ words) s
@@ -52,7 +57,9 @@ aligned_is words s e =
     (ap (λ (x : List (List ℕ)). codes "aligned" ∷ x) f.1 ∙ m.0, m.1 f.2)
 
 realloc_made : (vs : List Value) (s : StepView) → make_realloc vs ≡ Ok s → Made (codes "realloc") realloc_form vs s
-realloc_made (NameOf x0 ∷ PlaceOf x1 ∷ NumberOf x2 ∷ []) s e = subst (Made (codes "realloc") realloc_form (NameOf x0 ∷ PlaceOf x1 ∷ NumberOf x2 ∷ [])) (ok_is (Realloc x0 x1 x2) s e) (refl, λ h. h)
+realloc_made (NameOf x0 ∷ PlaceOf x1 ∷ NumberOf x2 ∷ []) s e =
+    subst (Made (codes "realloc") realloc_form (NameOf x0 ∷ PlaceOf x1 ∷ NumberOf x2 ∷ []))
+    (ok_is (Realloc x0 x1 x2) s e) (refl, λ h. h)
 realloc_made _ s e = absurd cc
 
 realloc_is : (words : List (List ℕ)) (s : StepView) → realloc_at words ≡ Ok s → Reads (codes "realloc" ∷ words) s
@@ -62,7 +69,8 @@ realloc_is words s e =
     (ap (λ (x : List (List ℕ)). codes "realloc" ∷ x) f.1 ∙ m.0, m.1 f.2)
 
 free_made : (vs : List Value) (s : StepView) → make_free vs ≡ Ok s → Made (codes "free") free_form vs s
-free_made (PlaceOf x0 ∷ []) s e = subst (Made (codes "free") free_form (PlaceOf x0 ∷ [])) (ok_is (Free x0) s e) (refl, λ h. h)
+free_made (PlaceOf x0 ∷ []) s e =
+    subst (Made (codes "free") free_form (PlaceOf x0 ∷ [])) (ok_is (Free x0) s e) (refl, λ h. h)
 free_made _ s e = absurd cc
 
 free_is : (words : List (List ℕ)) (s : StepView) → free_at words ≡ Ok s → Reads (codes "free" ∷ words) s
@@ -72,7 +80,8 @@ free_is words s e =
     (ap (λ (x : List (List ℕ)). codes "free" ∷ x) f.1 ∙ m.0, m.1 f.2)
 
 sfree_made : (vs : List Value) (s : StepView) → make_sfree vs ≡ Ok s → Made (codes "sfree") sfree_form vs s
-sfree_made (PlaceOf x0 ∷ NumberOf x1 ∷ []) s e = subst (Made (codes "sfree") sfree_form (PlaceOf x0 ∷ NumberOf x1 ∷ [])) (ok_is (Sfree x0 x1) s e) (refl, λ h. h)
+sfree_made (PlaceOf x0 ∷ NumberOf x1 ∷ []) s e =
+    subst (Made (codes "sfree") sfree_form (PlaceOf x0 ∷ NumberOf x1 ∷ [])) (ok_is (Sfree x0 x1) s e) (refl, λ h. h)
 sfree_made _ s e = absurd cc
 
 sfree_is : (words : List (List ℕ)) (s : StepView) → sfree_at words ≡ Ok s → Reads (codes "sfree" ∷ words) s
@@ -82,7 +91,9 @@ sfree_is words s e =
     (ap (λ (x : List (List ℕ)). codes "sfree" ∷ x) f.1 ∙ m.0, m.1 f.2)
 
 write_made : (vs : List Value) (s : StepView) → make_write vs ≡ Ok s → Made (codes "write") write_form vs s
-write_made (PlaceOf x0 ∷ NumberOf x1 ∷ ByteOf x2 ∷ []) s e = subst (Made (codes "write") write_form (PlaceOf x0 ∷ NumberOf x1 ∷ ByteOf x2 ∷ [])) (ok_is (Write x0 x1 x2) s e) (refl, λ h. h)
+write_made (PlaceOf x0 ∷ NumberOf x1 ∷ ByteOf x2 ∷ []) s e =
+    subst (Made (codes "write") write_form (PlaceOf x0 ∷ NumberOf x1 ∷ ByteOf x2 ∷ [])) (ok_is (Write x0 x1 x2) s e)
+    (refl, λ h. h)
 write_made _ s e = absurd cc
 
 write_is : (words : List (List ℕ)) (s : StepView) → write_at words ≡ Ok s → Reads (codes "write" ∷ words) s
@@ -92,7 +103,8 @@ write_is words s e =
     (ap (λ (x : List (List ℕ)). codes "write" ∷ x) f.1 ∙ m.0, m.1 f.2)
 
 read_made : (vs : List Value) (s : StepView) → make_read vs ≡ Ok s → Made (codes "read") read_form vs s
-read_made (PlaceOf x0 ∷ NumberOf x1 ∷ []) s e = subst (Made (codes "read") read_form (PlaceOf x0 ∷ NumberOf x1 ∷ [])) (ok_is (Read x0 x1) s e) (refl, λ h. h)
+read_made (PlaceOf x0 ∷ NumberOf x1 ∷ []) s e =
+    subst (Made (codes "read") read_form (PlaceOf x0 ∷ NumberOf x1 ∷ [])) (ok_is (Read x0 x1) s e) (refl, λ h. h)
 read_made _ s e = absurd cc
 
 read_is : (words : List (List ℕ)) (s : StepView) → read_at words ≡ Ok s → Reads (codes "read" ∷ words) s
@@ -102,7 +114,8 @@ read_is words s e =
     (ap (λ (x : List (List ℕ)). codes "read" ∷ x) f.1 ∙ m.0, m.1 f.2)
 
 size_made : (vs : List Value) (s : StepView) → make_size vs ≡ Ok s → Made (codes "size") size_form vs s
-size_made (PlaceOf x0 ∷ []) s e = subst (Made (codes "size") size_form (PlaceOf x0 ∷ [])) (ok_is (Size x0) s e) (refl, λ h. h)
+size_made (PlaceOf x0 ∷ []) s e =
+    subst (Made (codes "size") size_form (PlaceOf x0 ∷ [])) (ok_is (Size x0) s e) (refl, λ h. h)
 size_made _ s e = absurd cc
 
 size_is : (words : List (List ℕ)) (s : StepView) → size_step_at words ≡ Ok s → Reads (codes "size" ∷ words) s
@@ -112,9 +125,12 @@ size_is words s e =
     (ap (λ (x : List (List ℕ)). codes "size" ∷ x) f.1 ∙ m.0, m.1 f.2)
 
 -- one step word among others
-among : (word first : List ℕ) (rest : List (List ℕ)) (r later : Result StepView FaultKind) (s : StepView) → (r ≡ Ok s → Reads (word ∷ rest) s) → (later ≡ Ok s → Reads (first ∷ rest) s) → cond (is_word first word) r later ≡ Ok s → Reads (first ∷ rest) s
+among : (word first : List ℕ) (rest : List (List ℕ)) (r later : Result StepView FaultKind) (s : StepView)
+    → (r ≡ Ok s → Reads (word ∷ rest) s) → (later ≡ Ok s → Reads (first ∷ rest) s)
+    → cond (is_word first word) r later ≡ Ok s → Reads (first ∷ rest) s
 among word first rest r later s here there e =
-    ⊎_elim (λ h. let q = here h.1 in (ap (λ (x : List ℕ). x ∷ rest) (word_is first word h.0) ∙ q.0, q.1)) (λ h. there h.1) (chosen (is_word first word) r later (Ok s) e)
+    ⊎_elim (λ h. let q = here h.1 in (ap (λ (x : List ℕ). x ∷ rest) (word_is first word h.0) ∙ q.0, q.1))
+    (λ h. there h.1) (chosen (is_word first word) r later (Ok s) e)
 
 abbrev Else : Type 0
 Else = List ℕ → List (List ℕ) → Result StepView FaultKind
@@ -160,12 +176,29 @@ step_is (first ∷ rest) s e =
 
 pub step_again : (s : StepView) → FitsStep s → step_at (step_words s) ≡ Ok s
 unfolding step_at
-step_again (Malloc x0 x1) h = malloc_by_form (map value_word (NameOf x0 ∷ NumberOf x1 ∷ [])) ∙ form_again malloc_form make_malloc (NameOf x0 ∷ NumberOf x1 ∷ []) (Malloc x0 x1) h refl
-step_again (Calloc x0 x1 x2) h = calloc_by_form (map value_word (NameOf x0 ∷ NumberOf x1 ∷ NumberOf x2 ∷ [])) ∙ form_again calloc_form make_calloc (NameOf x0 ∷ NumberOf x1 ∷ NumberOf x2 ∷ []) (Calloc x0 x1 x2) h refl
-step_again (Aligned x0 x1 x2) h = aligned_by_form (map value_word (NameOf x0 ∷ NumberOf x1 ∷ NumberOf x2 ∷ [])) ∙ form_again aligned_form make_aligned (NameOf x0 ∷ NumberOf x1 ∷ NumberOf x2 ∷ []) (Aligned x0 x1 x2) h refl
-step_again (Realloc x0 x1 x2) h = realloc_by_form (map value_word (NameOf x0 ∷ PlaceOf x1 ∷ NumberOf x2 ∷ [])) ∙ form_again realloc_form make_realloc (NameOf x0 ∷ PlaceOf x1 ∷ NumberOf x2 ∷ []) (Realloc x0 x1 x2) h refl
-step_again (Free x0) h = free_by_form (map value_word (PlaceOf x0 ∷ [])) ∙ form_again free_form make_free (PlaceOf x0 ∷ []) (Free x0) h refl
-step_again (Sfree x0 x1) h = sfree_by_form (map value_word (PlaceOf x0 ∷ NumberOf x1 ∷ [])) ∙ form_again sfree_form make_sfree (PlaceOf x0 ∷ NumberOf x1 ∷ []) (Sfree x0 x1) h refl
-step_again (Write x0 x1 x2) h = write_by_form (map value_word (PlaceOf x0 ∷ NumberOf x1 ∷ ByteOf x2 ∷ [])) ∙ form_again write_form make_write (PlaceOf x0 ∷ NumberOf x1 ∷ ByteOf x2 ∷ []) (Write x0 x1 x2) h refl
-step_again (Read x0 x1) h = read_by_form (map value_word (PlaceOf x0 ∷ NumberOf x1 ∷ [])) ∙ form_again read_form make_read (PlaceOf x0 ∷ NumberOf x1 ∷ []) (Read x0 x1) h refl
-step_again (Size x0) h = size_step_by_form (map value_word (PlaceOf x0 ∷ [])) ∙ form_again size_form make_size (PlaceOf x0 ∷ []) (Size x0) h refl
+step_again (Malloc x0 x1) h =
+    malloc_by_form (map value_word (NameOf x0 ∷ NumberOf x1 ∷ []))
+    ∙ form_again malloc_form make_malloc (NameOf x0 ∷ NumberOf x1 ∷ []) (Malloc x0 x1) h refl
+step_again (Calloc x0 x1 x2) h =
+    calloc_by_form (map value_word (NameOf x0 ∷ NumberOf x1 ∷ NumberOf x2 ∷ []))
+    ∙ form_again calloc_form make_calloc (NameOf x0 ∷ NumberOf x1 ∷ NumberOf x2 ∷ []) (Calloc x0 x1 x2) h refl
+step_again (Aligned x0 x1 x2) h =
+    aligned_by_form (map value_word (NameOf x0 ∷ NumberOf x1 ∷ NumberOf x2 ∷ []))
+    ∙ form_again aligned_form make_aligned (NameOf x0 ∷ NumberOf x1 ∷ NumberOf x2 ∷ []) (Aligned x0 x1 x2) h refl
+step_again (Realloc x0 x1 x2) h =
+    realloc_by_form (map value_word (NameOf x0 ∷ PlaceOf x1 ∷ NumberOf x2 ∷ []))
+    ∙ form_again realloc_form make_realloc (NameOf x0 ∷ PlaceOf x1 ∷ NumberOf x2 ∷ []) (Realloc x0 x1 x2) h refl
+step_again (Free x0) h =
+    free_by_form (map value_word (PlaceOf x0 ∷ [])) ∙ form_again free_form make_free (PlaceOf x0 ∷ []) (Free x0) h refl
+step_again (Sfree x0 x1) h =
+    sfree_by_form (map value_word (PlaceOf x0 ∷ NumberOf x1 ∷ []))
+    ∙ form_again sfree_form make_sfree (PlaceOf x0 ∷ NumberOf x1 ∷ []) (Sfree x0 x1) h refl
+step_again (Write x0 x1 x2) h =
+    write_by_form (map value_word (PlaceOf x0 ∷ NumberOf x1 ∷ ByteOf x2 ∷ []))
+    ∙ form_again write_form make_write (PlaceOf x0 ∷ NumberOf x1 ∷ ByteOf x2 ∷ []) (Write x0 x1 x2) h refl
+step_again (Read x0 x1) h =
+    read_by_form (map value_word (PlaceOf x0 ∷ NumberOf x1 ∷ []))
+    ∙ form_again read_form make_read (PlaceOf x0 ∷ NumberOf x1 ∷ []) (Read x0 x1) h refl
+step_again (Size x0) h =
+    size_step_by_form (map value_word (PlaceOf x0 ∷ []))
+    ∙ form_again size_form make_size (PlaceOf x0 ∷ []) (Size x0) h refl

@@ -22,7 +22,11 @@ use Rattle.hm_trace.proofs.Tracks.{Tracks, line_tracks, starts_tracked}
 
 -- a line whose one word is `end`
 not_end : (line : List ℕ) → is_word line (codes "end") ≡ false → words_at line ≡ codes "end" ∷ [] → ⊥
-not_end line h e = let is : line ≡ codes "end" = sym (join_with_byte-slice_split 32 line) ∙ ap line_of e in let yes_end : is_word line (codes "end") ≡ true = subst (λ (l : List ℕ). is_word l (codes "end") ≡ true) (sym is) refl in absurd cc
+not_end line h e =
+    let is : line ≡ codes "end" = sym (join_with_byte-slice_split 32 line) ∙ ap line_of e in
+    let yes_end : is_word line (codes "end") ≡ true =
+    subst (λ (l : List ℕ). is_word l (codes "end") ≡ true) (sym is) refl in
+    absurd cc
 
 abbrev Rounds : Type 0
 Rounds = List (List ScriptView)
@@ -31,7 +35,8 @@ at_end : (p : Progress) → line_fault (seen_of p) (codes "end") ≡ None
 unfolding line_fault
 at_end p = refl
 
-ended : (n : ℕ) (lines : List (List (List ℕ))) (all : Rounds) (next : List ℕ) (more : List (List ℕ)) → n ≡ length lines + 1
+ended : (n : ℕ) (lines : List (List (List ℕ))) (all : Rounds) (next : List ℕ) (more : List (List ℕ))
+    → n ≡ length lines + 1
     → AgreesText (ended_at (n + 1) all (next ∷ more)) (pieces_fault ((codes "end" ∷ []) ∷ lines) (next ∷ more))
 unfolding pieces_fault line_fault
 ended n lines all [] [] e = refl
@@ -40,33 +45,48 @@ ended n lines all [] (m ∷ more) e = ap (λ k. Some (fault k AfterEnd)) (omega 
 ended n lines all (c ∷ cs) (m ∷ more) e = ap (λ k. Some (fault k AfterEnd)) (omega arith)
 
 -- one line and what follows
-one_line : (n : ℕ) (lines : List (List (List ℕ))) (r : Result Progress FaultKind) (o : Option FaultKind) (go : Progress → Result Rounds TraceFault) (rest : Option TraceFault) → n ≡ length lines + 1 → Agrees r o
-    → ((q : Progress) → r ≡ Ok q → AgreesText (go q) rest) → AgreesText (in_line n r >>= go) (or_later (with_line lines o) rest)
+one_line : (n : ℕ) (lines : List (List (List ℕ))) (r : Result Progress FaultKind) (o : Option FaultKind)
+    (go : Progress → Result Rounds TraceFault) (rest : Option TraceFault)
+    → n ≡ length lines + 1 → Agrees r o
+    → ((q : Progress) → r ≡ Ok q → AgreesText (go q) rest)
+    → AgreesText (in_line n r >>= go) (or_later (with_line lines o) rest)
 one_line n lines (Ok q) o go rest e h k = rw h (k q refl)
 one_line n lines (Err kind) o go rest e h k = rw h (ap (λ k. Some (fault k kind)) (sym e))
 
-last_one : (n : ℕ) (lines : List (List (List ℕ))) (p : Progress) (last : List ℕ) → n ≡ length lines + 1 → with_line lines (last_fault (seen_of p) last) ≡ Some (fault n NoEnd)
+last_one : (n : ℕ) (lines : List (List (List ℕ))) (p : Progress) (last : List ℕ) → n ≡ length lines + 1
+    → with_line lines (last_fault (seen_of p) last) ≡ Some (fault n NoEnd)
 last_one n lines p [] e = ap (λ k. Some (fault k NoEnd)) (sym e)
 last_one n lines p (c ∷ cs) e = ap (λ k. Some (fault k NoEnd)) (sym e)
 
-pieces_agree : (n : ℕ) (lines : List (List (List ℕ))) (p : Progress) (pieces : List (List ℕ)) → n ≡ length lines + 1 → Tracks lines p → AgreesText (read_lines n p pieces) (pieces_fault lines pieces)
+pieces_agree : (n : ℕ) (lines : List (List (List ℕ))) (p : Progress) (pieces : List (List ℕ)) → n ≡ length lines + 1
+    → Tracks lines p → AgreesText (read_lines n p pieces) (pieces_fault lines pieces)
 unfolding read_lines pieces_fault
 pieces_agree n lines p [] e h = ap (λ k. Some (fault k NoEnd)) (sym e)
-pieces_agree n lines p (last ∷ []) e h = subst (λ (b : Before). with_line lines (last_fault b last) ≡ Some (fault n NoEnd)) (sym h.seen) (last_one n lines p last e)
+pieces_agree n lines p (last ∷ []) e h =
+    subst (λ (b : Before). with_line lines (last_fault b last) ≡ Some (fault n NoEnd)) (sym h.seen)
+    (last_one n lines p last e)
 pieces_agree n lines p (line ∷ next ∷ more) e h =
     let all = rounds_of p in
     let go_on : Progress → Result Rounds TraceFault = λ q. read_lines (n + 1) q (next ∷ more) in
-    let reader : Bool → Result Rounds TraceFault = λ t. cond t (ended_at (n + 1) all (next ∷ more)) (in_line n (line_at p line) >>= go_on) in
-    let table_at : Before → List ℕ → Option TraceFault = λ b l. or_later (with_line lines (line_fault b l)) (pieces_fault (words_at l ∷ lines) (next ∷ more)) in
+    let reader : Bool → Result Rounds TraceFault =
+    λ t. cond t (ended_at (n + 1) all (next ∷ more)) (in_line n (line_at p line) >>= go_on) in
+    let table_at : Before → List ℕ → Option TraceFault =
+    λ b l. or_later (with_line lines (line_fault b l)) (pieces_fault (words_at l ∷ lines) (next ∷ more)) in
     ⊎_elim
     (λ (t : is_word line (codes "end") ≡ true).
-    let first : AgreesText (ended_at (n + 1) all (next ∷ more)) (table_at (seen_of p) (codes "end")) = rw (at_end p) (ended n lines all next more e) in
+    let first : AgreesText (ended_at (n + 1) all (next ∷ more)) (table_at (seen_of p) (codes "end")) =
+    rw (at_end p) (ended n lines all next more e) in
     subst (λ (b : Before). AgreesText (reader (is_word line (codes "end"))) (table_at b line)) (sym h.seen)
-    (subst (λ (l : List ℕ). AgreesText (reader (is_word line (codes "end"))) (table_at (seen_of p) l)) (sym (word_is line (codes "end") t))
+    (subst (λ (l : List ℕ). AgreesText (reader (is_word line (codes "end"))) (table_at (seen_of p) l))
+    (sym (word_is line (codes "end") t))
     (subst (λ (b : Bool). AgreesText (reader b) (table_at (seen_of p) (codes "end"))) (sym t) first)))
     (λ (t : is_word line (codes "end") ≡ false).
     let goes : AgreesText (in_line n (line_at p line) >>= go_on) (table_at (seen_of p) line) =
-    one_line n lines (line_at p line) (line_fault (seen_of p) line) go_on (pieces_fault (words_at line ∷ lines) (next ∷ more)) e (line_agrees p line h.small (not_end line t)) (λ q k. pieces_agree (n + 1) (words_at line ∷ lines) q (next ∷ more) (omega arith) (line_tracks lines p q line k h)) in
+    one_line n lines (line_at p line) (line_fault (seen_of p) line) go_on
+    (pieces_fault (words_at line ∷ lines) (next ∷ more)) e (line_agrees p line h.small (not_end line t))
+    (λ q k.
+    pieces_agree (n + 1) (words_at line ∷ lines) q (next ∷ more) (omega arith) (line_tracks lines p q line k h))
+    in
     subst (λ (b : Before). AgreesText (reader (is_word line (codes "end"))) (table_at b line)) (sym h.seen)
     (subst (λ (b : Bool). AgreesText (reader b) (table_at (seen_of p) line)) (sym t) goes))
     (cases_Bool (is_word line (codes "end")))
@@ -76,15 +96,21 @@ header_good : line_fault (before_of []) (codes "hmtrace 1") ≡ None
 unfolding line_fault
 header_good = refl
 
-header_rows : (long ascii : Bool) (o : Option FaultKind) (go : Unit {0} → Result Rounds TraceFault) (rest : Option TraceFault) → o ≡ Some BadHeader
-    → AgreesText (in_line 1 (plain_test long ascii >>= λ _. Err BadHeader) >>= go) (or_later (with_line [] (cond long (Some LineTooLong) (cond (not ascii) (Some NotAscii) o))) rest)
+header_rows : (long ascii : Bool) (o : Option FaultKind) (go : Unit {0} → Result Rounds TraceFault)
+    (rest : Option TraceFault)
+    → o ≡ Some BadHeader
+    → AgreesText (in_line 1 (plain_test long ascii >>= λ _. Err BadHeader) >>= go)
+    (or_later (with_line [] (cond long (Some LineTooLong) (cond (not ascii) (Some NotAscii) o))) rest)
 header_rows true ascii o go rest h = refl
 header_rows false true o go rest h = rw h refl
 header_rows false false o go rest h = refl
 
-header_bad : (line : List ℕ) (go : Unit {0} → Result Rounds TraceFault) (rest : Option TraceFault) → is_word line (codes "hmtrace 1") ≡ false → AgreesText (in_line 1 (header_at line) >>= go) (or_later (with_line [] (line_fault (before_of []) line)) rest)
+header_bad : (line : List ℕ) (go : Unit {0} → Result Rounds TraceFault) (rest : Option TraceFault)
+    → is_word line (codes "hmtrace 1") ≡ false
+    → AgreesText (in_line 1 (header_at line) >>= go) (or_later (with_line [] (line_fault (before_of []) line)) rest)
 unfolding header_at line_fault
-header_bad line go rest h = rw h (header_rows (ltb 256 (length line)) (list_all is_plain line) (Some BadHeader) go rest refl)
+header_bad line go rest h =
+    rw h (header_rows (ltb 256 (length line)) (list_all is_plain line) (Some BadHeader) go rest refl)
 
 header_fine : header_at (codes "hmtrace 1") ≡ Ok tt
 unfolding header_at
@@ -98,12 +124,23 @@ text_pieces ((c ∷ cs) ∷ []) = refl
 text_pieces (line ∷ next ∷ more) =
     let go : Unit {0} → Result Rounds TraceFault = λ _. read_lines 2 start (next ∷ more) in
     ⊎_elim
-    (λ (t : is_word line (codes "hmtrace 1") ≡ true). subst (λ (l : List ℕ). AgreesText (in_line 1 (header_at l) >>= go) (or_later (with_line [] (line_fault (before_of []) l)) (pieces_fault (words_at l ∷ []) (next ∷ more)))) (sym (word_is line (codes "hmtrace 1") t)) (begun next more))
-    (λ (t : is_word line (codes "hmtrace 1") ≡ false). header_bad line go (pieces_fault (words_at line ∷ []) (next ∷ more)) t)
+    (λ (t : is_word line (codes "hmtrace 1") ≡ true).
+    subst
+    (λ (l : List ℕ).
+    AgreesText (in_line 1 (header_at l) >>= go)
+    (or_later (with_line [] (line_fault (before_of []) l)) (pieces_fault (words_at l ∷ []) (next ∷ more))))
+    (sym (word_is line (codes "hmtrace 1") t)) (begun next more))
+    (λ (t : is_word line (codes "hmtrace 1") ≡ false).
+    header_bad line go (pieces_fault (words_at line ∷ []) (next ∷ more)) t)
     (cases_Bool (is_word line (codes "hmtrace 1")))
   where
-    begun : (next : List ℕ) (more : List (List ℕ)) → AgreesText (in_line 1 (header_at (codes "hmtrace 1")) >>= λ _. read_lines 2 start (next ∷ more)) (or_later (with_line [] (line_fault (before_of []) (codes "hmtrace 1"))) (pieces_fault (words_at (codes "hmtrace 1") ∷ []) (next ∷ more)))
-    begun next more = rw (header_good, header_fine) (pieces_agree 2 (words_at (codes "hmtrace 1") ∷ []) start (next ∷ more) refl starts_tracked)
+    begun : (next : List ℕ) (more : List (List ℕ))
+        → AgreesText (in_line 1 (header_at (codes "hmtrace 1")) >>= λ _. read_lines 2 start (next ∷ more))
+        (or_later (with_line [] (line_fault (before_of []) (codes "hmtrace 1")))
+        (pieces_fault (words_at (codes "hmtrace 1") ∷ []) (next ∷ more)))
+    begun next more =
+        rw (header_good, header_fine)
+        (pieces_agree 2 (words_at (codes "hmtrace 1") ∷ []) start (next ∷ more) refl starts_tracked)
 
 pub text_agrees : (bytes : List ℕ) → AgreesText (read_text bytes) (text_fault bytes)
 text_agrees bytes = text_pieces (slice_split (λ b. eqb b 10) bytes)

@@ -22,8 +22,11 @@ pub record Tracks (lines : List (List (List ℕ))) (p : Progress) : Type 0 where
   pub small : former p.stage ≤ 16
 
 -- a state with the parts that the lines say
-made : (b : Before) (p : Progress) → b.ended ≡ false → b.first ≡ false → b.stage ≡ p.stage → b.rounds ≡ length (rounds_of p) → b.steps ≡ p.count → ((name : List ℕ) → b.taken name ≡ is_set name p.scripts) → b ≡ seen_of p
-made b p e f s r n t = λ i. record { ended = e i; first = f i; stage = s i; rounds = r i; steps = n i; taken = λ name. t name i }
+made : (b : Before) (p : Progress) → b.ended ≡ false → b.first ≡ false → b.stage ≡ p.stage
+    → b.rounds ≡ length (rounds_of p) → b.steps ≡ p.count → ((name : List ℕ) → b.taken name ≡ is_set name p.scripts)
+    → b ≡ seen_of p
+made b p e f s r n t =
+    λ i. record { ended = e i; first = f i; stage = s i; rounds = r i; steps = n i; taken = λ name. t name i }
 
 any_push : {X : Type 0} (f : X → Bool) (xs : List X) (x : X) → list_any f (xs ++ x ∷ []) ≡ (list_any f xs || f x)
 any_push f [] x = with_none (f x)
@@ -38,13 +41,16 @@ any_push f (y ∷ xs) x = ap (λ b. f y || b) (any_push f xs x) ∙ grouped (f y
     grouped false b c = refl
 
 set_script : (name : List ℕ) (ss : List ScriptView) (t : ℕ) → is_set name ss ≡ is_set name (ss ++ script t [] ∷ [])
-set_script name ss t = sym (any_push (λ (s : ScriptView). list_any (sets_name name) s.steps) ss (script t []) ∙ with_none (is_set name ss))
+set_script name ss t =
+    sym (any_push (λ (s : ScriptView). list_any (sets_name name) s.steps) ss (script t []) ∙ with_none (is_set name ss))
   where
     with_none : (b : Bool) → (b || false) ≡ b
     with_none true = refl
     with_none false = refl
 
-set_step : (name : List ℕ) (ss : List ScriptView) (t : ℕ) (steps : List StepView) (s : StepView) → (sets_name name s || is_set name (ss ++ script t steps ∷ [])) ≡ is_set name (ss ++ script t (steps ++ s ∷ []) ∷ [])
+set_step : (name : List ℕ) (ss : List ScriptView) (t : ℕ) (steps : List StepView) (s : StepView)
+    → (sets_name name s || is_set name (ss ++ script t steps ∷ []))
+    ≡ is_set name (ss ++ script t (steps ++ s ∷ []) ∷ [])
 set_step name ss t steps s =
     let f : ScriptView → Bool = λ x. list_any (sets_name name) x.steps in
     ap (λ b. sets_name name s || b) (any_push f ss (script t steps))
@@ -60,25 +66,39 @@ set_step name ss t steps s =
     turned false false true = refl
     turned false false false = refl
 
-round_tracks : (lines : List (List (List ℕ))) (p : Progress) → Tracks lines p → Tracks ((codes "round" ∷ []) ∷ lines) (after_round p)
+round_tracks : (lines : List (List (List ℕ))) (p : Progress) → Tracks lines p
+    → Tracks ((codes "round" ∷ []) ∷ lines) (after_round p)
 round_tracks lines p h =
     let l = length-append (rounds_of p) ([] ∷ []) in
     let r : rounds_in lines ≡ length (rounds_of p) = ap (λ (b : Before). b.rounds) h.seen in
     record {
-      seen = made (before_of ((codes "round" ∷ []) ∷ lines)) (after_round p) refl refl refl (omega (arith, l, r)) (ap (λ (b : Before). b.steps) h.seen) (λ name. refl);
+      seen =
+          made (before_of ((codes "round" ∷ []) ∷ lines)) (after_round p) refl refl refl (omega (arith, l, r))
+          (ap (λ (b : Before). b.steps) h.seen) (λ name. refl);
       own = λ name. refl;
       small = omega arith;
     }
 
-thread_tracks_at : (lines : List (List (List ℕ))) (stage : Open) (p : Progress) (n f : ℕ) (word : List ℕ) → former_thread stage ≡ Ok f → value word ≡ n → n ≤ 16 → Tracks lines (state stage p)
-    → Tracks ((codes "thread" ∷ word ∷ []) ∷ lines) (record { rounds = p.rounds; scripts = scripts_after stage p.scripts p.steps; steps = []; stage = InScript n; count = p.count })
+thread_tracks_at : (lines : List (List (List ℕ))) (stage : Open) (p : Progress) (n f : ℕ) (word : List ℕ)
+    → former_thread stage ≡ Ok f → value word ≡ n → n ≤ 16 → Tracks lines (state stage p)
+    → Tracks ((codes "thread" ∷ word ∷ []) ∷ lines)
+    (record {
+      rounds = p.rounds;
+      scripts = scripts_after stage p.scripts p.steps;
+      steps = [];
+      stage = InScript n;
+      count = p.count;
+    })
 thread_tracks_at lines Nothing p n f word e v small h = absurd cc
 thread_tracks_at lines InRound p n f word e v small h =
     let l = length-append p.rounds (p.scripts ∷ []) in
     let m = length-append p.rounds ((p.scripts ++ script n [] ∷ []) ∷ []) in
     let r : rounds_in lines ≡ length (p.rounds ++ p.scripts ∷ []) = ap (λ (b : Before). b.rounds) h.seen in
     record {
-      seen = made (before_of ((codes "thread" ∷ word ∷ []) ∷ lines)) (record { rounds = p.rounds; scripts = p.scripts; steps = []; stage = InScript n; count = p.count }) refl refl (ap (λ k. InScript k) v) (omega (arith, l, m, r)) (ap (λ (b : Before). b.steps) h.seen) h.own;
+      seen =
+          made (before_of ((codes "thread" ∷ word ∷ []) ∷ lines))
+          (record { rounds = p.rounds; scripts = p.scripts; steps = []; stage = InScript n; count = p.count })
+          refl refl (ap (λ k. InScript k) v) (omega (arith, l, m, r)) (ap (λ (b : Before). b.steps) h.seen) h.own;
       own = λ name. h.own name ∙ set_script name p.scripts n;
       small = small;
     }
@@ -88,7 +108,10 @@ thread_tracks_at lines (InScript t) p n f word e v small h =
     let m = length-append p.rounds ((ss ++ script n [] ∷ []) ∷ []) in
     let r : rounds_in lines ≡ length (p.rounds ++ ss ∷ []) = ap (λ (b : Before). b.rounds) h.seen in
     record {
-      seen = made (before_of ((codes "thread" ∷ word ∷ []) ∷ lines)) (record { rounds = p.rounds; scripts = ss; steps = []; stage = InScript n; count = p.count }) refl refl (ap (λ k. InScript k) v) (omega (arith, l, m, r)) (ap (λ (b : Before). b.steps) h.seen) h.own;
+      seen =
+          made (before_of ((codes "thread" ∷ word ∷ []) ∷ lines))
+          (record { rounds = p.rounds; scripts = ss; steps = []; stage = InScript n; count = p.count }) refl refl
+          (ap (λ k. InScript k) v) (omega (arith, l, m, r)) (ap (λ (b : Before). b.steps) h.seen) h.own;
       own = λ name. h.own name ∙ set_script name ss n;
       small = small;
     }
@@ -105,40 +128,68 @@ record IsStepLine (s : StepView) (words : List (List ℕ)) : Type 0 where
   names : (name : List ℕ) → sets name words ≡ sets_name name s
 
 step_line_is : (s : StepView) → IsStepLine s (step_words s)
-step_line_is (Malloc x0 x1) = record { no_end = refl; no_round = refl; no_thread = refl; counts = refl; names = λ name. refl }
-step_line_is (Calloc x0 x1 x2) = record { no_end = refl; no_round = refl; no_thread = refl; counts = refl; names = λ name. refl }
-step_line_is (Aligned x0 x1 x2) = record { no_end = refl; no_round = refl; no_thread = refl; counts = refl; names = λ name. refl }
-step_line_is (Realloc x0 x1 x2) = record { no_end = refl; no_round = refl; no_thread = refl; counts = refl; names = λ name. refl }
-step_line_is (Free x0) = record { no_end = refl; no_round = refl; no_thread = refl; counts = refl; names = λ name. refl }
-step_line_is (Sfree x0 x1) = record { no_end = refl; no_round = refl; no_thread = refl; counts = refl; names = λ name. refl }
-step_line_is (Write x0 x1 x2) = record { no_end = refl; no_round = refl; no_thread = refl; counts = refl; names = λ name. refl }
-step_line_is (Read x0 x1) = record { no_end = refl; no_round = refl; no_thread = refl; counts = refl; names = λ name. refl }
-step_line_is (Size x0) = record { no_end = refl; no_round = refl; no_thread = refl; counts = refl; names = λ name. refl }
+step_line_is (Malloc x0 x1) =
+    record { no_end = refl; no_round = refl; no_thread = refl; counts = refl; names = λ name. refl }
+step_line_is (Calloc x0 x1 x2) =
+    record { no_end = refl; no_round = refl; no_thread = refl; counts = refl; names = λ name. refl }
+step_line_is (Aligned x0 x1 x2) =
+    record { no_end = refl; no_round = refl; no_thread = refl; counts = refl; names = λ name. refl }
+step_line_is (Realloc x0 x1 x2) =
+    record { no_end = refl; no_round = refl; no_thread = refl; counts = refl; names = λ name. refl }
+step_line_is (Free x0) =
+    record { no_end = refl; no_round = refl; no_thread = refl; counts = refl; names = λ name. refl }
+step_line_is (Sfree x0 x1) =
+    record { no_end = refl; no_round = refl; no_thread = refl; counts = refl; names = λ name. refl }
+step_line_is (Write x0 x1 x2) =
+    record { no_end = refl; no_round = refl; no_thread = refl; counts = refl; names = λ name. refl }
+step_line_is (Read x0 x1) =
+    record { no_end = refl; no_round = refl; no_thread = refl; counts = refl; names = λ name. refl }
+step_line_is (Size x0) =
+    record { no_end = refl; no_round = refl; no_thread = refl; counts = refl; names = λ name. refl }
 
-step_tracks_at : (lines : List (List (List ℕ))) (stage : Open) (p : Progress) (s : StepView) (words : List (List ℕ)) → IsStepLine s words → in_script stage ≡ Ok tt → Tracks lines (state stage p)
-    → Tracks (words ∷ lines) (record { rounds = p.rounds; scripts = p.scripts; steps = p.steps ++ s ∷ []; stage = stage; count = p.count + 1 })
+step_tracks_at : (lines : List (List (List ℕ))) (stage : Open) (p : Progress) (s : StepView) (words : List (List ℕ))
+    → IsStepLine s words → in_script stage ≡ Ok tt → Tracks lines (state stage p)
+    → Tracks (words ∷ lines)
+    (record { rounds = p.rounds; scripts = p.scripts; steps = p.steps ++ s ∷ []; stage = stage; count = p.count + 1 })
 step_tracks_at lines Nothing p s words i e h = absurd cc
 step_tracks_at lines InRound p s words i e h = absurd cc
 step_tracks_at lines (InScript t) p s words i e h =
     let l = length-append p.rounds ((p.scripts ++ script t p.steps ∷ []) ∷ []) in
     let m = length-append p.rounds ((p.scripts ++ script t (p.steps ++ s ∷ []) ∷ []) ∷ []) in
-    let r : rounds_in lines ≡ length (p.rounds ++ (p.scripts ++ script t p.steps ∷ []) ∷ []) = ap (λ (b : Before). b.rounds) h.seen in
+    let r : rounds_in lines ≡ length (p.rounds ++ (p.scripts ++ script t p.steps ∷ []) ∷ []) =
+    ap (λ (b : Before). b.rounds) h.seen in
     let no_round = i.no_round in
     let no_thread = i.no_thread in
     let counts = i.counts in
-    let new : Progress = record { rounds = p.rounds; scripts = p.scripts; steps = p.steps ++ s ∷ []; stage = InScript t; count = p.count + 1 } in
+    let new : Progress =
+    record { rounds = p.rounds; scripts = p.scripts; steps = p.steps ++ s ∷ []; stage = InScript t; count = p.count + 1 } in
     record {
-      seen = made (before_of (words ∷ lines)) new i.no_end refl (rw (no_round, no_thread) (ap (λ (b : Before). b.stage) h.seen)) (rw no_round (omega (arith, l, m, r))) (rw counts (ap (λ (b : Before). b.steps + 1) h.seen)) (λ name. rw (no_round, no_thread) (ap (λ (b : Before). b.taken name) h.seen));
-      own = λ name. rw (no_round, no_thread, i.names name) (ap (λ b. sets_name name s || b) (h.own name) ∙ set_step name p.scripts t p.steps s);
+      seen =
+          made (before_of (words ∷ lines)) new i.no_end refl
+          (rw (no_round, no_thread) (ap (λ (b : Before). b.stage) h.seen)) (rw no_round (omega (arith, l, m, r)))
+          (rw counts (ap (λ (b : Before). b.steps + 1) h.seen))
+          (λ name. rw (no_round, no_thread) (ap (λ (b : Before). b.taken name) h.seen));
+      own =
+          λ name.
+          rw (no_round, no_thread, i.names name)
+          (ap (λ b. sets_name name s || b) (h.own name) ∙ set_step name p.scripts t p.steps s);
       small = h.small;
     }
 
-pub line_tracks : (lines : List (List (List ℕ))) (p q : Progress) (line : List ℕ) → line_at p line ≡ Ok q → Tracks lines p → Tracks (words_at line ∷ lines) q
+pub line_tracks : (lines : List (List (List ℕ))) (p q : Progress) (line : List ℕ) → line_at p line ≡ Ok q
+    → Tracks lines p → Tracks (words_at line ∷ lines) q
 line_tracks lines p q line e h =
     by_line (λ w r. Tracks (w ∷ lines) r) p q (words_at line) (line_good p q line e)
     (λ l. round_tracks lines p h)
-    (λ l. thread_tracks_at lines p.stage p l.thread l.former l.word l.former_is (value_is l.word l.thread l.thread_is l.small) l.small h)
+    (λ l.
+    thread_tracks_at lines p.stage p l.thread l.former l.word l.former_is
+    (value_is l.word l.thread l.thread_is l.small) l.small h)
     (λ l. step_tracks_at lines p.stage p l.step (step_words l.step) (step_line_is l.step) l.is_open h)
 
 pub starts_tracked : Tracks (words_at (codes "hmtrace 1") ∷ []) start
-starts_tracked = record { seen = made (before_of (words_at (codes "hmtrace 1") ∷ [])) start refl refl refl refl refl (λ name. refl); own = λ name. refl; small = omega arith }
+starts_tracked =
+    record {
+      seen = made (before_of (words_at (codes "hmtrace 1") ∷ [])) start refl refl refl refl refl (λ name. refl);
+      own = λ name. refl;
+      small = omega arith;
+    }

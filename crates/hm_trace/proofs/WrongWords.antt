@@ -11,7 +11,7 @@ use Rattle.hm_trace.specs.Lines.{BytePart, LengthPart, NamePart, SizePart, is_of
 use Rattle.hm_trace.specs.Names.{is_name, is_word}
 use Rattle.hm_trace.specs.Numbers.{is_byte, is_decimal, is_hex, is_hex_digit, is_number, value}
 use Rattle.hm_trace.specs.ReadNumbers.{hex_after, hex_at, hex_digit, number_at}
-use Rattle.hm_trace.specs.ReadWords.{aligned_parts, byte_at, calloc_parts, distance_at, free_parts, length_at, malloc_parts, name_at, named_at, offset_at, place_at, read_parts, realloc_parts, sfree_parts, size_at, size_step_parts, within, write_parts}
+use Rattle.hm_trace.specs.ReadWords.{aligned_at, byte_at, calloc_at, distance_at, free_at, length_at, malloc_at, name_at, named_at, offset_at, place_at, read_at, realloc_at, sfree_at, size_at, size_step_at, within, write_at}
 use Rattle.hm_trace.specs.Views.{At, Named, Null}
 use Rattle.hm_trace.proofs.Agreeing.{PartAgrees}
 use Rattle.hm_trace.proofs.Numerals.{a_number, no_number}
@@ -24,11 +24,13 @@ name_agrees stage word = by (is_name word)
     by true = refl
     by false = refl
 
-number_fits : (low high : ℕ) (word : List ℕ) (n : ℕ) → number_at word ≡ Some n → is_number low high word ≡ (leb low n && leb n high)
+number_fits : (low high : ℕ) (word : List ℕ) (n : ℕ) → number_at word ≡ Some n
+    → is_number low high word ≡ (leb low n && leb n high)
 unfolding is_number
 number_fits low high word n e = let i = a_number word n e in rw (i.decimal, i.value) refl
 
-number_wrong_at : (low high : ℕ) (word : List ℕ) (plain after : Bool) → is_decimal word ≡ plain → high < 2 ^ 64 → number_at word ≡ None → ((plain && after) && leb (value word) high) ≡ false
+number_wrong_at : (low high : ℕ) (word : List ℕ) (plain after : Bool) → is_decimal word ≡ plain → high < 2 ^ 64
+    → number_at word ≡ None → ((plain && after) && leb (value word) high) ≡ false
 number_wrong_at low high word false after h lt e = refl
 number_wrong_at low high word true false h lt e = refl
 number_wrong_at low high word true true h lt e = let big = no_number word e h in lt-leb _ _ (omega (arith, big))
@@ -40,24 +42,28 @@ number_wrong low high word lt e = number_wrong_at low high word (is_decimal word
 size_agrees : (stage : Open) (word : List ℕ) → PartAgrees (size_at word) (part_fault stage SizePart word)
 size_agrees stage word = by word (number_at word) refl
   where
-    by : (word : List ℕ) (o : Option ℕ) → number_at word ≡ o → PartAgrees (or_fault BadNumber o) (number_fault (is_number 0 18446744073709551615 word))
+    by : (word : List ℕ) (o : Option ℕ) → number_at word ≡ o
+        → PartAgrees (or_fault BadNumber o) (number_fault (is_number 0 18446744073709551615 word))
     by word None e = let w = number_wrong 0 18446744073709551615 word (omega arith) e in rw w refl
     by word (Some n) e =
         let i = a_number word n e in
         let small : n < 2 ^ 64 = i.small in
         let a : leb 0 n ≡ true = le-leb _ _ (omega arith) in
         let b : leb n 18446744073709551615 ≡ true = le-leb _ _ (omega arith) in
-        let f : is_number 0 18446744073709551615 word ≡ true = number_fits 0 18446744073709551615 word n e ∙ rw (a, b) refl in
+        let f : is_number 0 18446744073709551615 word ≡ true =
+        number_fits 0 18446744073709551615 word n e ∙ rw (a, b) refl in
         rw f refl
 
-within_agrees : (low high : ℕ) (word : List ℕ) → high < 2 ^ 64 → PartAgrees (size_at word >>= λ n. within low high n) (number_fault (is_number low high word))
+within_agrees : (low high : ℕ) (word : List ℕ) → high < 2 ^ 64
+    → PartAgrees (size_at word >>= λ n. within low high n) (number_fault (is_number low high word))
 within_agrees low high word lt = by word (number_at word) refl
   where
     tested : (t : Bool) (n : ℕ) → PartAgrees (cond t (Ok n) (Err BadNumber)) (cond t None (Some BadNumber))
     tested true n = refl
     tested false n = refl
 
-    by : (word : List ℕ) (o : Option ℕ) → number_at word ≡ o → PartAgrees (or_fault BadNumber o >>= λ n. within low high n) (number_fault (is_number low high word))
+    by : (word : List ℕ) (o : Option ℕ) → number_at word ≡ o
+        → PartAgrees (or_fault BadNumber o >>= λ n. within low high n) (number_fault (is_number low high word))
     by word None e = let w = number_wrong low high word lt e in rw w refl
     by word (Some n) e = let w = number_fits low high word n e in rw w (tested (leb low n && leb n high) n)
 
@@ -70,7 +76,8 @@ unfolding distance_at
 distance_agrees word = within_agrees 1 1099511627776 word (omega arith)
 
 -- the same of what is made of what was read
-mapped : {A B : Type 0} (r : Result A FaultKind) (f : A → B) (o : Option FaultKind) → PartAgrees r o → PartAgrees (r >>= λ x. Ok (f x)) o
+mapped : {A B : Type 0} (r : Result A FaultKind) (f : A → B) (o : Option FaultKind) → PartAgrees r o
+    → PartAgrees (r >>= λ x. Ok (f x)) o
 mapped (Ok x) f o h = h
 mapped (Err BadName) f o h = h
 mapped (Err BadNumber) f o h = h
@@ -84,13 +91,17 @@ digit_tells c = by (leb 48 c && leb c 57) (leb 97 c && leb c 102)
     by false true = refl
     by false false = refl
 
-digits_after : (n : ℕ) (cs : List ℕ) (o : Option ℕ) → ((d : ℕ) → is_some (hex_after (16 * n + d) cs) ≡ list_all is_hex_digit cs) → is_some (option_and_then (λ d. hex_after (16 * n + d) cs) o) ≡ (is_some o && list_all is_hex_digit cs)
+digits_after : (n : ℕ) (cs : List ℕ) (o : Option ℕ)
+    → ((d : ℕ) → is_some (hex_after (16 * n + d) cs) ≡ list_all is_hex_digit cs)
+    → is_some (option_and_then (λ d. hex_after (16 * n + d) cs) o) ≡ (is_some o && list_all is_hex_digit cs)
 digits_after n cs None h = refl
 digits_after n cs (Some d) h = h d
 
 digits_tell : (n : ℕ) (cs : List ℕ) → is_some (hex_after n cs) ≡ list_all is_hex_digit cs
 digits_tell n [] = refl
-digits_tell n (c ∷ cs) = digits_after n cs (hex_digit c) (λ d. digits_tell (16 * n + d) cs) ∙ ap (λ b. b && list_all is_hex_digit cs) (digit_tells c)
+digits_tell n (c ∷ cs) =
+    digits_after n cs (hex_digit c) (λ d. digits_tell (16 * n + d) cs)
+    ∙ ap (λ b. b && list_all is_hex_digit cs) (digit_tells c)
 
 pub hex_tells : (word : List ℕ) → is_some (hex_at word) ≡ is_hex word
 unfolding hex_at is_hex
@@ -104,7 +115,9 @@ hex_tells (c ∷ d ∷ cs) =
     let turned : ltb 16 (length (c ∷ d ∷ cs)) ≡ not (leb (length (c ∷ d ∷ cs)) 16) = grind (arith, nat_tests) in
     rw turned (by (eqb c 48) (leb (length (c ∷ d ∷ cs)) 16))
   where
-    by : (a b : Bool) → is_some (cond (a || not b) None (hex_after 0 (c ∷ d ∷ cs))) ≡ (not a && b && list_all is_hex_digit (c ∷ d ∷ cs))
+    by : (a b : Bool)
+        → is_some (cond (a || not b) None (hex_after 0 (c ∷ d ∷ cs)))
+        ≡ (not a && b && list_all is_hex_digit (c ∷ d ∷ cs))
     by true b = refl
     by false true = digits_tell 0 (c ∷ d ∷ cs)
     by false false = refl
@@ -117,9 +130,12 @@ byte_agrees : (stage : Open) (word : List ℕ) → PartAgrees (byte_at word) (pa
 unfolding byte_at is_byte
 byte_agrees stage [] = refl
 byte_agrees stage (h ∷ []) = refl
-byte_agrees stage (h ∷ l ∷ []) = by (hex_digit h) (hex_digit l) (is_hex_digit h) (is_hex_digit l) (digit_tells h) (digit_tells l)
+byte_agrees stage (h ∷ l ∷ []) =
+    by (hex_digit h) (hex_digit l) (is_hex_digit h) (is_hex_digit l) (digit_tells h) (digit_tells l)
   where
-    by : (p q : Option ℕ) (a b : Bool) → is_some p ≡ a → is_some q ≡ b → PartAgrees (or_fault BadNumber p >>= λ high. or_fault BadNumber q >>= λ low. Ok (16 * high + low)) (number_fault (a && b))
+    by : (p q : Option ℕ) (a b : Bool) → is_some p ≡ a → is_some q ≡ b
+        → PartAgrees (or_fault BadNumber p >>= λ high. or_fault BadNumber q >>= λ low. Ok (16 * high + low))
+        (number_fault (a && b))
     by None q a b e f = rw (← e) refl
     by (Some x) None a b e f = rw (← e, ← f) refl
     by (Some x) (Some y) a b e f = rw (← e, ← f) refl
@@ -128,14 +144,22 @@ byte_agrees stage (h ∷ l ∷ c ∷ cs) = refl
 offset_agrees : (word : List ℕ) → PartAgrees (offset_at word) (number_fault (is_offset_word word))
 unfolding offset_at
 offset_agrees [] = refl
-offset_agrees (c ∷ cs) = mapped (distance_at cs) (λ n. cond (eqb c 43) (pos n) (neg_ℤ (pos n))) (number_fault (is_number 1 1099511627776 cs)) (distance_agrees cs)
+offset_agrees (c ∷ cs) =
+    mapped (distance_at cs) (λ n. cond (eqb c 43) (pos n) (neg_ℤ (pos n))) (number_fault (is_number 1 1099511627776 cs))
+    (distance_agrees cs)
 
 named_agrees : (word : List ℕ) → PartAgrees (named_at word) (named_fault word)
 unfolding named_at
 named_agrees word = by (is_name (take (sign_place word) word))
   where
-    by : (b : Bool) → PartAgrees (cond b (Ok (take (sign_place word) word)) (Err BadName) >>= λ name. offset_at (drop (sign_place word) word) >>= λ o. Ok (Named name o)) (cond b (number_fault (is_offset_word (drop (sign_place word) word))) (Some BadName))
-    by true = mapped (offset_at (drop (sign_place word) word)) (Named (take (sign_place word) word)) _ (offset_agrees (drop (sign_place word) word))
+    by : (b : Bool)
+        → PartAgrees
+        (cond b (Ok (take (sign_place word) word)) (Err BadName) >>= λ name. offset_at (drop (sign_place word) word)
+        >>= λ o. Ok (Named name o))
+        (cond b (number_fault (is_offset_word (drop (sign_place word) word))) (Some BadName))
+    by true =
+        mapped (offset_at (drop (sign_place word) word)) (Named (take (sign_place word) word)) _
+        (offset_agrees (drop (sign_place word) word))
     by false = refl
 
 ref_agrees : (word : List ℕ) → PartAgrees (place_at word) (ref_fault word)
@@ -143,50 +167,83 @@ unfolding place_at ref_fault
 ref_agrees [] = refl
 ref_agrees (c ∷ cs) = by (eqb c 64) (is_word (c ∷ cs) (codes "null"))
   where
-    by : (a b : Bool) → PartAgrees (cond a (or_fault BadNumber (hex_at cs) >>= λ x. Ok (At x)) (cond b (Ok Null) (named_at (c ∷ cs)))) (cond a (number_fault (is_hex cs)) (cond b None (named_fault (c ∷ cs))))
+    by : (a b : Bool)
+        → PartAgrees (cond a (or_fault BadNumber (hex_at cs) >>= λ x. Ok (At x)) (cond b (Ok Null) (named_at (c ∷ cs))))
+        (cond a (number_fault (is_hex cs)) (cond b None (named_fault (c ∷ cs))))
     by true b = mapped (or_fault BadNumber (hex_at cs)) At _ (told_by (hex_at cs) (is_hex cs) (hex_tells cs))
     by false true = refl
     by false false = named_agrees (c ∷ cs)
 
 -- one word and those after it
-then_agrees : {A B : Type 0} (r : Result A FaultKind) (f : A → Result B FaultKind) (o later : Option FaultKind) → PartAgrees r o → ((x : A) → PartAgrees (f x) later) → PartAgrees (r >>= f) (or_later o later)
+then_agrees : {A B : Type 0} (r : Result A FaultKind) (f : A → Result B FaultKind) (o later : Option FaultKind)
+    → PartAgrees r o → ((x : A) → PartAgrees (f x) later) → PartAgrees (r >>= f) (or_later o later)
 then_agrees (Ok x) f o later h k = rw h (k x)
 then_agrees (Err BadName) f o later h k = rw h refl
 then_agrees (Err BadNumber) f o later h k = rw h refl
 then_agrees (Err _) f o later h k = absurd h
 
-pub malloc_agrees : (stage : Open) (w0 w1 : List ℕ) → PartAgrees (malloc_parts w0 w1) (parts_fault stage malloc_form (w0 ∷ w1 ∷ []))
-unfolding malloc_parts
-malloc_agrees stage w0 w1 = then_agrees (name_at w0) _ _ _ (name_agrees stage w0) (λ x0. then_agrees (size_at w1) _ _ _ (size_agrees stage w1) (λ x1. refl))
+pub malloc_agrees : (stage : Open) (w0 w1 : List ℕ)
+    → PartAgrees (malloc_at (w0 ∷ w1 ∷ [])) (parts_fault stage malloc_form (w0 ∷ w1 ∷ []))
+unfolding malloc_at
+malloc_agrees stage w0 w1 =
+    then_agrees (name_at w0) _ _ _ (name_agrees stage w0)
+    (λ x0. then_agrees (size_at w1) _ _ _ (size_agrees stage w1) (λ x1. refl))
 
-pub calloc_agrees : (stage : Open) (w0 w1 w2 : List ℕ) → PartAgrees (calloc_parts w0 w1 w2) (parts_fault stage calloc_form (w0 ∷ w1 ∷ w2 ∷ []))
-unfolding calloc_parts
-calloc_agrees stage w0 w1 w2 = then_agrees (name_at w0) _ _ _ (name_agrees stage w0) (λ x0. then_agrees (size_at w1) _ _ _ (size_agrees stage w1) (λ x1. then_agrees (size_at w2) _ _ _ (size_agrees stage w2) (λ x2. refl)))
+pub calloc_agrees : (stage : Open) (w0 w1 w2 : List ℕ)
+    → PartAgrees (calloc_at (w0 ∷ w1 ∷ w2 ∷ [])) (parts_fault stage calloc_form (w0 ∷ w1 ∷ w2 ∷ []))
+unfolding calloc_at
+calloc_agrees stage w0 w1 w2 =
+    then_agrees (name_at w0) _ _ _ (name_agrees stage w0)
+    (λ x0.
+    then_agrees (size_at w1) _ _ _ (size_agrees stage w1)
+    (λ x1. then_agrees (size_at w2) _ _ _ (size_agrees stage w2) (λ x2. refl)))
 
-pub aligned_agrees : (stage : Open) (w0 w1 w2 : List ℕ) → PartAgrees (aligned_parts w0 w1 w2) (parts_fault stage aligned_form (w0 ∷ w1 ∷ w2 ∷ []))
-unfolding aligned_parts
-aligned_agrees stage w0 w1 w2 = then_agrees (name_at w0) _ _ _ (name_agrees stage w0) (λ x0. then_agrees (size_at w1) _ _ _ (size_agrees stage w1) (λ x1. then_agrees (size_at w2) _ _ _ (size_agrees stage w2) (λ x2. refl)))
+pub aligned_agrees : (stage : Open) (w0 w1 w2 : List ℕ)
+    → PartAgrees (aligned_at (w0 ∷ w1 ∷ w2 ∷ [])) (parts_fault stage aligned_form (w0 ∷ w1 ∷ w2 ∷ []))
+unfolding aligned_at
+aligned_agrees stage w0 w1 w2 =
+    then_agrees (name_at w0) _ _ _ (name_agrees stage w0)
+    (λ x0.
+    then_agrees (size_at w1) _ _ _ (size_agrees stage w1)
+    (λ x1. then_agrees (size_at w2) _ _ _ (size_agrees stage w2) (λ x2. refl)))
 
-pub realloc_agrees : (stage : Open) (w0 w1 w2 : List ℕ) → PartAgrees (realloc_parts w0 w1 w2) (parts_fault stage realloc_form (w0 ∷ w1 ∷ w2 ∷ []))
-unfolding realloc_parts
-realloc_agrees stage w0 w1 w2 = then_agrees (name_at w0) _ _ _ (name_agrees stage w0) (λ x0. then_agrees (place_at w1) _ _ _ (ref_agrees w1) (λ x1. then_agrees (size_at w2) _ _ _ (size_agrees stage w2) (λ x2. refl)))
+pub realloc_agrees : (stage : Open) (w0 w1 w2 : List ℕ)
+    → PartAgrees (realloc_at (w0 ∷ w1 ∷ w2 ∷ [])) (parts_fault stage realloc_form (w0 ∷ w1 ∷ w2 ∷ []))
+unfolding realloc_at
+realloc_agrees stage w0 w1 w2 =
+    then_agrees (name_at w0) _ _ _ (name_agrees stage w0)
+    (λ x0.
+    then_agrees (place_at w1) _ _ _ (ref_agrees w1)
+    (λ x1. then_agrees (size_at w2) _ _ _ (size_agrees stage w2) (λ x2. refl)))
 
-pub free_agrees : (stage : Open) (w0 : List ℕ) → PartAgrees (free_parts w0) (parts_fault stage free_form (w0 ∷ []))
-unfolding free_parts
+pub free_agrees : (stage : Open) (w0 : List ℕ) → PartAgrees (free_at (w0 ∷ [])) (parts_fault stage free_form (w0 ∷ []))
+unfolding free_at
 free_agrees stage w0 = then_agrees (place_at w0) _ _ _ (ref_agrees w0) (λ x0. refl)
 
-pub sfree_agrees : (stage : Open) (w0 w1 : List ℕ) → PartAgrees (sfree_parts w0 w1) (parts_fault stage sfree_form (w0 ∷ w1 ∷ []))
-unfolding sfree_parts
-sfree_agrees stage w0 w1 = then_agrees (place_at w0) _ _ _ (ref_agrees w0) (λ x0. then_agrees (size_at w1) _ _ _ (size_agrees stage w1) (λ x1. refl))
+pub sfree_agrees : (stage : Open) (w0 w1 : List ℕ)
+    → PartAgrees (sfree_at (w0 ∷ w1 ∷ [])) (parts_fault stage sfree_form (w0 ∷ w1 ∷ []))
+unfolding sfree_at
+sfree_agrees stage w0 w1 =
+    then_agrees (place_at w0) _ _ _ (ref_agrees w0)
+    (λ x0. then_agrees (size_at w1) _ _ _ (size_agrees stage w1) (λ x1. refl))
 
-pub write_agrees : (stage : Open) (w0 w1 w2 : List ℕ) → PartAgrees (write_parts w0 w1 w2) (parts_fault stage write_form (w0 ∷ w1 ∷ w2 ∷ []))
-unfolding write_parts
-write_agrees stage w0 w1 w2 = then_agrees (place_at w0) _ _ _ (ref_agrees w0) (λ x0. then_agrees (length_at w1) _ _ _ (length_agrees stage w1) (λ x1. then_agrees (byte_at w2) _ _ _ (byte_agrees stage w2) (λ x2. refl)))
+pub write_agrees : (stage : Open) (w0 w1 w2 : List ℕ)
+    → PartAgrees (write_at (w0 ∷ w1 ∷ w2 ∷ [])) (parts_fault stage write_form (w0 ∷ w1 ∷ w2 ∷ []))
+unfolding write_at
+write_agrees stage w0 w1 w2 =
+    then_agrees (place_at w0) _ _ _ (ref_agrees w0)
+    (λ x0.
+    then_agrees (length_at w1) _ _ _ (length_agrees stage w1)
+    (λ x1. then_agrees (byte_at w2) _ _ _ (byte_agrees stage w2) (λ x2. refl)))
 
-pub read_agrees : (stage : Open) (w0 w1 : List ℕ) → PartAgrees (read_parts w0 w1) (parts_fault stage read_form (w0 ∷ w1 ∷ []))
-unfolding read_parts
-read_agrees stage w0 w1 = then_agrees (place_at w0) _ _ _ (ref_agrees w0) (λ x0. then_agrees (length_at w1) _ _ _ (length_agrees stage w1) (λ x1. refl))
+pub read_agrees : (stage : Open) (w0 w1 : List ℕ)
+    → PartAgrees (read_at (w0 ∷ w1 ∷ [])) (parts_fault stage read_form (w0 ∷ w1 ∷ []))
+unfolding read_at
+read_agrees stage w0 w1 =
+    then_agrees (place_at w0) _ _ _ (ref_agrees w0)
+    (λ x0. then_agrees (length_at w1) _ _ _ (length_agrees stage w1) (λ x1. refl))
 
-pub size_step_agrees : (stage : Open) (w0 : List ℕ) → PartAgrees (size_step_parts w0) (parts_fault stage size_form (w0 ∷ []))
-unfolding size_step_parts
+pub size_step_agrees : (stage : Open) (w0 : List ℕ)
+    → PartAgrees (size_step_at (w0 ∷ [])) (parts_fault stage size_form (w0 ∷ []))
+unfolding size_step_at
 size_step_agrees stage w0 = then_agrees (place_at w0) _ _ _ (ref_agrees w0) (λ x0. refl)

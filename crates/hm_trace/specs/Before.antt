@@ -71,8 +71,8 @@ is_taken name own (line ∷ lines) = if begins (codes "round") line then false
     else (if begins (codes "thread") line then is_taken name false lines
     else (not own && sets name line) || is_taken name own lines)
 
--- what the faults of a line depend on: whether `end` came, whether there is no line before, what is open, how many rounds and
--- steps came, and which names other threads of this round set
+-- what the faults of a line depend on: whether `end` came, whether there is no line before, what is open,
+-- how many rounds and steps came, and which names other threads of this round set
 pub record Before : Type 0 where
   pub ended : Bool
   pub first : Bool

@@ -85,7 +85,8 @@ unfoldable pub next_step_at : Progress → List (List ℕ) → Result StepView F
 next_step_at p words = do
   _ ← in_script p.stage
   step ← step_at words
-  if nat_le max_steps p.count then Err TooManySteps else (if sets_again p.scripts step then Err NameSetTwice else Ok step)
+  if nat_le max_steps p.count then Err TooManySteps
+      else (if sets_again p.scripts step then Err NameSetTwice else Ok step)
 
 -- a step joins the open script
 unfoldable pub step_line_at : Progress → List (List ℕ) → Result Progress FaultKind

@@ -1,5 +1,6 @@
 -- How the reader goes through the digits of a number.
 use Rattle.std.specs.Prelude.{ℕ, ◌+◌, ◌-◌, ◌*◌, ◌&&◌, ◌||◌, ◌==◌, nat_lt, nat_le, min, List, [], ◌∷◌, length, Option, Some, None, option_and_then, if◌then◌else◌}
+use Rattle.hm_trace.specs.Limits.{max_threads}
 
 -- a digit after those of n, below 2 ^ 64
 abbrev pub next_value : ℕ → ℕ → Option ℕ
@@ -17,10 +18,11 @@ number_at [] = None
 number_at (c ∷ []) = value_after 0 (c ∷ [])
 number_at (c ∷ d ∷ cs) = if c == 48 then None else value_after 0 (c ∷ d ∷ cs)
 
--- the same with the value 17 for each greater one, of any length
+-- the same of any length, with one above the greatest thread for each number above that
 abbrev pub thread_after : ℕ → List ℕ → Option ℕ
 thread_after n [] = Some n
-thread_after n (c ∷ cs) = if nat_le 48 c && nat_le c 57 then thread_after (min (10 * n + (c - 48)) 17) cs else None
+thread_after n (c ∷ cs) = if nat_le 48 c && nat_le c 57
+    then thread_after (min (10 * n + (c - 48)) (max_threads + 1)) cs else None
 
 -- such a number with no zero before it, but `0` itself
 unfoldable pub thread_at : List ℕ → Option ℕ

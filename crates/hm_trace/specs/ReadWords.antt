@@ -59,113 +59,77 @@ place_at (c ∷ cs) = if c == 64 then (or_fault BadNumber (hex_at cs) >>= λ a. 
     else (if is_word (c ∷ cs) (codes "null") then Ok Null else named_at (c ∷ cs))
 
 -- `malloc` NAME NUMBER
-unfoldable pub malloc_parts : List ℕ → List ℕ → Result StepView FaultKind
-malloc_parts w0 w1 = do
+unfoldable pub malloc_at : List (List ℕ) → Result StepView FaultKind
+malloc_at (w0 ∷ w1 ∷ []) = do
   name ← name_at w0
   size ← size_at w1
   Ok (Malloc name size)
-
--- the words after it, if they are so many
-abbrev pub malloc_at : List (List ℕ) → Result StepView FaultKind
-malloc_at (w0 ∷ w1 ∷ []) = malloc_parts w0 w1
 malloc_at _ = Err BadWord
 
 -- `calloc` NAME NUMBER NUMBER
-unfoldable pub calloc_parts : List ℕ → List ℕ → List ℕ → Result StepView FaultKind
-calloc_parts w0 w1 w2 = do
+unfoldable pub calloc_at : List (List ℕ) → Result StepView FaultKind
+calloc_at (w0 ∷ w1 ∷ w2 ∷ []) = do
   name ← name_at w0
   count ← size_at w1
   size ← size_at w2
   Ok (Calloc name count size)
-
--- the words after it, if they are so many
-abbrev pub calloc_at : List (List ℕ) → Result StepView FaultKind
-calloc_at (w0 ∷ w1 ∷ w2 ∷ []) = calloc_parts w0 w1 w2
 calloc_at _ = Err BadWord
 
 -- `aligned` NAME NUMBER NUMBER
-unfoldable pub aligned_parts : List ℕ → List ℕ → List ℕ → Result StepView FaultKind
-aligned_parts w0 w1 w2 = do
+unfoldable pub aligned_at : List (List ℕ) → Result StepView FaultKind
+aligned_at (w0 ∷ w1 ∷ w2 ∷ []) = do
   name ← name_at w0
   align ← size_at w1
   size ← size_at w2
   Ok (Aligned name align size)
-
--- the words after it, if they are so many
-abbrev pub aligned_at : List (List ℕ) → Result StepView FaultKind
-aligned_at (w0 ∷ w1 ∷ w2 ∷ []) = aligned_parts w0 w1 w2
 aligned_at _ = Err BadWord
 
 -- `realloc` NAME REF NUMBER
-unfoldable pub realloc_parts : List ℕ → List ℕ → List ℕ → Result StepView FaultKind
-realloc_parts w0 w1 w2 = do
+unfoldable pub realloc_at : List (List ℕ) → Result StepView FaultKind
+realloc_at (w0 ∷ w1 ∷ w2 ∷ []) = do
   name ← name_at w0
   place ← place_at w1
   size ← size_at w2
   Ok (Realloc name place size)
-
--- the words after it, if they are so many
-abbrev pub realloc_at : List (List ℕ) → Result StepView FaultKind
-realloc_at (w0 ∷ w1 ∷ w2 ∷ []) = realloc_parts w0 w1 w2
 realloc_at _ = Err BadWord
 
 -- `free` REF
-unfoldable pub free_parts : List ℕ → Result StepView FaultKind
-free_parts w0 = do
+unfoldable pub free_at : List (List ℕ) → Result StepView FaultKind
+free_at (w0 ∷ []) = do
   place ← place_at w0
   Ok (Free place)
-
--- the words after it, if they are so many
-abbrev pub free_at : List (List ℕ) → Result StepView FaultKind
-free_at (w0 ∷ []) = free_parts w0
 free_at _ = Err BadWord
 
 -- `sfree` REF NUMBER
-unfoldable pub sfree_parts : List ℕ → List ℕ → Result StepView FaultKind
-sfree_parts w0 w1 = do
+unfoldable pub sfree_at : List (List ℕ) → Result StepView FaultKind
+sfree_at (w0 ∷ w1 ∷ []) = do
   place ← place_at w0
   size ← size_at w1
   Ok (Sfree place size)
-
--- the words after it, if they are so many
-abbrev pub sfree_at : List (List ℕ) → Result StepView FaultKind
-sfree_at (w0 ∷ w1 ∷ []) = sfree_parts w0 w1
 sfree_at _ = Err BadWord
 
 -- `write` REF LEN BYTE
-unfoldable pub write_parts : List ℕ → List ℕ → List ℕ → Result StepView FaultKind
-write_parts w0 w1 w2 = do
+unfoldable pub write_at : List (List ℕ) → Result StepView FaultKind
+write_at (w0 ∷ w1 ∷ w2 ∷ []) = do
   place ← place_at w0
   len ← length_at w1
   byte ← byte_at w2
   Ok (Write place len byte)
-
--- the words after it, if they are so many
-abbrev pub write_at : List (List ℕ) → Result StepView FaultKind
-write_at (w0 ∷ w1 ∷ w2 ∷ []) = write_parts w0 w1 w2
 write_at _ = Err BadWord
 
 -- `read` REF LEN
-unfoldable pub read_parts : List ℕ → List ℕ → Result StepView FaultKind
-read_parts w0 w1 = do
+unfoldable pub read_at : List (List ℕ) → Result StepView FaultKind
+read_at (w0 ∷ w1 ∷ []) = do
   place ← place_at w0
   len ← length_at w1
   Ok (Read place len)
-
--- the words after it, if they are so many
-abbrev pub read_at : List (List ℕ) → Result StepView FaultKind
-read_at (w0 ∷ w1 ∷ []) = read_parts w0 w1
 read_at _ = Err BadWord
 
 -- `size` REF
-unfoldable pub size_step_parts : List ℕ → Result StepView FaultKind
-size_step_parts w0 = do
+unfoldable pub size_step_at : List (List ℕ) → Result StepView FaultKind
+size_step_at (w0 ∷ []) = do
   place ← place_at w0
   Ok (Size place)
-
--- the words after it, if they are so many
-abbrev pub size_step_at : List (List ℕ) → Result StepView FaultKind
-size_step_at (w0 ∷ []) = size_step_parts w0
 size_step_at _ = Err BadWord
 
 -- the step that words are

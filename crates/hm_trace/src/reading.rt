@@ -19,7 +19,8 @@ pub fn read_trace(alloc: Global, bytes: &[u8]) -> Result<Trace, ReadRefusal>
     // What is read is a trace, and the text is its spelling.
     ensures found { IfOk result (λ trace. IsTrace trace × (bytes.now ≡ spelling trace)) }
     // The spelling of a trace is read as that trace, unless memory runs out.
-    ensures only { (trace : List (List ScriptView)) → IsTrace trace → bytes.now ≡ spelling trace → IsReadAs result trace }
+    ensures only { (trace : List (List ScriptView)) → IsTrace trace → bytes.now ≡ spelling trace
+        → IsReadAs result trace }
     // The fault is the first one of the text, and a text that is read has none.
     ensures fault { AnswersFault result (text_fault bytes.now) }
 {

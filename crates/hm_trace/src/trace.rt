@@ -2,7 +2,7 @@
 //! make them.
 ghost use Rattle.std.specs.Prelude.{◌≡◌, ◌≤◌, true, length};
 ghost use Rattle.std.specs.List.{list_all};
-ghost use Rattle.hm_trace.specs.Limits.{max_steps};
+ghost use Rattle.hm_trace.specs.Limits.{max_steps, max_threads};
 ghost use Rattle.hm_trace.specs.Traces.{is_step, is_script, is_round, IsTrace};
 ghost use Rattle.hm_trace.specs.Views.{ScriptView, steps_view};
 
@@ -46,7 +46,7 @@ impl Script {
     /// The thread, from 1 to 16.
     pub fn thread(&self) -> u32
         ensures thread { result ≡ self.now.thread }
-        ensures range { (1 ≤ result) × (result ≤ 16) }
+        ensures range { (1 ≤ result) × (result ≤ max_threads) }
     {
         self.thread
     }
@@ -55,7 +55,7 @@ impl Script {
     pub fn steps(&self) -> &[Step]
         ensures all { steps_view result.now ≡ self.now.steps }
         ensures valid { list_all is_step self.now.steps ≡ true }
-        ensures few { length result.now ≤ 200000 }
+        ensures few { length result.now ≤ max_steps }
     {
         self.steps.items()
     }

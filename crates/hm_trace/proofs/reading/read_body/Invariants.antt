@@ -8,7 +8,8 @@ abbrev pub invariant-lines : goal.invariant-lines
 invariant-lines l = record {
   ready : IsReady l.progress;
   number : l.number + length l.rest ≡ length l.lines + 2;
-  rest : read_lines l.number (progress_of l.progress) (map (λ w. w.now) l.rest) ≡ read_lines 2 start (map (λ w. w.now) l.lines);
+  rest : read_lines l.number (progress_of l.progress) (map (λ w. w.now) l.rest)
+      ≡ read_lines 2 start (map (λ w. w.now) l.lines);
 }
 
 abbrev pub decreases-lines : goal.decreases-lines

@@ -7,5 +7,8 @@ use Rattle.hm_trace.specs.Views.{name_view, steps_view}
 use Rattle.hm_trace.proofs.setters.take_names.Given as goal
 
 abbrev pub invariant-loop-step : goal.invariant-loop-step
-invariant-loop-step l = (q : Name) → (has_name l.names.keys (name_view q) || list_any (sets_name (name_view q)) (steps_view (drop l.step-index l.steps)))
+invariant-loop-step l = (q : Name)
+    →
+    (has_name l.names.keys (name_view q) || list_any (sets_name (name_view q))
+    (steps_view (drop l.step-index l.steps)))
     ≡ (has_name l.fn.names.keys (name_view q) || list_any (sets_name (name_view q)) (steps_view l.steps))

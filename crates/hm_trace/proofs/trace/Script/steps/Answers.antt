@@ -7,4 +7,6 @@ use Rattle.hm_trace.proofs.trace.Script.steps.Goals as goal
 
 pub returns-clause-valid : goal.returns-clause-valid
 returns-clause-valid c =
-    subst (λ (s : ScriptView). list_all is_step s.steps ≡ true) c.self.view_is (steps_valid (record { thread = c.self.inside.thread; steps = steps_view c.self.inside.steps }) c.self.invariant.0)
+    subst (λ (s : ScriptView). list_all is_step s.steps ≡ true) c.self.view_is
+    (steps_valid (record { thread = c.self.inside.thread; steps = steps_view c.self.inside.steps })
+    c.self.invariant.0)
