@@ -13,61 +13,76 @@ use Rattle.hm_heap.specs.Requests.{IsInReach}
 use Rattle.hm_replay.specs.Names.{with_name, held, AllInReach}
 
 -- a lookup by the order is a lookup by the text
-pub looked : (es : List (Name × ℕ)) (q : List ℕ) → lookup (is_at (λ (n : Name). slice_cmp nat_cmp q (name_view n))) es ≡ held es q
+abbrev pub by_order : List ℕ → List (Name × ℕ) → Option ℕ
+by_order q es = lookup (is_at (λ (n : Name). slice_cmp nat_cmp q (name_view n))) es
+
+pub looked : (es : List (Name × ℕ)) (q : List ℕ) → by_order q es ≡ held es q
 looked [] q = refl
 looked (e ∷ es) q =
-    ap (λ b. cond b (Some e.1) (lookup (is_at (λ (n : Name). slice_cmp nat_cmp q (name_view n))) es)) (sym (texts_ties q (name_view e.0)))
+    ap (λ b. cond b (Some e.1) (by_order q es)) (sym (texts_ties q (name_view e.0)))
     ∙ ap (λ (r : Option ℕ). cond (pointwise nat_eq q (name_view e.0)) (Some e.1) r) (looked es q)
 
 -- what an update says of each name
 abbrev pub Updated : List (Name × ℕ) → List (Name × ℕ) → Name → Option ℕ → Type 0
-Updated es fs name given = (q : Name) → lookup (is_at (λ (n : Name). slice_cmp nat_cmp (name_view q) (name_view n))) fs
-    ≡ cond (eq_by_cmp (slice_cmp nat_cmp) (name_view name) (name_view q)) given (lookup (is_at (λ (n : Name). slice_cmp nat_cmp (name_view q) (name_view n))) es)
+Updated es fs name given = (q : Name)
+    → by_order (name_view q) fs ≡ cond (eq_by_cmp (slice_cmp nat_cmp) (name_view name) (name_view q)) given (by_order (name_view q) es)
 
 -- so it says of their bytes
-updated_name : (es fs : List (Name × ℕ)) (name : Name) (given : Option ℕ) → Updated es fs name given → (q : Name) → held fs (name_view q) ≡ with_name (held es) (name_view name) given (name_view q)
+updated_name : (es fs : List (Name × ℕ)) (name : Name) (given : Option ℕ) → Updated es fs name given → (q : Name)
+    → held fs (name_view q) ≡ with_name (held es) (name_view name) given (name_view q)
 updated_name es fs name given h q =
     sym (looked fs (name_view q)) ∙ h q
-    ∙ ap (λ b. cond b given (lookup (is_at (λ (n : Name). slice_cmp nat_cmp (name_view q) (name_view n))) es)) (sym (texts_ties (name_view name) (name_view q)))
+    ∙ ap (λ b. cond b given (by_order (name_view q) es)) (sym (texts_ties (name_view name) (name_view q)))
     ∙ ap (λ (r : Option ℕ). cond (pointwise nat_eq (name_view name) (name_view q)) given r) (looked es (name_view q))
 
 -- a text is a name's, or nothing is kept for it
+abbrev IsKnown : List (Name × ℕ) → List ℕ → Type 0
+IsKnown es q = ((n : Name) × (name_view n ≡ q)) ⊎ (held es q ≡ None)
 
-known_by : (e : Name × ℕ) (es : List (Name × ℕ)) (q : List ℕ) (b : Bool) → is_word q (name_view e.0) ≡ b → ((n : Name) × (name_view n ≡ q)) ⊎ (held es q ≡ None) → ((n : Name) × (name_view n ≡ q)) ⊎ (held (e ∷ es) q ≡ None)
+known_by : (e : Name × ℕ) (es : List (Name × ℕ)) (q : List ℕ) (b : Bool) → is_word q (name_view e.0) ≡ b → IsKnown es q
+    → IsKnown (e ∷ es) q
 known_by e es q true is k = inl (e.0, sym (same_text q (name_view e.0) (sym is)))
 known_by e es q false is (inl k) = inl k
 known_by e es q false is (inr none) = inr (ap (λ (b : Bool). cond b (Some e.1) (held es q)) is ∙ none)
 
-known : (es : List (Name × ℕ)) (q : List ℕ) → ((n : Name) × (name_view n ≡ q)) ⊎ (held es q ≡ None)
+known : (es : List (Name × ℕ)) (q : List ℕ) → IsKnown es q
 known [] q = inr refl
 known (e ∷ es) q = known_by e es q (is_word q (name_view e.0)) refl (known es q)
 
 -- and of all texts
-named_text : (es fs : List (Name × ℕ)) (name : Name) (given : Option ℕ) (q : List ℕ) → Updated es fs name given → (n : Name) × (name_view n ≡ q) → held fs q ≡ with_name (held es) (name_view name) given q
-named_text es fs name given q h n = subst (λ (z : List ℕ). held fs z ≡ with_name (held es) (name_view name) given z) n.1 (updated_name es fs name given h n.0)
+module _ (es fs : List (Name × ℕ)) (name : Name) (given : Option ℕ) (says : Updated es fs name given) where
+  named_text : (q : List ℕ) → (n : Name) × (name_view n ≡ q) → held fs q ≡ with_name (held es) (name_view name) given q
+  named_text q n =
+      subst (λ (z : List ℕ). held fs z ≡ with_name (held es) (name_view name) given z) n.1
+      (updated_name es fs name given says n.0)
 
-other_text : (es fs : List (Name × ℕ)) (name : Name) (given : Option ℕ) (q : List ℕ) (b : Bool) → Updated es fs name given → is_word (name_view name) q ≡ b → held fs q ≡ None → held es q ≡ None → held fs q ≡ with_name (held es) (name_view name) given q
-other_text es fs name given q true h is f e = named_text es fs name given q h (name, same_text (name_view name) q (sym is))
-other_text es fs name given q false h is f e = f ∙ sym (ap (λ (b : Bool). cond b given (held es q)) is ∙ e)
+  other_text : (q : List ℕ) (b : Bool) → is_word (name_view name) q ≡ b → held fs q ≡ None → held es q ≡ None
+      → held fs q ≡ with_name (held es) (name_view name) given q
+  other_text q true is f e = named_text q (name, same_text (name_view name) q (sym is))
+  other_text q false is f e = f ∙ sym (ap (λ (b : Bool). cond b given (held es q)) is ∙ e)
 
-updated_at : (es fs : List (Name × ℕ)) (name : Name) (given : Option ℕ) → Updated es fs name given → (q : List ℕ) → held fs q ≡ with_name (held es) (name_view name) given q
-updated_at es fs name given h q = elim (known fs q) [
-  | inl n ↦ named_text es fs name given q h n
-  | inr f ↦ elim (known es q) [
-    | inl n ↦ named_text es fs name given q h n
-    | inr e ↦ other_text es fs name given q (is_word (name_view name) q) h refl f e
+  updated_at : (q : List ℕ) → held fs q ≡ with_name (held es) (name_view name) given q
+  updated_at q = elim (known fs q) [
+    | inl n ↦ named_text q n
+    | inr f ↦ elim (known es q) [
+      | inl n ↦ named_text q n
+      | inr e ↦ other_text q (is_word (name_view name) q) refl f e
+    ]
   ]
-]
 
-pub updated : (es fs : List (Name × ℕ)) (name : Name) (given : Option ℕ) → Updated es fs name given → held fs ≡ with_name (held es) (name_view name) given
-updated es fs name given h = λ i q. updated_at es fs name given h q i
+  pub updated : held fs ≡ with_name (held es) (name_view name) given
+  updated = λ i q. updated_at q i
 
--- addresses stay in reach
-pub updated_in_reach : (es fs : List (Name × ℕ)) (name : Name) (given : Option ℕ) → Updated es fs name given → AllInReach es → IfSome given IsInReach → AllInReach fs
-updated_in_reach es fs name given h all new q =
-    subst (λ (o : Option ℕ). IfSome o IsInReach) (sym (updated_at es fs name given h q)) (cond_both (is_word (name_view name) q) given (held es q) (λ (o : Option ℕ). IfSome o IsInReach) (λ e. new) (λ e. all q))
+  -- addresses stay in reach
+  pub updated_in_reach : AllInReach es → IfSome given IsInReach → AllInReach fs
+  updated_in_reach all new q =
+      subst (λ (o : Option ℕ). IfSome o IsInReach) (sym (updated_at q))
+      (cond_both (is_word (name_view name) q) given (held es q) (λ (o : Option ℕ). IfSome o IsInReach) (λ e. new)
+      (λ e. all q))
 
 -- also where memory may have lacked
-pub inserted_in_reach : {A B U : Type 0} (r : Result A B) (es fs : List (Name × ℕ)) (name : Name) (given : Option ℕ) → (U → Updated es fs name given) → OnOk r U → OnErr r (fs ≡ es) → AllInReach es → IfSome given IsInReach → AllInReach fs
+pub inserted_in_reach : {A B U : Type 0} (r : Result A B) (es fs : List (Name × ℕ)) (name : Name) (given : Option ℕ)
+    → (U → Updated es fs name given) → OnOk r U → OnErr r (fs ≡ es) → AllInReach es → IfSome given IsInReach
+    → AllInReach fs
 inserted_in_reach (Ok x) es fs name given says h same all new = updated_in_reach es fs name given (says h) all new
 inserted_in_reach (Err e) es fs name given says h same all new = subst AllInReach (sym same) all

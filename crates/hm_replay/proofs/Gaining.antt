@@ -1,10 +1,11 @@
 -- What a plan that was followed adds to the own entries, and what it leaves.
-use Rattle.std.proofs.Common.{◌≡◌, ◌≢◌, ℕ, ◌+◌, ◌<◌, ◌==◌, Bool, true, false, cond, List, [], ◌∷◌, ◌++◌, length, map, slice_index_or, slice_set, Result, Ok, Err, append_assoc, refl, sym, ◌∙◌, ap, subst, arith}
-use Rattle.std.specs.Prelude.{MatchResult, IfOk}
+use Rattle.std.proofs.Common.{◌≡◌, ℕ, ◌+◌, ◌<◌, ◌==◌, Bool, true, cond, List, [], ◌∷◌, ◌++◌, length, map, slice_index_or, slice_set, Result, Ok, Err, append_assoc, refl, sym, ◌∙◌, ap, subst, arith, eq-eqb, ne_eqb}
+use Rattle.std.specs.Prelude.{IfOk}
 use Rattle.std.proofs.lemmas.Grind.{common_steps}
 use Rattle.std.proofs.lemmas.Bool.{cases_eq}
 use Rattle.std.proofs.lemmas.List.{append-nil, map-set, length-map, get_or-map, get_or-set_same, get_or-set_other}
 use mathlib.Core.Logic.{inl, inr}
+use mathlib.Core.Path.{fun_ext}
 use Rattle.hm_outside.specs.declared.memory.NoMemory.{NoMemory}
 use Rattle.hm_model.specs.declared.answer.Answer.{Answer}
 use Rattle.hm_model.specs.declared.entry.Call.{Call}
@@ -14,16 +15,14 @@ use Rattle.hm_model.specs.declared.entry.Who.{Who}
 use Rattle.hm_turn.specs.Histories.{StartsWith}
 use Rattle.hm_turn.specs.Knowledge.{Knowledge}
 use Rattle.hm_turn.specs.Known.{Known}
+use Rattle.hm_turn.proofs.Histories.{starts_itself, starts_longer}
 use Rattle.hm_heap.specs.Called.{Called, Makes}
 use Rattle.hm_heap.specs.Passes.{PassView}
 use Rattle.hm_heap.specs.Parts.{who_of, HasPart}
-use Rattle.hm_heap.specs.Plans.{Plan, Done, Part, Follows, Serves}
+use Rattle.hm_heap.specs.Plans.{Plan, Done, Part, Follows, GoesOn, Serves}
 use Rattle.hm_replay.specs.Uses.{Own, Takes, TakesPart, Uses}
 use Rattle.hm_replay.specs.Gains.{mine_of, Gains, Grew, AllGrew}
 use Rattle.hm_replay.specs.Steps.{Answers}
-
-pub ext : {A B : Type 0} (f g : A → B) → ((a : A) → f a ≡ g a) → f ≡ g
-ext f g h = λ i a. h a i
 
 -- ---- what is gained
 pub gains_none : (ts us : List Known) (Is : Own → Own → Type 0) → us ≡ ts → ((xs : Own) → Is xs xs) → Gains ts us Is
@@ -33,58 +32,62 @@ gains_none ts us Is e all = record {
   is = λ left. all left;
 }
 
-pub gains_then : (ts us vs : List Known) (A B C : Own → Own → Type 0) → ((xs ys zs : Own) → A xs ys → B ys zs → C xs zs) → Gains ts us A → Gains us vs B → Gains ts vs C
+pub gains_then : (ts us vs : List Known) (A B C : Own → Own → Type 0) → ((xs ys zs : Own) → A xs ys → B ys zs → C xs zs)
+    → Gains ts us A → Gains us vs B → Gains ts vs C
 gains_then ts us vs A B C both a b = record {
   own = λ place. a.own place ++ b.own place;
-  mine = λ place. b.mine place ∙ (ap (λ z. z ++ b.own place) (a.mine place) ∙ append_assoc (mine_of ts place) (a.own place) (b.own place));
-  is = λ left. subst (λ (xs : Own). C xs left)
-      (ext (λ place. a.own place ++ (b.own place ++ left place)) (λ place. (a.own place ++ b.own place) ++ left place) (λ place. sym (append_assoc (a.own place) (b.own place) (left place))))
-      (both (λ place. a.own place ++ (b.own place ++ left place)) (λ place. b.own place ++ left place) left (a.is (λ place. b.own place ++ left place)) (b.is left));
+  mine =
+      λ place. b.mine place ∙ ap (λ z. z ++ b.own place) (a.mine place)
+      ∙ append_assoc (mine_of ts place) (a.own place) (b.own place);
+  is = λ left.
+      let later : Own = λ place. b.own place ++ left place in
+      subst (λ (xs : Own). C xs left) (fun_ext (λ place. sym (append_assoc (a.own place) (b.own place) (left place))))
+      (both (λ place. a.own place ++ later place) later left (a.is later) (b.is left));
 }
 
-pub gains_as : (ts us : List Known) (A B : Own → Own → Type 0) → ((xs ys : Own) → A xs ys → B xs ys) → Gains ts us A → Gains ts us B
-gains_as ts us A B f a = record { own = a.own; mine = a.mine; is = λ left. f (λ place. a.own place ++ left place) left (a.is left) }
+pub gains_as : (ts us : List Known) (A B : Own → Own → Type 0) → ((xs ys : Own) → A xs ys → B xs ys) → Gains ts us A
+    → Gains ts us B
+gains_as ts us A B f a = record {
+  own = a.own;
+  mine = a.mine;
+  is = λ left. f (λ place. a.own place ++ left place) left (a.is left);
+}
 
 -- one entry more at a place
-abbrev pub one_at : ℕ → Entry → Own
+abbrev one_at : ℕ → Entry → Own
 one_at place e other = cond (other == place) (e ∷ []) []
 
-pub same_place : (place : ℕ) → (place == place) ≡ true
-same_place place = grind arith
-
-other_place : (other place : ℕ) → other ≢ place → (other == place) ≡ false
-other_place other place n = grind (arith, n)
-
-mine_set : (ts us : List Known) (place : ℕ) (u : Known) → us ≡ slice_set ts place u → (other : ℕ) → mine_of us other ≡ slice_index_or (slice_set (map (λ (t : Known). t.knows.mine) ts) place u.knows.mine) other []
-mine_set ts us place u e other = ap (λ z. mine_of z other) e ∙ ap (λ (z : List (List Entry)). slice_index_or z other []) (map-set (λ (t : Known). t.knows.mine) ts place u)
-
-pub gains_one : (ts us : List Known) (place : ℕ) (u : Known) (e : Entry) → place < length ts → us ≡ slice_set ts place u → ((t : Known) → u.knows.mine ≡ (slice_index_or ts place t).knows.mine ++ e ∷ [])
-    → Gains ts us (λ xs ys. Takes place e xs ys)
-gains_one ts us place u e inside set mine =
+pub gains_one : (ts us : List Known) (place : ℕ) (u : Known) (e : Entry) → place < length ts → us ≡ slice_set ts place u
+    → u.knows.mine ≡ (slice_index_or ts place u).knows.mine ++ e ∷ [] → Gains ts us (λ xs ys. Takes place e xs ys)
+gains_one ts us place u e inside set one =
     let mines : List (List Entry) = map (λ (t : Known). t.knows.mine) ts in
     let long : place < length mines = omega (arith, inside, length-map ts (λ (t : Known). t.knows.mine)) in
-    let was : mine_of ts place ≡ (slice_index_or ts place u).knows.mine = get_or-map (λ (t : Known). t.knows.mine) ts place u [] inside in
+    let was : mine_of ts place ≡ (slice_index_or ts place u).knows.mine =
+    get_or-map (λ (t : Known). t.knows.mine) ts place u [] inside in
+    let here : (place == place) ≡ true = eq-eqb place place refl in
+    let now : (other : ℕ) → mine_of us other ≡ slice_index_or (slice_set mines place u.knows.mine) other [] =
+    λ other. ap (λ z. mine_of z other) set
+    ∙ ap (λ (z : List (List Entry)). slice_index_or z other []) (map-set (λ (t : Known). t.knows.mine) ts place u) in
     record {
       own = one_at place e;
       mine = λ other. elim (cases_eq other place) [
         | inl s ↦
             subst (λ (n : ℕ). mine_of us n ≡ mine_of ts n ++ one_at place e n) (sym s)
-            (mine_set ts us place u set place ∙ (get_or-set_same mines place u.knows.mine [] long ∙ (mine u ∙ (ap (λ z. z ++ e ∷ []) (sym was) ∙ ap (λ (b : Bool). mine_of ts place ++ cond b (e ∷ []) []) (sym (same_place place))))))
+            (now place ∙ get_or-set_same mines place u.knows.mine [] long ∙ one ∙ ap (λ z. z ++ e ∷ []) (sym was)
+            ∙ ap (λ (b : Bool). mine_of ts place ++ cond b (e ∷ []) []) (sym here))
         | inr n ↦
-            mine_set ts us place u set other ∙ (get_or-set_other mines place other u.knows.mine [] n ∙ (sym (append-nil (mine_of ts other)) ∙ ap (λ (b : Bool). mine_of ts other ++ cond b (e ∷ []) []) (sym (other_place other place n))))
+            now other ∙ get_or-set_other mines place other u.knows.mine [] n ∙ sym (append-nil (mine_of ts other))
+            ∙ ap (λ (b : Bool). mine_of ts other ++ cond b (e ∷ []) []) (sym (ne_eqb other place n))
       ];
       is = λ left. record {
-        here = ap (λ (b : Bool). cond b (e ∷ []) [] ++ left place) (same_place place);
-        elsewhere = λ other n. sym (ap (λ (b : Bool). cond b (e ∷ []) [] ++ left other) (other_place other place n));
+        here = ap (λ (b : Bool). cond b (e ∷ []) [] ++ left place) here;
+        elsewhere = λ other n. sym (ap (λ (b : Bool). cond b (e ∷ []) [] ++ left other) (ne_eqb other place n));
       };
     }
 
 -- ---- what is left of a turn
-pub starts_itself : (a : List Entry) → StartsWith a a
-starts_itself a = ([], sym (append-nil a))
-
 pub starts_trans : (a b c : List Entry) → StartsWith a b → StartsWith b c → StartsWith a c
-starts_trans a b c p q = (q.0 ++ p.0, p.1 ∙ (ap (λ z. z ++ p.0) q.1 ∙ append_assoc c q.0 p.0))
+starts_trans a b c p q = subst (λ (h : List Entry). StartsWith h c) (sym p.1) (starts_longer b c p.0 q)
 
 pub grew_none : (t : Known) → Grew t t
 grew_none t = record { lock = refl; same = refl; begins = starts_itself t.knows.seen }
@@ -92,47 +95,65 @@ grew_none t = record { lock = refl; same = refl; begins = starts_itself t.knows.
 pub grew_then : (t u v : Known) → Grew t u → Grew u v → Grew t v
 grew_then t u v a b = record {
   lock = b.lock ∙ a.lock;
-  same = b.same ∙ ap (λ (k : Knowledge). record k { seen = v.knows.seen; mine = v.knows.mine; lost = v.knows.lost }) a.same;
+  same =
+      b.same ∙ ap (λ (k : Knowledge). record k { seen = v.knows.seen; mine = v.knows.mine; lost = v.knows.lost })
+      a.same;
   begins = starts_trans v.knows.seen u.knows.seen t.knows.seen b.begins a.begins;
 }
 
 pub all_grew_none : (ts us : List Known) → us ≡ ts → AllGrew ts us
 all_grew_none ts us e = record {
   as_many = ap (λ (z : List Known). length z) e;
-  each = λ place t. subst (λ (z : List Known). Grew (slice_index_or ts place t) (slice_index_or z place t)) (sym e) (grew_none (slice_index_or ts place t));
+  each = λ place t.
+      subst (λ (z : List Known). Grew (slice_index_or ts place t) (slice_index_or z place t)) (sym e)
+      (grew_none (slice_index_or ts place t));
 }
 
 pub all_grew_then : (ts us vs : List Known) → AllGrew ts us → AllGrew us vs → AllGrew ts vs
 all_grew_then ts us vs a b = record {
   as_many = b.as_many ∙ a.as_many;
-  each = λ place t. grew_then (slice_index_or ts place t) (slice_index_or us place t) (slice_index_or vs place t) (a.each place t) (b.each place t);
+  each = λ place t.
+      grew_then (slice_index_or ts place t) (slice_index_or us place t) (slice_index_or vs place t) (a.each place t)
+      (b.each place t);
 }
 
-pub all_grew_one : (ts us : List Known) (place : ℕ) (u : Known) → place < length ts → us ≡ slice_set ts place u → ((t : Known) → Grew (slice_index_or ts place t) u) → AllGrew ts us
-all_grew_one ts us place u inside set one = record {
-  as_many = ap (λ (z : List Known). length z) set ∙ grind (arith, common_steps);
-  each = λ other t. subst (λ (z : List Known). Grew (slice_index_or ts other t) (slice_index_or z other t)) (sym set) (elim (cases_eq other place) [
-    | inl s ↦ subst (λ (n : ℕ). Grew (slice_index_or ts n t) (slice_index_or (slice_set ts place u) n t)) (sym s) (subst (λ (z : Known). Grew (slice_index_or ts place t) z) (sym (get_or-set_same ts place u t inside)) (one t))
-    | inr n ↦ subst (λ (z : Known). Grew (slice_index_or ts other t) z) (sym (get_or-set_other ts place other u t n)) (grew_none (slice_index_or ts other t))
-  ]);
-}
+pub all_grew_one : (ts us : List Known) (place : ℕ) (u : Known) → place < length ts → us ≡ slice_set ts place u
+    → ((t : Known) → Grew (slice_index_or ts place t) u) → AllGrew ts us
+all_grew_one ts us place u inside set one =
+    let vs : List Known = slice_set ts place u in
+    subst (λ (z : List Known). AllGrew ts z) (sym set) (record {
+      as_many = grind (arith, common_steps);
+      each = λ other t. elim (cases_eq other place) [
+        | inl s ↦
+            subst (λ (n : ℕ). Grew (slice_index_or ts n t) (slice_index_or vs n t)) (sym s)
+            (subst (λ (z : Known). Grew (slice_index_or ts place t) z) (sym (get_or-set_same ts place u t inside))
+            (one t))
+        | inr n ↦
+            subst (λ (z : Known). Grew (slice_index_or ts other t) z) (sym (get_or-set_other ts place other u t n))
+            (grew_none (slice_index_or ts other t))
+      ];
+    })
 
 -- ---- one part
-called_grew : (t u : Known) (who : Who) (call : Call) (r : Result Reply NoMemory) → u.lock ≡ t.lock → Called who call r t.knows u.knows → Grew t u
+called_grew : (t u : Known) (who : Who) (call : Call) (r : Result Reply NoMemory) → u.lock ≡ t.lock
+    → Called who call r t.knows u.knows → Grew t u
 called_grew t u who call r lock c = record { lock = lock; same = c.same; begins = c.begins }
 
-pub part_grew : (p q : PassView) (place : ℕ) (who : Who) (call : Call) (r : Result Reply NoMemory) → HasPart p q place who call r → AllGrew p.turns q.turns
-part_grew p q place who call r h = all_grew_one p.turns q.turns place h.turn h.inside h.turns_are (λ t. called_grew (slice_index_or p.turns place t) h.turn who call r (h.called t).0 (h.called t).1)
+pub part_grew : (p q : PassView) (place : ℕ) (who : Who) (call : Call) (r : Result Reply NoMemory)
+    → HasPart p q place who call r → AllGrew p.turns q.turns
+part_grew p q place who call r h =
+    all_grew_one p.turns q.turns place h.turn h.inside h.turns_are
+    (λ t. called_grew (slice_index_or p.turns place t) h.turn who call r (h.called t).0 (h.called t).1)
 
 -- one part that was replied to: its entry is taken, and the rest follows
-pub part_gains : (p m q : PassView) (place : ℕ) (who : Who) (call : Call) (reply : Reply) (Rest : Own → Reply → Own → Type 0)
+part_gains : (p m q : PassView) (place : ℕ) (who : Who) (call : Call) (reply : Reply) (Rest : Own → Reply → Own → Type 0)
     → HasPart p m place who call (Ok reply) → Gains m.turns q.turns (λ xs ys. Rest xs reply ys)
     → Gains p.turns q.turns (λ xs ys. TakesPart place who call xs (λ left again. Rest left again ys))
 part_gains p m q place who call reply Rest h later =
     let made : Makes who call reply (slice_index_or p.turns place h.turn).knows h.turn.knows = (h.called h.turn).1.made in
     let e : Entry = made.entry in
-    let mine : (t : Known) → h.turn.knows.mine ≡ (slice_index_or p.turns place t).knows.mine ++ e ∷ [] = λ t. made.mine ∙ ap (λ (k : Known). k.knows.mine ++ e ∷ []) (same_at p.turns place h.turn t h.inside) in
-    gains_then p.turns m.turns q.turns (λ xs ys. Takes place e xs ys) (λ xs ys. Rest xs reply ys) (λ xs ys. TakesPart place who call xs (λ left again. Rest left again ys))
+    gains_then p.turns m.turns q.turns (λ xs ys. Takes place e xs ys) (λ xs ys. Rest xs reply ys)
+    (λ xs ys. TakesPart place who call xs (λ left again. Rest left again ys))
     (λ xs ys zs takes rest. record {
       entry = e;
       who_is = made.is.who_is;
@@ -141,68 +162,68 @@ part_gains p m q place who call reply Rest h later =
       takes = takes;
       rest = subst (λ (r : Reply). Rest ys r zs) (sym made.is.reply_is) rest;
     })
-    (gains_one p.turns m.turns place h.turn e h.inside h.turns_are mine) later
-  where
-    same_at : (ts : List Known) (place : ℕ) (t u : Known) → place < length ts → slice_index_or ts place t ≡ slice_index_or ts place u
-    same_at ts place t u inside = grind (arith, common_steps, inside)
+    (gains_one p.turns m.turns place h.turn e h.inside h.turns_are made.mine) later
 
 -- ---- a plan
-same_answer : (a b : Answer) (r : Result Answer NoMemory) → r ≡ Ok a → r ≡ Ok b → a ≡ b
-same_answer a b r p q = ap (the_answer a) (sym p ∙ q)
-  where
-    the_answer : Answer → Result Answer NoMemory → Answer
-    the_answer d (Ok x) = x
-    the_answer d (Err e) = d
-
-abbrev IsGood : Result Answer NoMemory → Type 0
-IsGood (Ok a) = Unit {0}
-IsGood (Err e) = ⊥
-
-not_err : (a : Answer) (e : NoMemory) (r : Result Answer NoMemory) → r ≡ Ok a → r ≡ Err e → ⊥
-not_err a e r p q = subst IsGood q (subst IsGood (sym p) tt)
-
-pub follows_gains : (p q : PassView) (step n : ℕ) (plan : Plan) (a : Answer) → Follows p q step n plan (Ok a) → Gains p.turns q.turns (λ xs ys. Uses (λ part. who_of p step part) n plan a xs ys)
-follows_gains p q step n (Done b) a f = gains_none p.turns q.turns (λ xs ys. Uses (λ part. who_of p step part) n (Done b) a xs ys) (ap (λ (z : PassView). z.turns) f.1) (λ xs. (same_answer a b (Ok a) refl f.0, λ place. refl))
+pub follows_gains : (p q : PassView) (step n : ℕ) (plan : Plan) (a : Answer) → Follows p q step n plan (Ok a)
+    → Gains p.turns q.turns (λ xs ys. Uses (λ part. who_of p step part) n plan a xs ys)
+follows_gains p q step n (Done b) a f =
+    let is : Ok a ≡ Ok b = f.0 in
+    let same : a ≡ b = cc in
+    gains_none p.turns q.turns (λ xs ys. Uses (λ part. who_of p step part) n (Done b) a xs ys)
+    (ap (λ (z : PassView). z.turns) f.1)
+    (λ xs. (same, λ place. refl))
 follows_gains p q step n (Part place call next) a f =
     rest_gains p q f.between step n place call next a f.made f.same f.part f.rest
     (λ reply g. follows_gains f.between q step (n + 1) (next reply) a g)
   where
-    rest_gains : (p q m : PassView) (step n place : ℕ) (call : Call) (next : Reply → Plan) (a : Answer) (r : Result Reply NoMemory) → m ≡ record p { turns = m.turns } → HasPart p m place (who_of p step n) call r
-        → MatchResult r (λ reply. Follows m q step (n + 1) (next reply) (Ok a)) (λ e. (q ≡ m) × (Ok a ≡ Err e))
-        → ((reply : Reply) → Follows m q step (n + 1) (next reply) (Ok a) → Gains m.turns q.turns (λ xs ys. Uses (λ part. who_of m step part) (n + 1) (next reply) a xs ys))
+    rest_gains : (p q m : PassView) (step n place : ℕ) (call : Call) (next : Reply → Plan) (a : Answer) (r : Result Reply NoMemory)
+        → m ≡ record p { turns = m.turns } → HasPart p m place (who_of p step n) call r
+        → GoesOn m q (Ok a) (λ between reply. Follows between q step (n + 1) (next reply) (Ok a)) r
+        → ((reply : Reply) → Follows m q step (n + 1) (next reply) (Ok a)
+        → Gains m.turns q.turns (λ xs ys. Uses (λ part. who_of m step part) (n + 1) (next reply) a xs ys))
         → Gains p.turns q.turns (λ xs ys. Uses (λ part. who_of p step part) n (Part place call next) a xs ys)
-    rest_gains p q m step n place call next a (Err e) same h rest deeper = absurd (not_err a e (Ok a) refl rest.1)
+    rest_gains p q m step n place call next a (Err e) same h rest deeper = let no : Ok a ≡ Err e = rest.1 in absurd cc
     rest_gains p q m step n place call next a (Ok reply) same h rest deeper =
-        part_gains p m q place (who_of p step n) call reply (λ xs again ys. Uses (λ part. who_of p step part) (n + 1) (next again) a xs ys) h
-        (subst (λ (z : PassView). Gains m.turns q.turns (λ xs ys. Uses (λ part. who_of z step part) (n + 1) (next reply) a xs ys)) same (deeper reply rest))
+        part_gains p m q place (who_of p step n) call reply
+        (λ xs again ys. Uses (λ part. who_of p step part) (n + 1) (next again) a xs ys) h
+        (subst (λ (z : PassView). Gains m.turns q.turns
+        (λ xs ys. Uses (λ part. who_of z step part) (n + 1) (next reply) a xs ys)) same (deeper reply rest))
 
-pub follows_grew : (p q : PassView) (step n : ℕ) (plan : Plan) (r : Result Answer NoMemory) → Follows p q step n plan r → AllGrew p.turns q.turns
+pub follows_grew : (p q : PassView) (step n : ℕ) (plan : Plan) (r : Result Answer NoMemory) → Follows p q step n plan r
+    → AllGrew p.turns q.turns
 follows_grew p q step n (Done b) r f = all_grew_none p.turns q.turns (ap (λ (z : PassView). z.turns) f.1)
 follows_grew p q step n (Part place call next) r f =
     all_grew_then p.turns f.between.turns q.turns (part_grew p f.between place (who_of p step n) call f.made f.part)
-    (rest_grew f.between q step n next r f.made f.rest (λ reply g. follows_grew f.between q step (n + 1) (next reply) r g))
+    (rest_grew f.between q step n next r f.made f.rest
+    (λ reply g. follows_grew f.between q step (n + 1) (next reply) r g))
   where
     rest_grew : (m q : PassView) (step n : ℕ) (next : Reply → Plan) (r : Result Answer NoMemory) (made : Result Reply NoMemory)
-        → MatchResult made (λ reply. Follows m q step (n + 1) (next reply) r) (λ e. (q ≡ m) × (r ≡ Err e))
+        → GoesOn m q r (λ between reply. Follows between q step (n + 1) (next reply) r) made
         → ((reply : Reply) → Follows m q step (n + 1) (next reply) r → AllGrew m.turns q.turns)
         → AllGrew m.turns q.turns
-    rest_grew m q step n next r (Err e) rest deeper = all_grew_none m.turns q.turns (ap (λ (z : PassView). z.turns) rest.0)
+    rest_grew m q step n next r (Err e) rest deeper =
+        all_grew_none m.turns q.turns (ap (λ (z : PassView). z.turns) rest.0)
     rest_grew m q step n next r (Ok reply) rest deeper = deeper reply rest
 
 -- ---- a call
-pub follows_answer : (IsPlan : Plan → Type 0) (plan : Plan) (p q : PassView) (step : ℕ) (r : Result Answer NoMemory) → IsPlan plan → Follows p q step 1 plan r
+pub follows_answer : (IsPlan : Plan → Type 0) (plan : Plan) (p q : PassView) (step : ℕ) (r : Result Answer NoMemory)
+    → IsPlan plan → Follows p q step 1 plan r
     → IfOk r (λ a. Gains p.turns q.turns (Answers IsPlan (λ part. who_of p step part) a))
 follows_answer IsPlan plan p q step (Err e) is f = tt
 follows_answer IsPlan plan p q step (Ok a) is f =
-    gains_as p.turns q.turns (λ xs ys. Uses (λ part. who_of p step part) 1 plan a xs ys) (Answers IsPlan (λ part. who_of p step part) a)
-    (λ xs ys uses. record { plan = plan; is = is; uses = uses })
+    gains_as p.turns q.turns (λ xs ys. Uses (λ part. who_of p step part) 1 plan a xs ys)
+    (Answers IsPlan (λ part. who_of p step part) a) (λ xs ys uses. record { plan = plan; is = is; uses = uses })
     (follows_gains p q step 1 plan a f)
 
-pub serves_answer : (IsPlan : Plan → Type 0) (p q : PassView) (step : ℕ) (r : Result Answer NoMemory) → Serves IsPlan p q step r
+pub serves_answer : (IsPlan : Plan → Type 0) (p q : PassView) (step : ℕ) (r : Result Answer NoMemory)
+    → Serves IsPlan p q step r
     → IfOk r (λ a. Gains p.turns q.turns (Answers IsPlan (λ part. who_of p step part) a))
 serves_answer IsPlan p q step r s = follows_answer IsPlan s.plan p q step r s.is s.follows
 
-pub serves_grew : (IsPlan : Plan → Type 0) (p q : PassView) (step : ℕ) (r : Result Answer NoMemory) → Serves IsPlan p q step r → AllGrew p.turns q.turns
+pub serves_grew : (IsPlan : Plan → Type 0) (p q : PassView) (step : ℕ) (r : Result Answer NoMemory)
+    → Serves IsPlan p q step r
+    → AllGrew p.turns q.turns
 serves_grew IsPlan p q step r s = follows_grew p q step 1 s.plan r s.follows
 
 pub follows_is : (plan : Plan) (p q : PassView) (step : ℕ) (r : Result Answer NoMemory) → Follows p q step 1 plan r

@@ -3,6 +3,7 @@ use Rattle.std.proofs.Common.{◌≡◌, ℕ, ◌+◌, ◌<◌, zero, suc, Bool,
 use Rattle.std.specs.Prelude.{IfOk}
 use Rattle.std.specs.List.{list_all}
 use Rattle.std.proofs.lemmas.Bool.{and_parts}
+use mathlib.Core.Path.{fun_ext, transport}
 use Rattle.hm_outside.specs.declared.memory.NoMemory.{NoMemory}
 use Rattle.hm_model.specs.declared.answer.Answer.{Answer}
 use Rattle.hm_report.specs.declared.results.StepResult.{StepResult}
@@ -10,62 +11,68 @@ use Rattle.hm_trace.specs.Views.{StepView, step_view, steps_view}
 use Rattle.hm_trace.specs.declared.step.Step.{Step}
 use Rattle.hm_turn.specs.Known.{Known}
 use Rattle.hm_heap.specs.Passes.{HeapView, PassView}
-use Rattle.hm_heap.specs.Parts.{who_of}
 use Rattle.hm_replay.specs.Names.{Names}
 use Rattle.hm_replay.specs.Uses.{Own, used_up}
 use Rattle.hm_replay.specs.Steps.{Terms, who_at, Answers, skipped, IsStepPlan, Steps, base_of, names_after}
 use Rattle.hm_replay.specs.Scripts.{Runs}
-use Rattle.hm_replay.specs.Gains.{Gains, mine_of}
-use Rattle.hm_replay.proofs.Gaining.{ext, gains_as, gains_none}
+use Rattle.hm_replay.specs.Gains.{Gains, GainsAnswer, mine_of}
+use Rattle.hm_replay.proofs.Gaining.{gains_as, gains_none}
 
 -- ---- the call of a step
 -- the same step, spelled otherwise
-pub respelled : (h : HeapView) (p q : PassView) (number base : ℕ) (step spelled : Step) (r : Result Answer NoMemory) → step ≡ spelled
-    → IfOk r (λ a. Gains p.turns q.turns (Answers (IsStepPlan h.config p.thread (step_view spelled) base) (λ part. who_of p number part) a))
-    → IfOk r (λ a. Gains p.turns q.turns (Answers (IsStepPlan h.config p.thread (step_view step) base) (λ part. who_of p number part) a))
-respelled h p q number base step spelled r is g =
-    subst (λ (s : Step). IfOk r (λ a. Gains p.turns q.turns (Answers (IsStepPlan h.config p.thread (step_view s) base) (λ part. who_of p number part) a))) (sym is) g
+pub respelled : (h : HeapView) (p q : PassView) (number base : ℕ) (step spelled : Step) (r : Result Answer NoMemory)
+    → step ≡ spelled
+    → IfOk r (GainsAnswer (IsStepPlan h.config p.thread (step_view spelled) base) p q number)
+    → IfOk r (GainsAnswer (IsStepPlan h.config p.thread (step_view step) base) p q number)
+respelled h p q number base step spelled r is =
+    subst (λ (s : Step). IfOk r (GainsAnswer (IsStepPlan h.config p.thread (step_view s) base) p q number)) (sym is)
 
-pub gains_called : (ts us : List Known) (t : Terms) (number base : ℕ) (step : StepView) (o : Option ℕ) (a : Answer) → Some base ≡ o
+pub gains_called : (ts us : List Known) (t : Terms) (number base : ℕ) (step : StepView) (o : Option ℕ) (a : Answer)
+    → Some base ≡ o
     → Gains ts us (Answers (IsStepPlan t.config t.thread step base) (λ part. who_at t number part) a)
     → Gains ts us (Steps t number step o (record { base = base; answer = Some a }))
-gains_called ts us t number base step o a is g = subst (λ (z : Option ℕ). Gains ts us (Steps t number step z (record { base = base; answer = Some a }))) is
-    (gains_as ts us (Answers (IsStepPlan t.config t.thread step base) (λ part. who_at t number part) a) (Steps t number step (Some base) (record { base = base; answer = Some a }))
+gains_called ts us t number base step o a is g =
+    let IsMade : Option ℕ → Own → Own → Type 0 = λ z. Steps t number step z (record { base = base; answer = Some a }) in
+    subst (λ (z : Option ℕ). Gains ts us (IsMade z)) is
+    (gains_as ts us (Answers (IsStepPlan t.config t.thread step base) (λ part. who_at t number part) a)
+    (IsMade (Some base))
     (λ xs ys answers. record { answer = a; result = refl; answers = answers }) g)
 
-pub gains_skipped : (ts : List Known) (t : Terms) (number : ℕ) (step : StepView) (o : Option ℕ) → None ≡ o → Gains ts ts (Steps t number step o skipped)
-gains_skipped ts t number step o is = subst (λ (z : Option ℕ). Gains ts ts (Steps t number step z skipped)) is
+pub gains_skipped : (ts : List Known) (t : Terms) (number : ℕ) (step : StepView) (o : Option ℕ) → None ≡ o
+    → Gains ts ts (Steps t number step o skipped)
+gains_skipped ts t number step o is =
+    subst (λ (z : Option ℕ). Gains ts ts (Steps t number step z skipped)) is
     (gains_none ts ts (Steps t number step None skipped) refl (λ xs. (refl, λ place. refl)))
 
 -- ---- a script
-pub pushed : (t : Terms) (n : ℕ) (names last : Names) (steps : List StepView) (s : StepView) (rs : List StepResult) (r : StepResult) (xs ys zs : Own)
-    → Runs t n names steps rs last xs ys → Steps t (n + length steps) s (base_of last s) r ys zs
+pub pushed : (t : Terms) (n : ℕ) (names last : Names) (steps : List StepView) (s : StepView) (rs : List StepResult) (r : StepResult)
+    (xs ys zs : Own) → Runs t n names steps rs last xs ys → Steps t (n + length steps) s (base_of last s) r ys zs
     → Runs t n names (steps ++ s ∷ []) (rs ++ r ∷ []) (names_after last s r.answer) xs zs
-pushed t n names last [] s rs r xs ys zs ran step = record {
-  result = r;
-  later = [];
-  left = zs;
-  results_are = ap (λ (l : List StepResult). l ++ r ∷ []) ran.0;
-  this = subst (λ (z : Own). Steps t n s (base_of names s) r z zs) (λ i place. ran.2 place i) (subst (λ (l : Names). Steps t n s (base_of l s) r ys zs) ran.1 (subst (λ (m : ℕ). Steps t m s (base_of last s) r ys zs) (here n) step));
-  rest = (refl, ap (λ (l : Names). names_after l s r.answer) ran.1, λ place. refl);
-}
-  where
-    here : (n : ℕ) → n + 0 ≡ n
-    here n = omega arith
-pushed t n names last (u ∷ steps) s rs r xs ys zs ran step = record {
-  result = ran.result;
-  later = ran.later ++ r ∷ [];
-  left = ran.left;
-  results_are = ap (λ (l : List StepResult). l ++ r ∷ []) ran.results_are;
-  this = ran.this;
-  rest = pushed t (n + 1) (names_after names u ran.result.answer) last steps s ran.later r ran.left ys zs ran.rest (subst (λ (m : ℕ). Steps t m s (base_of last s) r ys zs) (next n (length steps)) step);
-}
-  where
-    next : (n k : ℕ) → n + suc k ≡ (n + 1) + k
-    next n k = omega arith
+pushed t n names last [] s rs r xs ys zs ran step =
+    let here : n + 0 ≡ n = omega arith in
+    record {
+      result = r;
+      later = [];
+      left = zs;
+      results_are = ap (λ (l : List StepResult). l ++ r ∷ []) ran.0;
+      this = transport (λ i. Steps t (here i) s (base_of (ran.1 i) s) r (λ place. ran.2 place i) zs) step;
+      rest = (refl, ap (λ (l : Names). names_after l s r.answer) ran.1, λ place. refl);
+    }
+pushed t n names last (u ∷ steps) s rs r xs ys zs ran step =
+    let next : n + suc (length steps) ≡ (n + 1) + length steps = omega arith in
+    record {
+      result = ran.result;
+      later = ran.later ++ r ∷ [];
+      left = ran.left;
+      results_are = ap (λ (l : List StepResult). l ++ r ∷ []) ran.results_are;
+      this = ran.this;
+      rest = pushed t (n + 1) (names_after names u ran.result.answer) last steps s ran.later r ran.left ys zs ran.rest
+          (subst (λ (m : ℕ). Steps t m s (base_of last s) r ys zs) next step);
+    }
 
 -- what every step passes, the step at a place passes
-pub passes_at : (test : StepView → Bool) (steps : List Step) (i : ℕ) (s : Step) → list_all test (steps_view steps) ≡ true → i < length steps → s ≡ get_or steps i s → test (step_view s) ≡ true
+pub passes_at : (test : StepView → Bool) (steps : List Step) (i : ℕ) (s : Step) → list_all test (steps_view steps) ≡ true
+    → i < length steps → s ≡ get_or steps i s → test (step_view s) ≡ true
 passes_at test [] i s all lt is = absurd (omega arith)
 passes_at test (x ∷ xs) zero s all lt is =
     ap (λ (t : Step). test (step_view t)) is ∙ (and_parts (test (step_view x)) (list_all test (steps_view xs)) all).0
@@ -73,7 +80,9 @@ passes_at test (x ∷ xs) (suc i) s all lt is =
     passes_at test xs i s (and_parts (test (step_view x)) (list_all test (steps_view xs)) all).1 (omega arith) is
 
 -- what was gained by turns without own entries is all that they have
-pub gained_all : (ts us : List Known) (Is : Own → Own → Type 0) → ((place : ℕ) → mine_of ts place ≡ []) → Gains ts us Is → Is (mine_of us) used_up
-gained_all ts us Is fresh g = subst (λ (xs : Own). Is xs used_up)
-    (ext (λ place. g.own place ++ []) (mine_of us) (λ place. append-nil (g.own place) ∙ (ap (λ z. z ++ g.own place) (sym (fresh place)) ∙ sym (g.mine place))))
+pub gained_all : (ts us : List Known) (Is : Own → Own → Type 0) → ((place : ℕ) → mine_of ts place ≡ []) → Gains ts us Is
+    → Is (mine_of us) used_up
+gained_all ts us Is fresh g =
+    subst (λ (xs : Own). Is xs used_up)
+    (fun_ext (λ place. append-nil (g.own place) ∙ ap (λ z. z ++ g.own place) (sym (fresh place)) ∙ sym (g.mine place)))
     (g.is used_up)

@@ -1,9 +1,9 @@
 -- A call that tries first, and waits only where the turn was not free.
-use Rattle.std.proofs.Common.{◌≡◌, ◌==◌, Bool, true, false, cond, ℕ, ◌<◌, List, [], ◌++◌, length, map, slice_index_or, slice_set, Option, Some, None, Result, Ok, Err, refl, sym, ◌∙◌, ap, subst, arith, true≢false}
+use Rattle.std.proofs.Common.{◌≡◌, ◌==◌, true, ℕ, ◌<◌, List, [], length, slice_index_or, slice_set, Option, Some, None, Result, Ok, Err, IsOkAnd, refl, sym, ◌∙◌, ap, subst, true≢false}
 use Rattle.std.specs.Prelude.{IfOk, MatchOption}
-use Rattle.std.proofs.lemmas.Bool.{cases_eq}
-use Rattle.std.proofs.lemmas.List.{append-nil, map-set, length-map, get_or-map, get_or-set_same, get_or-set_other}
-use mathlib.Core.Logic.{inl, inr}
+use Rattle.std.proofs.lemmas.Bool.{cond_both}
+use Rattle.std.proofs.lemmas.List.{append-nil}
+use Rattle.std.proofs.Math.Seq.{map-set_same}
 use Rattle.hm_outside.specs.declared.memory.NoMemory.{NoMemory}
 use Rattle.hm_model.specs.declared.answer.Answer.{Answer}
 use Rattle.hm_model.specs.declared.answer.Answer.TheVariants as answer
@@ -17,6 +17,7 @@ use Rattle.hm_sizes.specs.declared.config.Config.{Config}
 use Rattle.hm_turn.specs.Histories.{StartsWith}
 use Rattle.hm_turn.specs.Knowledge.{Knowledge, with_lost}
 use Rattle.hm_turn.specs.Known.{Known}
+use Rattle.hm_turn.proofs.Histories.{starts_itself}
 use Rattle.hm_heap.specs.Calls.{replied, at_home, home_place, allot_plan, free_plan, IsMallocPlan}
 use Rattle.hm_heap.specs.Passes.{PassView}
 use Rattle.hm_heap.specs.Parts.{who_of, HasTried}
@@ -24,34 +25,11 @@ use Rattle.hm_heap.specs.Plans.{Plan, Done, Part, Follows, GoesOn, Tries}
 use Rattle.hm_replay.specs.Uses.{Own}
 use Rattle.hm_replay.specs.Steps.{Answers}
 use Rattle.hm_replay.specs.Gains.{is_busy, mine_of, Gains, Grew, AllGrew}
-use Rattle.hm_replay.proofs.Gaining.{starts_itself, all_grew_one, all_grew_none, gains_none, gains_then}
+use Rattle.hm_replay.proofs.Gaining.{all_grew_one, all_grew_none, gains_none, gains_then}
 
 -- ---- the answer Busy
 abbrev pub IsBusy : Result Answer NoMemory → Type 0
-IsBusy (Ok answer.Busy) = Unit {0}
-IsBusy r = ⊥
-
-pub busy_is : (a : Answer) → is_busy a ≡ true → IsBusy (Ok a)
-busy_is answer.Busy e = tt
-busy_is (answer.Reply r) e = absurd (true≢false (sym e))
-busy_is answer.Overflow e = absurd (true≢false (sym e))
-busy_is answer.BadAlignment e = absurd (true≢false (sym e))
-busy_is answer.TooLarge e = absurd (true≢false (sym e))
-busy_is answer.Outside e = absurd (true≢false (sym e))
-busy_is (answer.HalfMoved a usable cause) e = absurd (true≢false (sym e))
-busy_is (answer.Kept a usable) e = absurd (true≢false (sym e))
-busy_is answer.Nothing e = absurd (true≢false (sym e))
-
-pub busy_not : (a : Answer) → is_busy a ≡ false → IsBusy (Ok a) → ⊥
-busy_not answer.Busy e b = true≢false e
-busy_not (answer.Reply r) e b = b
-busy_not answer.Overflow e b = b
-busy_not answer.BadAlignment e b = b
-busy_not answer.TooLarge e b = b
-busy_not answer.Outside e b = b
-busy_not (answer.HalfMoved a usable cause) e b = b
-busy_not (answer.Kept a usable) e b = b
-busy_not answer.Nothing e b = b
+IsBusy r = IsOkAnd r (λ a. is_busy a ≡ true)
 
 -- ---- plans of one part
 abbrev pub IsSingle : Plan → Type 0
@@ -70,12 +48,9 @@ home_single : (home : Option ℕ) (call : Call) → IsSingle (at_home home call)
 home_single None call = tt
 home_single (Some place) call = λ reply. refl
 
-chosen_single : (b : Bool) (p q : Plan) → IsSingle p → IsSingle q → IsSingle (cond b p q)
-chosen_single true p q s t = s
-chosen_single false p q s t = t
-
 pub free_single : (c : Config) (a : ℕ) (stated : Option ℕ) → IsSingle (free_plan c a stated)
-free_single c a stated = chosen_single (a == 0) (Done answer.Nothing) _ tt (home_single (home_place c a) _)
+free_single c a stated =
+    cond_both (a == 0) (Done answer.Nothing) _ IsSingle (λ e. tt) (λ e. home_single (home_place c a) _)
 
 -- ---- the turn was not free: nothing was gained
 pub record Idles (ts us : List Known) : Type 0 where
@@ -92,43 +67,47 @@ lost_grew t u lock e = record {
   begins = subst (λ (k : Knowledge). StartsWith k.seen t.knows.seen) (sym e) (starts_itself t.knows.seen);
 }
 
-idles_one : (ts us : List Known) (place : ℕ) (u : Known) → place < length ts → us ≡ slice_set ts place u → ((t : Known) → (u.lock ≡ (slice_index_or ts place t).lock) × (u.knows ≡ with_lost (slice_index_or ts place t).knows)) → Idles ts us
-idles_one ts us place u inside set lost =
-    let mines : List (List Entry) = map (λ (t : Known). t.knows.mine) ts in
-    let long : place < length mines = omega (arith, inside, length-map ts (λ (t : Known). t.knows.mine)) in
-    let was : mine_of ts place ≡ (slice_index_or ts place u).knows.mine = get_or-map (λ (t : Known). t.knows.mine) ts place u [] inside in
-    let mine : u.knows.mine ≡ (slice_index_or ts place u).knows.mine = ap (λ (k : Knowledge). k.mine) (lost u).1 in
-    let at : (other : ℕ) → mine_of us other ≡ slice_index_or (slice_set mines place u.knows.mine) other [] = λ other. ap (λ z. mine_of z other) set ∙ ap (λ (z : List (List Entry)). slice_index_or z other []) (map-set (λ (t : Known). t.knows.mine) ts place u) in
-    record {
-      gains = record {
-        own = λ other. [];
-        mine = λ other. elim (cases_eq other place) [
-          | inl s ↦ subst (λ (n : ℕ). mine_of us n ≡ mine_of ts n ++ []) (sym s) (at place ∙ (get_or-set_same mines place u.knows.mine [] long ∙ (mine ∙ (sym was ∙ sym (append-nil (mine_of ts place))))))
-          | inr n ↦ at other ∙ (get_or-set_other mines place other u.knows.mine [] n ∙ sym (append-nil (mine_of ts other)))
-        ];
-        is = λ left. refl;
-      };
-      grew = all_grew_one ts us place u inside set (λ t. lost_grew (slice_index_or ts place t) u (lost t).0 (lost t).1);
-    }
+idles_one : (ts us : List Known) (place : ℕ) (u : Known) → place < length ts → us ≡ slice_set ts place u
+    → ((t : Known) → (u.lock ≡ (slice_index_or ts place t).lock) × (u.knows ≡ with_lost (slice_index_or ts place t).knows))
+    → Idles ts us
+idles_one ts us place u inside set lost = record {
+  gains = record {
+    own = λ other. [];
+    mine = λ other.
+        ap (λ z. mine_of z other) set
+        ∙ ap (λ (z : List (List Entry)). slice_index_or z other [])
+        (map-set_same (λ (t : Known). t.knows.mine) ts place u u (ap (λ (k : Knowledge). k.mine) (lost u).1))
+        ∙ sym (append-nil (mine_of ts other));
+    is = λ left. refl;
+  };
+  grew = all_grew_one ts us place u inside set (λ t. lost_grew (slice_index_or ts place t) u (lost t).0 (lost t).1);
+}
 
-part_idle : (p m q : PassView) (step place : ℕ) (who : Who) (call : Call) (next : Reply → Plan) (r : Result Answer NoMemory) (tried : Option (Result Reply NoMemory))
-    → ((reply : Reply) → next reply ≡ replied reply) → IsBusy r → HasTried p m place who call tried
-    → MatchOption tried ((q ≡ m) × (r ≡ Ok answer.Busy)) (GoesOn m q r (λ between reply. Follows between q step 2 (next reply) r)) → Idles p.turns q.turns
+part_idle : (p m q : PassView) (step place : ℕ) (who : Who) (call : Call) (next : Reply → Plan) (r : Result Answer NoMemory)
+    (tried : Option (Result Reply NoMemory)) → ((reply : Reply) → next reply ≡ replied reply) → IsBusy r
+    → HasTried p m place who call tried
+    → MatchOption tried ((q ≡ m) × (r ≡ Ok answer.Busy)) (GoesOn m q r (λ between reply. Follows between q step 2 (next reply) r))
+    → Idles p.turns q.turns
 part_idle p m q step place who call next r None single busy h rest =
-    subst (λ (z : PassView). Idles p.turns z.turns) (sym rest.0) (idles_one p.turns m.turns place h.turn h.inside h.turns_are h.tried)
+    subst (λ (z : PassView). Idles p.turns z.turns) (sym rest.0)
+    (idles_one p.turns m.turns place h.turn h.inside h.turns_are h.tried)
 part_idle p m q step place who call next r (Some (Err e)) single busy h rest = absurd (subst IsBusy rest.1 busy)
 part_idle p m q step place who call next r (Some (Ok reply)) single busy h rest =
-    absurd (subst IsBusy (subst (λ (z : Plan). Follows m q step 2 z r) (single reply) rest).0 busy)
+    absurd (true≢false (sym (subst IsBusy (subst (λ (z : Plan). Follows m q step 2 z r) (single reply) rest).0 busy)))
 
-pub tries_idle : (p q : PassView) (step : ℕ) (plan : Plan) (r : Result Answer NoMemory) → IsSingle plan → IsBusy r → Tries p q step plan r → Idles p.turns q.turns
+pub tries_idle : (p q : PassView) (step : ℕ) (plan : Plan) (r : Result Answer NoMemory) → IsSingle plan → IsBusy r
+    → Tries p q step plan r → Idles p.turns q.turns
 tries_idle p q step (Done a) r single busy t = idles_none p.turns q.turns (ap (λ (z : PassView). z.turns) t.1)
-tries_idle p q step (Part place call next) r single busy t = part_idle p t.between q step place (who_of p step 1) call next r t.tried single busy t.part t.rest
+tries_idle p q step (Part place call next) r single busy t =
+    part_idle p t.between q step place (who_of p step 1) call next r t.tried single busy t.part t.rest
 
 -- ---- it was free: the plan was followed
-part_follows : (p m q : PassView) (step place : ℕ) (call : Call) (next : Reply → Plan) (r : Result Answer NoMemory) (tried : Option (Result Reply NoMemory))
-    → (IsBusy r → ⊥) → m ≡ record p { turns = m.turns } → HasTried p m place (who_of p step 1) call tried
-    → MatchOption tried ((q ≡ m) × (r ≡ Ok answer.Busy)) (GoesOn m q r (λ between reply. Follows between q step 2 (next reply) r)) → Follows p q step 1 (Part place call next) r
-part_follows p m q step place call next r None not same h rest = absurd (not (subst IsBusy (sym rest.1) tt))
+part_follows : (p m q : PassView) (step place : ℕ) (call : Call) (next : Reply → Plan) (r : Result Answer NoMemory)
+    (tried : Option (Result Reply NoMemory)) → (IsBusy r → ⊥) → m ≡ record p { turns = m.turns }
+    → HasTried p m place (who_of p step 1) call tried
+    → MatchOption tried ((q ≡ m) × (r ≡ Ok answer.Busy)) (GoesOn m q r (λ between reply. Follows between q step 2 (next reply) r))
+    → Follows p q step 1 (Part place call next) r
+part_follows p m q step place call next r None not same h rest = absurd (not (subst IsBusy (sym rest.1) refl))
 part_follows p m q step place call next r (Some made) not same h rest = record {
   between = m;
   made = made;
@@ -137,16 +116,20 @@ part_follows p m q step place call next r (Some made) not same h rest = record {
   rest = rest;
 }
 
-pub tries_follows : (p q : PassView) (step : ℕ) (plan : Plan) (r : Result Answer NoMemory) → (IsBusy r → ⊥) → Tries p q step plan r → Follows p q step 1 plan r
+pub tries_follows : (p q : PassView) (step : ℕ) (plan : Plan) (r : Result Answer NoMemory) → (IsBusy r → ⊥)
+    → Tries p q step plan r → Follows p q step 1 plan r
 tries_follows p q step (Done a) r not t = t
-tries_follows p q step (Part place call next) r not t = part_follows p t.between q step place call next r t.tried not t.same t.part t.rest
+tries_follows p q step (Part place call next) r not t =
+    part_follows p t.between q step place call next r t.tried not t.same t.part t.rest
 
 -- ---- the call that waits, after one that found the turn not free
-pub after_busy : (IsPlan : ℕ → Plan → Type 0) (p m q : PassView) (step : ℕ) (r : Result Answer NoMemory) → m ≡ record p { turns = m.turns } → Idles p.turns m.turns
+pub after_busy : (IsPlan : ℕ → Plan → Type 0) (p m q : PassView) (step : ℕ) (r : Result Answer NoMemory)
+    → m ≡ record p { turns = m.turns } → Idles p.turns m.turns
     → IfOk r (λ a. Gains m.turns q.turns (Answers (IsPlan m.thread) (λ part. who_of m step part) a))
     → IfOk r (λ a. Gains p.turns q.turns (Answers (IsPlan p.thread) (λ part. who_of p step part) a))
 after_busy IsPlan p m q step (Err e) same idle g = tt
 after_busy IsPlan p m q step (Ok a) same idle g =
     let B : Own → Own → Type 0 = Answers (IsPlan p.thread) (λ part. who_of p step part) a in
-    gains_then p.turns m.turns q.turns (λ xs ys. xs ≡ ys) B B (λ xs ys zs e b. subst (λ (z : Own). B z zs) (sym e) b) idle.gains
+    gains_then p.turns m.turns q.turns (λ xs ys. xs ≡ ys) B B
+    (λ xs ys zs e b. subst (λ (z : Own). B z zs) (sym e) b) idle.gains
     (subst (λ (z : PassView). Gains m.turns q.turns (Answers (IsPlan z.thread) (λ part. who_of z step part) a)) same g)

@@ -1,5 +1,5 @@
 -- The workers of a round: their passes before and after their scripts are run, and after they are joined.
-use Rattle.std.specs.Prelude.{◌≡◌, ℕ, ◌+◌, ◌-◌, ◌<◌, ◌≤◌, ◌⊎◌, List, [], ◌∷◌, length, slice_index_or, map, IfSome}
+use Rattle.std.specs.Prelude.{◌≡◌, ℕ, ◌+◌, ◌-◌, ◌<◌, ◌≤◌, ◌⊎◌, List, [], ◌∷◌, length, slice_index_or, map, Option, IfSome}
 use Rattle.hm_report.specs.declared.results.Results.{Results}
 use Rattle.hm_sizes.specs.declared.config.Config.{Config}
 use Rattle.hm_trace.specs.Views.{ScriptView}
@@ -71,11 +71,11 @@ abbrev pub after_joins : List Known → List Worker → List Known
 after_joins ts [] = ts
 after_joins ts (w ∷ ws) = after_joins (all_met ts w.pass.turns) ws
 
-pub record FinishedTo {X : Type 0} (result_of : Worker → X) (locks : List Lock) (p q : PassView) (workers : List Worker)
-    (results : List X) : Type 0 where
+pub record FinishedTo (locks : List Lock) (p q : PassView) (workers : List Worker)
+    (results : List (Option Results)) : Type 0 where
   pub same : q ≡ record p { out = p.out - length workers; turns = after_joins p.turns workers }
   pub of : AreOf locks q.turns
-  pub results_are : results ≡ map result_of workers
+  pub results_are : results ≡ map (λ (w : Worker). w.results) workers
   pub knows : 0 < length workers → AllKnow q.turns
 
 -- ---- names are merged

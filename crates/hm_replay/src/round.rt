@@ -123,7 +123,7 @@ fn finish<P: Pages, G: Gate>(
     requires passes { (i : ℕ) (w : _) → i < vec_len workers
         → AreOf heap.now.locks (slice_index_or workers.items i w).pass.turns }
     requires room { (found.old.items ≡ []) × (vec_len workers ≤ vec_capacity found.old) }
-    ensures { FinishedTo (λ w. w.results) heap.now.locks root.old root.new workers.entry.items found.new.items }
+    ensures { FinishedTo heap.now.locks root.old root.new workers.entry.items found.new.items }
 {
     for worker in workers {
         let Worker { pass, results, .. } = worker;

@@ -1,5 +1,6 @@
 -- What the closing of a heap hands out, and the laws of its histories.
 use Rattle.std.proofs.Common.{◌≡◌, ℕ, ◌+◌, ◌<◌, ◌≤◌, Bool, cond, nat_lt, List, [], length, slice_index_or, refl, sym, ◌∙◌, subst, arith}
+use Rattle.std.proofs.lemmas.List.{get_or-map}
 use Rattle.std.proofs.lemmas.Bool.Decides.{nat_tests}
 use Rattle.hm_outside.specs.declared.pages.Pages as pages
 use Rattle.hm_model.specs.declared.entry.Entry.{Entry}
@@ -16,7 +17,7 @@ use Rattle.hm_heap.specs.Laws as heap_laws
 use Rattle.hm_heap.specs.Passes.{PassView, AreOf, region_at}
 use Rattle.hm_replay.specs.Names.{Names}
 use Rattle.hm_replay.specs.Replays.{HasReplayed, ReplaysClose, EntriesAreOfTrace}
-use Rattle.hm_replay.proofs.Turns.{map_index, some_of}
+use Rattle.hm_replay.proofs.Turns.{some_of}
 use Rattle.hmreplay.specs.declared.words.Options.{Options}
 use Rattle.hmreplay.specs.Words.{config_of}
 use Rattle.hmreplay.specs.Replayed.{origin_at, AreEnds, IsReplayed}
@@ -69,7 +70,7 @@ module _ {P : Type 0} (meaning : pages.Ghosts P) where
     pub lawful : IsLawful (origin_at meaning o place (slice_index_or ps place p)) entries
     lawful = lawful_front (origin_at meaning o place (slice_index_or ps place p)) entries begins.later
         (subst (λ (es : List Entry). IsLawful (origin_at meaning o place (slice_index_or ps place p)) es)
-        (sym (map_index (λ (h : History). h.entries) hs place history [] begins.below) ∙ begins.is) end.sound.lawful)
+        (sym (get_or-map (λ (h : History). h.entries) hs place history [] begins.below) ∙ begins.is) end.sound.lawful)
 
     pub place_below : place < region_count (config_of o) + 1
     place_below = omega (arith, begins.below, begins.ends.histories)

@@ -18,4 +18,6 @@ loop-name-preserved c =
     ∙ (ap (λ (l : List Name). merged names l last) (sym steps) ∙ c.loop-name.invariant)))
 
 pub returns : goal.returns
-returns c = ap (λ (l : List Name). merged (held c.loop-name.env) l (held c.args.theirs.now)) (sym c.in-None.ensures.steps.0) ∙ c.loop-name.invariant
+returns c =
+    ap (λ (l : List Name). merged (held c.loop-name.env) l (held c.args.theirs.now)) (sym c.in-None.ensures.steps.0)
+    ∙ c.loop-name.invariant

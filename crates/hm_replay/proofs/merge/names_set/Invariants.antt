@@ -6,4 +6,6 @@ use Rattle.hm_replay.specs.Names.{is_one_of}
 use Rattle.hm_replay.proofs.merge.names_set.Given as goal
 
 abbrev pub invariant-loop-step : goal.invariant-loop-step
-invariant-loop-step l = (q : List ℕ) → (is_one_of q l.names.keys || list_any (sets_name q) (steps_view (drop l.step-index l.steps))) ≡ list_any (sets_name q) (steps_view l.steps)
+invariant-loop-step l = (q : List ℕ)
+    → (is_one_of q l.names.keys || list_any (sets_name q) (steps_view (drop l.step-index l.steps)))
+    ≡ list_any (sets_name q) (steps_view l.steps)

@@ -1,13 +1,37 @@
-use Rattle.std.proofs.Common.{arith, ◌≡◌, ◌∷◌, subst}
+use Rattle.std.proofs.Common.{arith, ◌≡◌, ◌∷◌, List, Option, subst}
+use Rattle.hm_report.specs.declared.results.Results.{Results}
+use Rattle.hm_turn.specs.Known.{Lock}
+use Rattle.hm_heap.specs.Passes.{PassView}
+use Rattle.hm_replay.specs.declared.round.Worker.{Worker}
 use Rattle.hm_replay.proofs.Finishes.{FinishingFrom, finishing_more}
 use Rattle.hm_replay.proofs.round.finish.Goals as goal
 
 pub loop-worker-preserved : goal.loop-worker-preserved
 loop-worker-preserved g c = let i = c.loop-worker.invariant in
-    let e : c.loop-worker.worker-iterator.rest.items ≡ c.in-Some.worker ∷ c.next.new.self.rest.items = c.in-Some.ensures.steps.0 in
-    (rw c.push_reserved.ensures.items (finishing_more (λ w. w.results) c.args.heap.now.locks c.args.root.now c.loop-worker.root c.join.new.root c.args.workers.items c.next.new.self.rest.items c.in-Some.worker c.loop-worker.found.items (subst (λ z. FinishingFrom (λ w. w.results) c.args.heap.now.locks c.args.root.now c.loop-worker.root c.args.workers.items z c.loop-worker.found.items) e i.0) c.join.ensures.root c.join.ensures.callers), grind arith)
+    let e : c.loop-worker.worker-iterator.rest.items ≡ c.in-Some.worker ∷ c.next.new.self.rest.items =
+    c.in-Some.ensures.steps.0 in
+    let locks : List Lock = c.args.heap.now.locks in
+    let workers : List Worker = c.args.workers.items in
+    let p : PassView = c.args.root.now in
+    let q : PassView = c.loop-worker.root in
+    let found : List (Option Results) = c.loop-worker.found.items in (
+      rw c.push_reserved.ensures.items
+          (finishing_more locks p q c.join.new.root workers c.next.new.self.rest.items c.in-Some.worker found
+          (subst (λ z. FinishingFrom locks p q workers z found) e i.0) c.join.ensures.root c.join.ensures.callers),
+      grind arith,
+    )
 
 pub loop-worker-preserved-in-Some : goal.loop-worker-preserved-in-Some
 loop-worker-preserved-in-Some g c = let i = c.loop-worker.invariant in
-    let e : c.loop-worker.worker-iterator.rest.items ≡ c.in-Some.worker ∷ c.next.new.self.rest.items = c.in-Some.ensures.steps.0 in
-    (rw c.push_reserved.ensures.items (finishing_more (λ w. w.results) c.args.heap.now.locks c.args.root.now c.loop-worker.root c.join.new.root c.args.workers.items c.next.new.self.rest.items c.in-Some.worker c.loop-worker.found.items (subst (λ z. FinishingFrom (λ w. w.results) c.args.heap.now.locks c.args.root.now c.loop-worker.root c.args.workers.items z c.loop-worker.found.items) e i.0) c.join.ensures.root c.join.ensures.callers), grind arith)
+    let e : c.loop-worker.worker-iterator.rest.items ≡ c.in-Some.worker ∷ c.next.new.self.rest.items =
+    c.in-Some.ensures.steps.0 in
+    let locks : List Lock = c.args.heap.now.locks in
+    let workers : List Worker = c.args.workers.items in
+    let p : PassView = c.args.root.now in
+    let q : PassView = c.loop-worker.root in
+    let found : List (Option Results) = c.loop-worker.found.items in (
+      rw c.push_reserved.ensures.items
+          (finishing_more locks p q c.join.new.root workers c.next.new.self.rest.items c.in-Some.worker found
+          (subst (λ z. FinishingFrom locks p q workers z found) e i.0) c.join.ensures.root c.join.ensures.callers),
+      grind arith,
+    )

@@ -3,4 +3,6 @@ use Rattle.hm_replay.proofs.Finishes.{FinishingFrom}
 use Rattle.hm_replay.proofs.round.finish.Given as goal
 
 abbrev pub invariant-loop-worker : goal.invariant-loop-worker
-invariant-loop-worker g l = FinishingFrom (λ w. w.results) l.fn.heap.locks l.fn.root l.root l.fn.workers.items l.worker-iterator.rest.items l.found.items × (vec_len l.fn.workers ≤ vec_capacity l.found)
+invariant-loop-worker g l =
+    FinishingFrom l.fn.heap.locks l.fn.root l.root l.fn.workers.items l.worker-iterator.rest.items l.found.items
+    × (vec_len l.fn.workers ≤ vec_capacity l.found)

@@ -16,7 +16,8 @@ loop-worker-preserved c =
     let w = c.worker-item.result in
     let names : Names = held c.args.env.now in
     let lt : i < length ws = omega arith in
-    let taken : take (i + 1) ws ≡ take i ws ++ w ∷ [] = take_more ws i w lt ∙ ap (λ (u : Worker). take i ws ++ u ∷ []) (sym c.worker-item.is) in
+    let taken : take (i + 1) ws ≡ take i ws ++ w ∷ [] =
+    take_more ws i w lt ∙ ap (λ (u : Worker). take i ws ++ u ∷ []) (sym c.worker-item.is) in
     let set : AreSetBy w.script.now.steps c.in-Some.names.keys =
     set_there w _ c.in-Some.names (c.requires i w lt) c.worker-item.is c.in-Some.is in
     c.in_ok-merge.ensures

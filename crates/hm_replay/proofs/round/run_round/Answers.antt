@@ -7,8 +7,8 @@ use Rattle.hm_replay.specs.declared.round.Worker.{Worker}
 use Rattle.hm_replay.specs.Names.{Names, held}
 use Rattle.hm_replay.specs.RoundOf.{ended_in}
 use Rattle.hm_replay.specs.Rounds.{RunsRound}
-use Rattle.hm_replay.specs.Workers.{HasParted, all_settled}
-use Rattle.hm_replay.proofs.Rounding.{AllStarted, AreWorked, begun_seen, run_seen, worked_begun, worked_run, leaves, runs_round, is_made, scripts_are}
+use Rattle.hm_replay.specs.Workers.{all_settled}
+use Rattle.hm_replay.proofs.Rounding.{IsStartedBy, is_made, leaves_begun, leaves_run, runs_round, scripts_are, started_by}
 use Rattle.hm_replay.proofs.round.run_round.Goals as goal
 
 pub returns-then-is_err-clause-root : goal.returns-then-is_err-clause-root
@@ -16,96 +16,95 @@ returns-then-is_err-clause-root g c =
     let s = c.start.ensures in
     let ws = c.start.new.workers in
     let locks : List Lock = c.args.heap.now.locks in
+    let total : ℕ = length c.args.round.now in
     let p : PassView = c.args.root.now in
-    let first : ℕ = p.splits + 1 in
+    let q : PassView = c.start.new.root in
     let names : Names = held c.args.env.now in
-    let n : vec_len ws ≡ length ws.items = ws.ok.0 in
-    let scripts : length c.scripts-scripts.result.now ≡ length c.args.round.now = ap (λ (l : List ScriptView). length l) c.scripts-scripts.ensures.all in
-    let begun : AllStarted locks first c.args.number p names ws.items = λ i w l. s.workers i w (omega (arith, l, n)) in
-    let parted : HasParted locks (length ws.items) p c.start.new.root = subst (λ (k : ℕ). HasParted locks k p c.start.new.root) n s.root in
-    leaves (λ (w : Worker). w.results) locks (length c.args.round.now) p c.start.new.root c.finish.new.root ws.items _ c.requires.of parted
-    (worked_begun locks first c.args.number p names ws.items begun) (begun_seen locks first c.args.number p names ws.items begun) (omega (arith, s.some, n, scripts)) c.finish.ensures
+    let started : IsStartedBy locks c.args.number total p q names ws.items =
+    started_by locks c.args.number _ total p q names ws.items (vec_len ws) ws.ok.0 c.requires.of s.root s.workers s.some
+    (ap (λ (l : List ScriptView). length l) c.scripts-scripts.ensures.all) in
+    leaves_begun locks c.args.number total p q names ws.items started c.finish.new.root _ c.finish.ensures
 
 pub returns-in_err-results-clause-root : goal.returns-in_err-results-clause-root
 returns-in_err-results-clause-root g c =
     let s = c.start.ensures in
     let ws = c.start.new.workers in
-    let vs = c.work.new.workers in
     let locks : List Lock = c.args.heap.now.locks in
+    let total : ℕ = length c.args.round.now in
     let p : PassView = c.args.root.now in
-    let first : ℕ = p.splits + 1 in
+    let q : PassView = c.start.new.root in
     let names : Names = held c.args.env.now in
-    let n : vec_len ws ≡ length ws.items = ws.ok.0 in
-    let m : vec_len vs ≡ length vs.items = vs.ok.0 in
-    let e : length vs.items ≡ length ws.items = omega (arith, c.work.ensures.len, n, m) in
-    let scripts : length c.scripts-scripts.result.now ≡ length c.args.round.now = ap (λ (l : List ScriptView). length l) c.scripts-scripts.ensures.all in
-    let begun : AllStarted locks first c.args.number p names ws.items = λ i w l. s.workers i w (omega (arith, l, n)) in
-    let parted : HasParted locks (length vs.items) p c.start.new.root = subst (λ (k : ℕ). HasParted locks k p c.start.new.root) (n ∙ sym e) s.root in
-    let worked : AreWorked locks first vs.items = worked_run locks first c.args.number p names ws.items vs.items e begun c.work.ensures.run in
-    leaves (λ (w : Worker). w.results) locks (length c.args.round.now) p c.start.new.root c.finish-2.new.root vs.items _ c.requires.of parted worked
-    (run_seen locks first c.args.number p names ws.items vs.items e begun c.work.ensures.run) (omega (arith, e, s.some, n, scripts)) c.finish-2.ensures
+    let started : IsStartedBy locks c.args.number total p q names ws.items =
+    started_by locks c.args.number _ total p q names ws.items (vec_len ws) ws.ok.0 c.requires.of s.root s.workers s.some
+    (ap (λ (l : List ScriptView). length l) c.scripts-scripts.ensures.all) in
+    let vs = c.work.new.workers in
+    leaves_run locks c.args.number total p q names ws.items started vs.items
+    (sym vs.ok.0 ∙ c.work.ensures.len ∙ ws.ok.0) c.work.ensures.run
+    c.finish-2.new.root _ c.finish-2.ensures
 
 pub returns-in_err-env-clause-root : goal.returns-in_err-env-clause-root
 returns-in_err-env-clause-root g c =
     let s = c.start.ensures in
     let ws = c.start.new.workers in
-    let vs = c.work.new.workers in
     let locks : List Lock = c.args.heap.now.locks in
+    let total : ℕ = length c.args.round.now in
     let p : PassView = c.args.root.now in
-    let first : ℕ = p.splits + 1 in
+    let q : PassView = c.start.new.root in
     let names : Names = held c.args.env.now in
-    let n : vec_len ws ≡ length ws.items = ws.ok.0 in
-    let m : vec_len vs ≡ length vs.items = vs.ok.0 in
-    let e : length vs.items ≡ length ws.items = omega (arith, c.work.ensures.len, n, m) in
-    let scripts : length c.scripts-scripts.result.now ≡ length c.args.round.now = ap (λ (l : List ScriptView). length l) c.scripts-scripts.ensures.all in
-    let begun : AllStarted locks first c.args.number p names ws.items = λ i w l. s.workers i w (omega (arith, l, n)) in
-    let parted : HasParted locks (length vs.items) p c.start.new.root = subst (λ (k : ℕ). HasParted locks k p c.start.new.root) (n ∙ sym e) s.root in
-    let worked : AreWorked locks first vs.items = worked_run locks first c.args.number p names ws.items vs.items e begun c.work.ensures.run in
-    leaves (λ (w : Worker). w.results) locks (length c.args.round.now) p c.start.new.root c.finish-2.new.root vs.items _ c.requires.of parted worked
-    (run_seen locks first c.args.number p names ws.items vs.items e begun c.work.ensures.run) (omega (arith, e, s.some, n, scripts)) c.finish-2.ensures
+    let started : IsStartedBy locks c.args.number total p q names ws.items =
+    started_by locks c.args.number _ total p q names ws.items (vec_len ws) ws.ok.0 c.requires.of s.root s.workers s.some
+    (ap (λ (l : List ScriptView). length l) c.scripts-scripts.ensures.all) in
+    let vs = c.work.new.workers in
+    leaves_run locks c.args.number total p q names ws.items started vs.items
+    (sym vs.ok.0 ∙ c.work.ensures.len ∙ ws.ok.0) c.work.ensures.run
+    c.finish-2.new.root _ c.finish-2.ensures
 
 pub returns-clause-root : goal.returns-clause-root
 returns-clause-root g c =
     let s = c.start.ensures in
     let ws = c.start.new.workers in
-    let vs = c.work.new.workers in
     let locks : List Lock = c.args.heap.now.locks in
+    let total : ℕ = length c.args.round.now in
     let p : PassView = c.args.root.now in
-    let first : ℕ = p.splits + 1 in
+    let q : PassView = c.start.new.root in
     let names : Names = held c.args.env.now in
-    let n : vec_len ws ≡ length ws.items = ws.ok.0 in
-    let m : vec_len vs ≡ length vs.items = vs.ok.0 in
-    let e : length vs.items ≡ length ws.items = omega (arith, c.work.ensures.len, n, m) in
-    let scripts : length c.scripts-scripts.result.now ≡ length c.args.round.now = ap (λ (l : List ScriptView). length l) c.scripts-scripts.ensures.all in
-    let begun : AllStarted locks first c.args.number p names ws.items = λ i w l. s.workers i w (omega (arith, l, n)) in
-    let parted : HasParted locks (length vs.items) p c.start.new.root = subst (λ (k : ℕ). HasParted locks k p c.start.new.root) (n ∙ sym e) s.root in
-    let worked : AreWorked locks first vs.items = worked_run locks first c.args.number p names ws.items vs.items e begun c.work.ensures.run in
-    leaves (λ (w : Worker). w.results) locks (length c.args.round.now) p c.start.new.root c.finish-2.new.root vs.items _ c.requires.of parted worked
-    (run_seen locks first c.args.number p names ws.items vs.items e begun c.work.ensures.run) (omega (arith, e, s.some, n, scripts)) c.finish-2.ensures
+    let started : IsStartedBy locks c.args.number total p q names ws.items =
+    started_by locks c.args.number _ total p q names ws.items (vec_len ws) ws.ok.0 c.requires.of s.root s.workers s.some
+    (ap (λ (l : List ScriptView). length l) c.scripts-scripts.ensures.all) in
+    let vs = c.work.new.workers in
+    leaves_run locks c.args.number total p q names ws.items started vs.items
+    (sym vs.ok.0 ∙ c.work.ensures.len ∙ ws.ok.0) c.work.ensures.run
+    c.finish-2.new.root _ c.finish-2.ensures
 
 pub returns-clause-ran : goal.returns-clause-ran
 returns-clause-ran g c =
     let s = c.start.ensures in
     let ws = c.start.new.workers in
-    let vs = c.work.new.workers in
     let locks : List Lock = c.args.heap.now.locks in
+    let total : ℕ = length c.args.round.now in
     let p : PassView = c.args.root.now in
-    let first : ℕ = p.splits + 1 in
+    let q : PassView = c.start.new.root in
     let names : Names = held c.args.env.now in
-    let n : vec_len ws ≡ length ws.items = ws.ok.0 in
-    let m : vec_len vs ≡ length vs.items = vs.ok.0 in
-    let e : length vs.items ≡ length ws.items = omega (arith, c.work.ensures.len, n, m) in
-    let scripts : length c.scripts-scripts.result.now ≡ length c.args.round.now = ap (λ (l : List ScriptView). length l) c.scripts-scripts.ensures.all in
-    let begun : AllStarted locks first c.args.number p names ws.items = λ i w l. s.workers i w (omega (arith, l, n)) in
-    let parted : HasParted locks (length vs.items) p c.start.new.root = subst (λ (k : ℕ). HasParted locks k p c.start.new.root) (n ∙ sym e) s.root in
-    let worked : AreWorked locks first vs.items = worked_run locks first c.args.number p names ws.items vs.items e begun c.work.ensures.run in
+    let started : IsStartedBy locks c.args.number total p q names ws.items =
+    started_by locks c.args.number _ total p q names ws.items (vec_len ws) ws.ok.0 c.requires.of s.root s.workers s.some
+    (ap (λ (l : List ScriptView). length l) c.scripts-scripts.ensures.all) in
+    let vs = c.work.new.workers in
+    let z : PassView = c.finish-2.new.root in
+    let config = c.args.heap.now.config in
+    let rs : List Results = c.in_ok-results.results.items in
+    let same : length vs.items ≡ length ws.items = sym vs.ok.0 ∙ c.work.ensures.len ∙ ws.ok.0 in
     let all : vec_len ws ≡ length c.scripts-scripts.result.now = grind arith in
     let of_round : map (λ (w : Worker). w.script.now) vs.items ≡ c.args.round.now =
-    scripts_are ws.items vs.items c.scripts-scripts.result.now e (omega (arith, all, n)) c.work.ensures.script (λ i w x l. s.scripts i w x (omega (arith, l, n))) ∙ c.scripts-scripts.ensures.all in
-    let z : PassView = c.finish-2.new.root in
-    let last : held c.in_ok-env.field-0 ≡ all_settled names vs.items = c.in_ok-env.ensures ∙ ap (λ (l : List Worker). all_settled names l) c.deref.ensures.value in
-    let rs : List Results = c.in_ok-results.results.items in
-    subst (λ (l : Names). RunsRound c.args.heap.now.config (ended_in z.turns) first c.args.number names names c.args.round.now rs l) (sym last)
-    (subst (λ (l : List ScriptView). RunsRound c.args.heap.now.config (ended_in z.turns) first c.args.number names names l rs (all_settled names vs.items)) of_round
-    (runs_round c.args.heap.now.config (ended_in z.turns) first c.args.number names names vs.items rs (c.in_ok-results.ensures ∙ c.finish-2.ensures.results_are)
-    (is_made (λ (w : Worker). w.results) c.args.heap.now.config c.args.number names locks p c.start.new.root z ws.items vs.items _ parted e begun worked c.work.ensures.made c.work.ensures.script c.finish-2.ensures)))
+    scripts_are ws.items vs.items c.scripts-scripts.result.now same (sym ws.ok.0 ∙ all) c.work.ensures.script
+    (λ i w x l. s.scripts i w x (omega (arith, l, ws.ok.0))) ∙ c.scripts-scripts.ensures.all in
+    let last : held c.in_ok-env.field-0 ≡ all_settled names vs.items =
+    c.in_ok-env.ensures ∙ ap (λ (l : List Worker). all_settled names l) c.deref.ensures.value in
+    subst (λ (l : Names). RunsRound config (ended_in z.turns)
+    (p.splits + 1) c.args.number names names c.args.round.now rs l) (sym last)
+    (subst (λ (l : List ScriptView). RunsRound config (ended_in z.turns) (p.splits + 1) c.args.number names names l rs
+    (all_settled names vs.items)) of_round
+    (runs_round config (ended_in z.turns) (p.splits + 1) c.args.number names names vs.items rs
+    (c.in_ok-results.ensures ∙ c.finish-2.ensures.results_are)
+    (is_made config locks c.args.number total p q z names ws.items vs.items _ started same c.work.ensures.run
+    c.work.ensures.made c.work.ensures.script
+    c.finish-2.ensures)))

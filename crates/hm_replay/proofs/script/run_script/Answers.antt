@@ -1,8 +1,7 @@
-use Rattle.std.proofs.Common.{List, sym, subst}
-use Rattle.hm_report.specs.declared.results.StepResult.{StepResult}
-use Rattle.hm_trace.specs.Views.{StepView}
+use Rattle.std.proofs.Common.{sym}
+use mathlib.Core.Path.{transport}
 use Rattle.hm_replay.specs.Gains.{terms_of, mine_of}
-use Rattle.hm_replay.specs.Names.{held}
+use Rattle.hm_replay.specs.Names.{Names, held}
 use Rattle.hm_replay.specs.Scripts.{Runs, IsRun}
 use Rattle.hm_replay.proofs.Running.{gained_all}
 use Rattle.hm_replay.proofs.script.run_script.Goals as goal
@@ -11,6 +10,8 @@ pub returns-clause-ran : goal.returns-clause-ran
 returns-clause-ran g c =
     let t = terms_of c.args.heap.now c.args.pass.now in
     let q = c.run_steps.new.pass in
-    subst (λ (l : List StepResult). IsRun t (held c.args.env.now) c.args.script.now.steps l (held c.run_steps.new.env) (mine_of q.turns)) (sym c.of.ensures)
-    (subst (λ (v : List StepView). IsRun t (held c.args.env.now) v c.in_ok-items.items.items (held c.run_steps.new.env) (mine_of q.turns)) c.steps.ensures.all
-    (gained_all c.args.pass.now.turns q.turns (Runs t 1 (held c.args.env.now) _ c.in_ok-items.items.items (held c.run_steps.new.env)) c.requires.fresh c.in_ok-items.ensures.ran))
+    let names : Names = held c.args.env.now in
+    let last : Names = held c.run_steps.new.env in
+    transport (λ i. IsRun t names (c.steps.ensures.all i) (sym c.of.ensures i) last (mine_of q.turns))
+    (gained_all c.args.pass.now.turns q.turns (Runs t 1 names _ c.in_ok-items.items.items last) c.requires.fresh
+    c.in_ok-items.ensures.ran)

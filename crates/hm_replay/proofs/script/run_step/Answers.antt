@@ -8,10 +8,13 @@ use Rattle.hm_replay.proofs.script.run_step.Goals as goal
 
 pub returns-in_default-clause-ran : goal.returns-in_default-clause-ran
 returns-in_default-clause-ran g c =
-    gains_skipped c.args.pass.now.turns (terms_of c.args.heap.now c.args.pass.now) c.args.step_number (step_view c.args.step.now) (base_of (held c.args.env.now) (step_view c.args.step.now))
+    gains_skipped c.args.pass.now.turns (terms_of c.args.heap.now c.args.pass.now) c.args.step_number
+    (step_view c.args.step.now) (base_of (held c.args.env.now) (step_view c.args.step.now))
     (sym c.in_default.is ∙ c.base_of.ensures)
 
 pub returns-clause-ran : goal.returns-clause-ran
 returns-clause-ran g c =
-    gains_called c.args.pass.now.turns c.call.new.pass.turns (terms_of c.args.heap.now c.args.pass.now) c.args.step_number c.in-Some.base (step_view c.args.step.now) (base_of (held c.args.env.now) (step_view c.args.step.now)) c.in_ok-answer.answer
+    gains_called c.args.pass.now.turns c.call.new.pass.turns
+    (terms_of c.args.heap.now c.args.pass.now) c.args.step_number c.in-Some.base (step_view c.args.step.now)
+    (base_of (held c.args.env.now) (step_view c.args.step.now)) c.in_ok-answer.answer
     (sym c.in-Some.is ∙ c.base_of.ensures) c.in_ok-answer.ensures.gains

@@ -1,9 +1,8 @@
 use Rattle.std.proofs.Common.{◌≡◌, take}
 use Rattle.hm_trace.specs.Views.{steps_view}
 use Rattle.hm_heap.specs.Passes.{AreOf}
-use Rattle.hm_replay.specs.Gains.{Gains, AllGrew, terms_of}
+use Rattle.hm_replay.specs.Gains.{GainsResults, AllGrew}
 use Rattle.hm_replay.specs.Names.{held}
-use Rattle.hm_replay.specs.Scripts.{Runs}
 use Rattle.hm_replay.proofs.script.run_steps.Given as goal
 
 -- the steps so far were run
@@ -12,5 +11,5 @@ invariant-loop-index g l = record {
   same : l.pass ≡ record l.fn.pass { turns = l.pass.turns };
   of : AreOf l.fn.heap.locks l.pass.turns;
   grew : AllGrew l.fn.pass.turns l.pass.turns;
-  ran : Gains l.fn.pass.turns l.pass.turns (Runs (terms_of l.fn.heap l.fn.pass) 1 (held l.fn.env) (steps_view (take l.index l.steps)) l.results.items (held l.env));
+  ran : GainsResults l.fn.heap l.fn.pass l.pass (held l.fn.env) (steps_view (take l.index l.steps)) l.results.items (held l.env);
 }

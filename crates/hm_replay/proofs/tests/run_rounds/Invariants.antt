@@ -3,4 +3,6 @@ use Rattle.hm_heap.specs.Passes.{AreOf}
 use Rattle.hm_replay.proofs.tests.run_rounds.Given as goal
 
 abbrev pub invariant-loop-index : goal.invariant-loop-index
-invariant-loop-index g l = AreOf l.fn.heap.locks l.root.turns × ((l.root.caller ≡ 0) × (l.root.splits ≤ 16 * l.index) × (l.root.out ≡ l.fn.root.out))
+invariant-loop-index g l =
+    AreOf l.fn.heap.locks l.root.turns
+    × ((l.root.caller ≡ 0) × (l.root.splits ≤ 16 * l.index) × (l.root.out ≡ l.fn.root.out))

@@ -14,4 +14,6 @@ returns-clause-value c =
 
 pub returns-clause-reach : goal.returns-clause-reach
 returns-clause-reach c = subst (λ (o : Option ℕ). IfSome o IsInReach)
-    (sym (c.copied.ensures ∙ c.get.ensures.value ∙ looked c.self.inside.addresses.entries (name_view c.args.name.now))) (c.self.invariant (name_view c.args.name.now))
+    (sym (c.copied.ensures ∙ c.get.ensures.value
+    ∙ looked c.self.inside.addresses.entries (name_view c.args.name.now)))
+    (c.self.invariant (name_view c.args.name.now))
