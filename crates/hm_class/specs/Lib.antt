@@ -10,3 +10,5 @@ pub mod Finds
 pub mod Frees
 pub mod Judgements
 pub mod Access
+pub use Rattle.hm_class_rules.specs.Rules
+pub use Rattle.hm_class_rules.specs.Drawn

@@ -14,12 +14,12 @@ use Rattle.hm_model.specs.declared.entry.Reply.TheVariants.{Given, Overwritten, 
 use Rattle.hm_model.specs.Maps.{at, has, keys}
 use Rattle.hm_model.specs.Runs.{expand}
 use Rattle.hm_model.proofs.Lists.{eq_same}
-use Rattle.hm_class_rules.specs.Rules as class
+use Rattle.hm_heap.specs.ClassRules as class
 use Rattle.hm_class_rules.specs.State as class_state
 use Rattle.hm_class_rules.specs.State.{Slab}
 use Rattle.hm_class_rules.specs.Steps.{opened}
 use Rattle.hm_large.specs.Blocks as blocks
-use Rattle.hm_large.specs.Rules as large
+use Rattle.hm_heap.specs.LargeRules as large
 use Rattle.hm_large.specs.State as large_state
 use Rattle.hmreplay.specs.Refusals.{RefusesFree, RefusesMeasure, RefusesAllot, Traps, RefusesClass, RefusesLargeAllot, RefusesLargeFree, TrapsLarge, RefusesLarge}
 

@@ -7,10 +7,10 @@ use Rattle.hm_sizes.specs.Origins.{large_region_number}
 use Rattle.hm_sizes.specs.Shapes.{usable, delay}
 use Rattle.hm_class_rules.specs.Bytes.{byte_at}
 use Rattle.hm_class_rules.specs.Laws as class_laws
-use Rattle.hm_class_rules.specs.Rules as class
+use Rattle.hm_heap.specs.ClassRules as class
 use Rattle.hm_large.specs.Blocks as blocks
 use Rattle.hm_large.specs.Laws as large_laws
-use Rattle.hm_large.specs.Rules as large
+use Rattle.hm_heap.specs.LargeRules as large
 use Rattle.hm_heap.specs.declared.close.History.{History}
 use Rattle.hm_heap.specs.Lawful.{class_terms, large_terms}
 use Rattle.hm_heap.specs.Laws.{IsOfBlock}

@@ -1,8 +1,8 @@
 use Rattle.std.proofs.Common.{[], ◌∷◌, ◌++◌}
 use Rattle.hm_class_rules.proofs.Legal as class_legal
-use Rattle.hm_class_rules.specs.Rules as class
+use Rattle.hm_heap.specs.ClassRules as class
 use Rattle.hm_large.proofs.Legal as large_legal
-use Rattle.hm_large.specs.Rules as large
+use Rattle.hm_heap.specs.LargeRules as large
 use Rattle.hmreplay.specs.Laws.{class_at, large_at}
 use Rattle.hmreplay.proofs.Causes.{refuses_class, refuses_large}
 use Rattle.hmreplay.proofs.Outcomes.{lawful}
