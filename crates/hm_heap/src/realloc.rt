@@ -18,12 +18,18 @@ use hm_outside::{Gate, NoMemory, Pages};
 use hm_sizes::{Config, Kind, class_of};
 use std::sync::Wait;
 
-/// A block that is moved: the places of its region and of the new block's, its address, and the new block.
+/// A block that may have to move: its address, the place of its region, and that of the region of a new block.
 #[derive(Clone, Copy, Debug, PartialEq, Eq, Drop)]
-struct Move {
+struct Source {
     home: usize,
     place: usize,
     addr: u64,
+}
+
+/// A block that is moved, and the new block.
+#[derive(Clone, Copy, Debug, PartialEq, Eq, Drop)]
+struct Move {
+    source: Source,
     new: u64,
     usable: u64,
 }
@@ -52,19 +58,19 @@ impl<'g, P: Pages, G: Gate> Heap<'g, P, G> {
         moved: Move,
     ) -> Result<Answer, NoMemory>
         requires of { AreOf self.now.locks pass.old.turns }
-        requires home { moved.home < length self.now.locks }
+        requires home { moved.source.home < length self.now.locks }
         requires reach { IsInReach moved.new }
         ensures same { pass.new ≡ record pass.old { turns = pass.new.turns } }
         ensures of { AreOf self.now.locks pass.new.turns }
-        ensures answer { Follows pass.old pass.new step part (freeing moved.home moved.addr moved.new moved.usable)
+        ensures answer { Follows pass.old pass.new step part (freeing moved.source.home moved.source.addr moved.new moved.usable)
             result }
         ensures reach { IfOk result AnswerInReach }
     {
         let request = Request::GiveBack {
-            addr: moved.addr,
+            addr: moved.source.addr,
             stated: None,
         };
-        match self.make(rt, pass, moved.home, step, part, request)? {
+        match self.make(rt, pass, moved.source.home, step, part, request)? {
             Reply::Freed => Ok(Answer::Reply(Reply::Given {
                 addr: moved.new,
                 usable: moved.usable,
@@ -83,14 +89,14 @@ impl<'g, P: Pages, G: Gate> Heap<'g, P, G> {
         runs: &Runs,
     ) -> Result<Answer, NoMemory>
         requires of { AreOf self.now.locks pass.old.turns }
-        requires home { moved.home < length self.now.locks }
-        requires place { moved.place < length self.now.locks }
-        requires asks { Asks (region_at self.now.config moved.place) (call.Fill moved.new runs.now) }
+        requires home { moved.source.home < length self.now.locks }
+        requires place { moved.source.place < length self.now.locks }
+        requires asks { Asks (region_at self.now.config moved.source.place) (call.Fill moved.new runs.now) }
         requires reach { IsInReach moved.new }
         ensures same { pass.new ≡ record pass.old { turns = pass.new.turns } }
         ensures of { AreOf self.now.locks pass.new.turns }
         ensures answer { Follows pass.old pass.new step 4
-            (Part moved.place (call.Fill moved.new runs.now) (filled moved.home moved.addr moved.new moved.usable))
+            (Part moved.source.place (call.Fill moved.new runs.now) (filled moved.source.home moved.source.addr moved.new moved.usable))
             result }
         ensures reach { IfOk result AnswerInReach }
     {
@@ -98,7 +104,7 @@ impl<'g, P: Pages, G: Gate> Heap<'g, P, G> {
             addr: moved.new,
             runs,
         };
-        match self.make(rt, pass, moved.place, step, 4, request)? {
+        match self.make(rt, pass, moved.source.place, step, 4, request)? {
             Reply::Filled => self.release(rt, pass, step, 5, moved),
             cause => Ok(moved.half(cause)),
         }
@@ -114,24 +120,24 @@ impl<'g, P: Pages, G: Gate> Heap<'g, P, G> {
         count: u64,
     ) -> Result<Answer, NoMemory>
         requires of { AreOf self.now.locks pass.old.turns }
-        requires home { moved.home < length self.now.locks }
-        requires place { moved.place < length self.now.locks }
-        requires reach { IsInReach moved.addr × IsInReach moved.new }
+        requires home { moved.source.home < length self.now.locks }
+        requires place { moved.source.place < length self.now.locks }
+        requires reach { IsInReach moved.source.addr × IsInReach moved.new }
         requires few { count ≤ 2 ^ 30 }
         ensures same { pass.new ≡ record pass.old { turns = pass.new.turns } }
         ensures of { AreOf self.now.locks pass.new.turns }
         ensures answer { Follows pass.old pass.new step 3
-            (copying moved.home moved.place moved.addr moved.new moved.usable count) result }
+            (copying moved.source.home moved.source.place moved.source.addr moved.new moved.usable count) result }
         ensures reach { IfOk result AnswerInReach }
     {
         if count == 0 {
             return self.release(rt, pass, step, 3, moved);
         }
         let request = Request::Fetch {
-            addr: moved.addr,
+            addr: moved.source.addr,
             len: count,
         };
-        match self.make(rt, pass, moved.home, step, 3, request)? {
+        match self.make(rt, pass, moved.source.home, step, 3, request)? {
             Reply::Bytes(runs) => self.fill_new(rt, pass, step, moved, &runs),
             cause => Ok(moved.half(cause)),
         }
@@ -144,31 +150,27 @@ impl<'g, P: Pages, G: Gate> Heap<'g, P, G> {
         rt: &R,
         pass: &mut Pass,
         step: u32,
-        home: usize,
-        place: usize,
-        addr: u64,
+        source: Source,
         asked: u64,
         count: u64,
     ) -> Result<Answer, NoMemory>
         requires of { AreOf self.now.locks pass.old.turns }
-        requires home { home < length self.now.locks }
-        requires place { place < length self.now.locks }
-        requires reach { IsInReach addr }
+        requires home { source.home < length self.now.locks }
+        requires place { source.place < length self.now.locks }
+        requires reach { IsInReach source.addr }
         requires few { count ≤ 2 ^ 30 }
-        requires asks { Asks (region_at self.now.config place) (call.Allot asked 1) }
+        requires asks { Asks (region_at self.now.config source.place) (call.Allot asked 1) }
         ensures same { pass.new ≡ record pass.old { turns = pass.new.turns } }
         ensures of { AreOf self.now.locks pass.new.turns }
         ensures answer { Follows pass.old pass.new step 2
-            (Part place (call.Allot asked 1) (allotted home place addr count)) result }
+            (Part source.place (call.Allot asked 1) (allotted source.home source.place source.addr count)) result }
         ensures reach { IfOk result AnswerInReach }
     {
         let request = Request::Allot { asked, align: 1 };
-        match self.make(rt, pass, place, step, 2, request)? {
+        match self.make(rt, pass, source.place, step, 2, request)? {
             Reply::Given { addr: new, usable } => {
                 let moved = Move {
-                    home,
-                    place,
-                    addr,
+                    source,
                     new,
                     usable,
                 };
@@ -185,32 +187,31 @@ impl<'g, P: Pages, G: Gate> Heap<'g, P, G> {
         rt: &R,
         pass: &mut Pass,
         step: u32,
-        home: usize,
-        place: usize,
-        addr: u64,
+        source: Source,
         asked: u64,
         kind: Kind,
     ) -> Result<Answer, NoMemory>
         requires of { AreOf self.now.locks pass.old.turns }
-        requires home { home < length self.now.locks }
-        requires place { place < length self.now.locks }
-        requires reach { IsInReach addr }
+        requires home { source.home < length self.now.locks }
+        requires place { source.place < length self.now.locks }
+        requires reach { IsInReach source.addr }
         requires few { asked ≤ 2 ^ 30 }
-        requires asks { Asks (region_at self.now.config place) (call.Allot asked 1) }
+        requires asks { Asks (region_at self.now.config source.place) (call.Allot asked 1) }
         ensures same { pass.new ≡ record pass.old { turns = pass.new.turns } }
         ensures of { AreOf self.now.locks pass.new.turns }
         ensures answer { Follows pass.old pass.new step 1
-            (Part home (call.Measure addr) (measured home place addr asked (keeps self.now.config home kind)))
-            result }
+            (Part source.home (call.Measure source.addr)
+            (measured source.home source.place source.addr asked (keeps self.now.config source.home kind))) result }
         ensures reach { IfOk result AnswerInReach }
     {
+        let Source { home, addr, .. } = source;
         let request = Request::Measure { addr };
         match self.make(rt, pass, home, step, 1, request)? {
             Reply::Usable(old) => {
                 if keeps(&self.config, home, kind, old) {
                     Ok(Answer::Kept { addr, usable: old })
                 } else {
-                    self.move_block(rt, pass, step, home, place, addr, asked, old.min(asked))
+                    self.move_block(rt, pass, step, source, asked, old.min(asked))
                 }
             }
             refused => Ok(Answer::Reply(refused)),
@@ -242,7 +243,10 @@ impl<'g, P: Pages, G: Gate> Heap<'g, P, G> {
         }
         match home_place(&self.config, addr) {
             None => Ok(Answer::Outside),
-            Some(home) => self.resize(rt, pass, step, home, place, addr, asked, kind),
+            Some(home) => {
+                let source = Source { home, place, addr };
+                self.resize(rt, pass, step, source, asked, kind)
+            }
         }
     }
 }
