@@ -4,6 +4,7 @@ use Rattle.std.specs.List.{list_all}
 use Rattle.hm_report.specs.declared.results.Results.{Results}
 use Rattle.hm_report.specs.Findings.{ascends}
 use Rattle.hm_sizes.specs.declared.config.Config.{Config}
+use Rattle.hm_trace.specs.Limits.{max_threads}
 use Rattle.hm_trace.specs.Traces.{is_round}
 use Rattle.hm_trace.specs.Views.{ScriptView}
 use Rattle.hm_turn.specs.Known.{Lock, Known, IsWhole}
@@ -70,7 +71,7 @@ EntriesAreOfTrace = (c : Config) (hs : List History) (rounds : List (List Script
 
 -- of the scripts of a round
 abbrev pub RoundsAreSmall : Type 0
-RoundsAreSmall = (scripts : List ScriptView) → is_round scripts ≡ true → length scripts ≤ 16
+RoundsAreSmall = (scripts : List ScriptView) → is_round scripts ≡ true → length scripts ≤ max_threads
 
 -- of the results' order, which is that of a report
 abbrev pub ResultsAscend : Type 0

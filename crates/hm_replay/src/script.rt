@@ -1,6 +1,7 @@
 //! One script, step by step.
 ghost use Rattle.std.specs.Prelude.{◌≡◌, ◌≤◌, ℕ, [], length, true, IfOk};
 ghost use Rattle.std.specs.List.{list_all};
+ghost use Rattle.hm_trace.specs.Limits.{max_steps};
 ghost use Rattle.hm_trace.specs.Traces.{is_step};
 ghost use Rattle.hm_trace.specs.Views.{step_view, steps_view};
 ghost use Rattle.hm_heap.specs.Passes.{AreOf};
@@ -63,7 +64,7 @@ fn run_steps<R: Wait, P: Pages, G: Gate>(
 ) -> Result<Vec<StepResult>, NoMemory>
     requires of { AreOf heap.now.locks pass.old.turns }
     requires valid { list_all is_step (steps_view steps.now) ≡ true }
-    requires few { length steps.now ≤ 200000 }
+    requires few { length steps.now ≤ max_steps }
     ensures same { pass.new ≡ record pass.old { turns = pass.new.turns } }
     ensures of { AreOf heap.now.locks pass.new.turns }
     ensures grew { AllGrew pass.old.turns pass.new.turns }
