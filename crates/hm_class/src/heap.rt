@@ -140,20 +140,6 @@ impl<P: Pages> ClassHeap<P> {
         })
     }
 
-    /// Its seed.
-    pub fn number(&self) -> u64
-        ensures { result ≡ self.now.number }
-    {
-        self.number
-    }
-
-    /// Its size class.
-    pub fn class(&self) -> ClassId
-        ensures { result ≡ self.now.class }
-    {
-        self.shape.class
-    }
-
     /// Where its slabs and slots lie.
     pub fn shape(&self) -> &Shape
         ensures { result.now ≡ region_shape self.now }

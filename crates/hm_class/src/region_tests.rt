@@ -64,7 +64,7 @@ fn region<P: Pages>(alloc: Global, class: u8, base: u32, pages: P) -> Result<Cla
 /// The reply to a request, which must be one of the region's class.
 fn allot<P: Pages>(region: &mut ClassHeap<P>, asked: u64) -> Result<Reply, Fail> {
     match class_of(asked) {
-        Kind::Small(class) if class.0 == region.class().0 => Ok(region.allot(WHO, asked)?),
+        Kind::Small(class) if class.0 == region.shape().class.0 => Ok(region.allot(WHO, asked)?),
         _ => Err(Fail::new("a request of another class")),
     }
 }
@@ -386,8 +386,7 @@ fn readings(rt: HostRuntime) -> Result<(), Fail> {
     let alloc = rt.alloc();
     let mut region = region(alloc, 7, 1, PlainPages::new(alloc))?;
     let block = given(&mut region, 100)?;
-    assert_eq!(rt; region.number(), 0);
-    assert_eq!(rt; region.class(), ClassId(7));
+    assert_eq!(rt; region.shape().class, ClassId(7));
     assert_eq!(rt; region.shape().first, FIRST);
     assert_eq!(rt; region.faults(), 0);
     assert!(rt; region.spare() >= 1, "room for the free");
