@@ -162,23 +162,20 @@ pub fn allot<P: Pages>(
         held: false,
         failed: false,
     };
-    match open(&mut store.blocks, pages, addr, block) {
+    let outcome = match open(&mut store.blocks, pages, addr, block) {
         Ok(()) => {
             take_range(store, addr, size, guard);
-            Ok(Attempt {
-                word,
-                guard,
-                outcome: Outcome::Given(addr),
-            })
+            Outcome::Given(addr)
         }
-        Err(PageRefusal::Failed) => Ok(Attempt {
-            word,
-            guard,
-            outcome: Outcome::PagesFailed,
-        }),
+        Err(PageRefusal::Failed) => Outcome::PagesFailed,
         Err(PageRefusal::NoMemory) => {
             store.words.back();
-            Err(NoMemory)
+            return Err(NoMemory);
         }
-    }
+    };
+    Ok(Attempt {
+        word,
+        guard,
+        outcome,
+    })
 }

@@ -84,18 +84,13 @@ pub fn release(store: &mut Store, addr: u64, block: KeptBlock) -> Freeing
         ..block
     };
     replace(store, addr, held);
-    match store.quarantine.pass(addr, place) {
-        Some(left) => {
-            put_back(store, left);
-            Freeing {
-                released: Some(left),
-                word: Some(word),
-            }
-        }
-        None => Freeing {
-            released: None,
-            word: Some(word),
-        },
+    let released = store.quarantine.pass(addr, place);
+    if let Some(left) = released {
+        put_back(store, left);
+    }
+    Freeing {
+        released,
+        word: Some(word),
     }
 }
 

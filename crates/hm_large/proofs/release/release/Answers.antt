@@ -1,4 +1,4 @@
-use Rattle.std.proofs.Common.{◌≡◌, ◌+◌, ◌-◌, ◌==◌, ℕ, true, false, cond, length, Some, None, sym, ◌∙◌, ap, subst, arith}
+use Rattle.std.proofs.Common.{◌≡◌, ◌+◌, ◌-◌, ◌==◌, ℕ, true, false, cond, length, Option, Some, None, refl, sym, ◌∙◌, ap, subst, arith}
 use Rattle.std.specs.Option.{IfSome}
 use Rattle.std.specs.FinMap as map
 use Rattle.std.proofs.lemmas.Bool.{le-ltb, lt-ltb}
@@ -9,9 +9,14 @@ use Rattle.hm_region_table.specs.declared.entry.Block.{Block as KeptBlock}
 use Rattle.hm_large.specs.declared.store.Store.{Store}
 use Rattle.hm_large.specs.Blocks.{is_quarantined}
 use Rattle.hm_large.specs.Kept.{kept_of}
-use Rattle.hm_large.specs.Stored.{GoesBack, GaveBack}
+use Rattle.hm_large.specs.Stored.{GoesBack, GaveBack, Frees}
+use Rattle.hm_large.specs.declared.release.Freeing.{Freeing}
 use Rattle.hm_large.proofs.Released.{table_left, frees_left, kept_live, same_block, owed_some, live_goes_back, held_goes_back, holds_from, holds_table, holds_sound, held_state, left_held, frees_none, frees_some}
 use Rattle.hm_large.proofs.release.release.Goals as goal
+
+none_of : (o : Option ℕ) → ((x : ℕ) → o ≡ Some x → ⊥) → o ≡ None
+none_of None none = refl
+none_of (Some x) none = absurd (none x refl)
 
 pub uncount-requires : goal.uncount-requires
 uncount-requires c =
@@ -43,8 +48,8 @@ returns-then-block-ge-QUARANTINED_BELOW-clause-frees c =
     (c.put_back.ensures.owed ∙ (ap (λ (k : Store). k.owed) c.uncount.ensures.others ∙ ap (λ (b : KeptBlock). old.owed - cond b.failed 0 1) is)) in
     frees_left config n s old new a x sound live great shows table (c.put_back.ensures.quarantine ∙ ap (λ (k : Store). k.quarantine) c.uncount.ensures.others) (c.put_back.ensures.words ∙ ap (λ (k : Store). k.words) c.uncount.ensures.others)
 
-pub pass-requires : goal.pass-requires
-pass-requires c =
+pub pass-released-requires : goal.pass-released-requires
+pass-released-requires c =
     let t = c.requires in
     let same : c.replace.new.store.quarantine ≡ kept_after 256 1024 t.s.frees = ap (λ (k : Store). k.quarantine) c.replace.ensures.others ∙ (ap (λ (k : Store). k.quarantine) c.uncount.ensures.others ∙ t.shows.quarantine) in
     let count : length c.replace.new.store.quarantine.array ≡ 256 = ap (λ (q : Kept). length q.array) same ∙ length_array 256 1024 t.s.frees in
@@ -78,18 +83,21 @@ returns-in-Some-clause-frees c =
     let is : c.args.block ≡ kept_of false x = same_block config n s old a x c.args.block shows live (kept_live t.config t.number t.s old a t.block t.shows t.live ∙ ap Some (sym t.is)) in
     let small : is_quarantined x ≡ true = lt-ltb x.size 33554432 (omega (arith, ap (λ (b : KeptBlock). b.size) is, c.if-block-ge-QUARANTINED_BELOW.false)) in
     let holds = holds_from old c.uncount.new.store c.replace.new.store a c.draw-word.result x c.args.block c.draw-word.new.self c.uncount.ensures.others is c.draw-word.ensures.drawn c.draw-word.ensures.below c.draw-word.ensures.taken c.replace.ensures.blocks c.replace.ensures.others in
-    frees_some config n s old c.replace.new.store a c.draw-word.result.0 c.draw-word.result.1 x c.pass.new.self c.in-Some.left c.put_back-in-Some.new.store sound live small shows holds c.in-Some.ensures.released c.in-Some.ensures.kept
+    frees_some config n s old c.replace.new.store a c.draw-word.result.0 c.draw-word.result.1 x c.pass-released.new.self c.in-Some.left c.put_back-in-Some.new.store sound live small shows holds c.in-Some.ensures.released c.in-Some.ensures.kept
     c.put_back-in-Some.ensures.blocks c.put_back-in-Some.ensures.space c.put_back-in-Some.ensures.quarantine c.put_back-in-Some.ensures.words c.put_back-in-Some.ensures.owed
 
-pub returns-in-None-clause-frees : goal.returns-in-None-clause-frees
-returns-in-None-clause-frees c =
+pub returns-in_default-clause-frees : goal.returns-in_default-clause-frees
+returns-in_default-clause-frees c =
     λ config n s x sound shows live. let t = c.requires in
     let old = c.args.store.now in
     let a = c.args.addr in
     let is : c.args.block ≡ kept_of false x = same_block config n s old a x c.args.block shows live (kept_live t.config t.number t.s old a t.block t.shows t.live ∙ ap Some (sym t.is)) in
     let small : is_quarantined x ≡ true = lt-ltb x.size 33554432 (omega (arith, ap (λ (b : KeptBlock). b.size) is, c.if-block-ge-QUARANTINED_BELOW.false)) in
     let holds = holds_from old c.uncount.new.store c.replace.new.store a c.draw-word.result x c.args.block c.draw-word.new.self c.uncount.ensures.others is c.draw-word.ensures.drawn c.draw-word.ensures.below c.draw-word.ensures.taken c.replace.ensures.blocks c.replace.ensures.others in
-    frees_none config n s old c.replace.new.store a c.draw-word.result.0 c.draw-word.result.1 x c.pass.new.self sound live small shows holds c.in-None.ensures.released c.in-None.ensures.kept
+    let stays : Freeing → Type 0 = Frees config n s a x (record c.replace.new.store { quarantine = c.pass-released.new.self }) in
+    subst (λ (o : Option ℕ). stays (record { released = o; word = Some c.draw-word.result.0 }))
+    (sym (none_of c.pass-released.result c.in_default.not-Some))
+    (frees_none config n s old c.replace.new.store a c.draw-word.result.0 c.draw-word.result.1 x c.pass-released.new.self sound live small shows holds c.in_default.ensures.released c.in_default.ensures.kept)
 
 pub returns-then-block-ge-QUARANTINED_BELOW-clause-owed : goal.returns-then-block-ge-QUARANTINED_BELOW-clause-owed
 returns-then-block-ge-QUARANTINED_BELOW-clause-owed c = ap (λ (n : ℕ). n + cond c.args.block.failed 0 1) c.put_back.ensures.owed ∙ c.uncount.ensures.owed
@@ -97,5 +105,5 @@ returns-then-block-ge-QUARANTINED_BELOW-clause-owed c = ap (λ (n : ℕ). n + co
 pub returns-in-Some-clause-owed : goal.returns-in-Some-clause-owed
 returns-in-Some-clause-owed c = ap (λ (n : ℕ). n + cond c.args.block.failed 0 1) (c.put_back-in-Some.ensures.owed ∙ ap (λ (k : Store). k.owed) c.replace.ensures.others) ∙ c.uncount.ensures.owed
 
-pub returns-in-None-clause-owed : goal.returns-in-None-clause-owed
-returns-in-None-clause-owed c = ap (λ (n : ℕ). n + cond c.args.block.failed 0 1) (ap (λ (k : Store). k.owed) c.replace.ensures.others) ∙ c.uncount.ensures.owed
+pub returns-in_default-clause-owed : goal.returns-in_default-clause-owed
+returns-in_default-clause-owed c = ap (λ (n : ℕ). n + cond c.args.block.failed 0 1) (ap (λ (k : Store). k.owed) c.replace.ensures.others) ∙ c.uncount.ensures.owed
