@@ -16,10 +16,10 @@ use std::marker::Model;
 use std::sync::Wait;
 
 /// How many classes there are.
-pub(crate) const CLASSES: u32 = 49;
+pub(crate) const CLASSES: u32 = hm_sizes::CLASSES as u32;
 
-/// The number of the large region.
-pub(crate) const LARGE: u32 = 196;
+/// The number of the large region, which comes after those of four arenas.
+pub(crate) const LARGE: u32 = 4 * CLASSES;
 
 /// All regions of a configuration, each under a turn of its own. The large one stands last.
 #[derive(Drop)]
