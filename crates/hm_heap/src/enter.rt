@@ -109,7 +109,8 @@ pub(crate) fn try_enter_at<P: Pages, G: Gate>(
         |turn, request|
             requires { IsOf lock.now turn × (who.caller ≡ turn.knows.caller)
                 × Asks (origin_in turn.knows.origin).region (call_of request) }
-            ensures { (result.0.lock ≡ turn.lock) × Tried who (call_of request.entry) result.1 turn.knows result.0.knows }
+            ensures { (result.0.lock ≡ turn.lock)
+                × Tried who (call_of request.entry) result.1 turn.knows result.0.knows }
         { try_enter(lock, gate, turn, region, who, request) },
     )
 }

@@ -62,8 +62,8 @@ impl<'g, P: Pages, G: Gate> Heap<'g, P, G> {
         requires reach { IsInReach moved.new }
         ensures same { pass.new ≡ record pass.old { turns = pass.new.turns } }
         ensures of { AreOf self.now.locks pass.new.turns }
-        ensures answer { Follows pass.old pass.new step part (freeing moved.source.home moved.source.addr moved.new moved.usable)
-            result }
+        ensures answer { Follows pass.old pass.new step part
+            (freeing moved.source.home moved.source.addr moved.new moved.usable) result }
         ensures reach { IfOk result AnswerInReach }
     {
         let request = Request::GiveBack {
@@ -96,8 +96,8 @@ impl<'g, P: Pages, G: Gate> Heap<'g, P, G> {
         ensures same { pass.new ≡ record pass.old { turns = pass.new.turns } }
         ensures of { AreOf self.now.locks pass.new.turns }
         ensures answer { Follows pass.old pass.new step 4
-            (Part moved.source.place (call.Fill moved.new runs.now) (filled moved.source.home moved.source.addr moved.new moved.usable))
-            result }
+            (Part moved.source.place (call.Fill moved.new runs.now)
+            (filled moved.source.home moved.source.addr moved.new moved.usable)) result }
         ensures reach { IfOk result AnswerInReach }
     {
         let request = Request::Fill {

@@ -37,7 +37,8 @@ fn split_all<P: Pages>(
 // Joins each turn, from the last on.
 fn join_all<P: Pages>(locks: &[TurnLock<Region<P>>], roots: &mut Vec<Turn>, mut others: Vec<Turn>)
     requires of { AreOf locks.now roots.old.items × AreOf locks.now others.items }
-    requires root { (r : ℕ) (t : Known) → r < vec_len roots.old → (slice_index_or roots.old.items r t).knows.caller ≡ 0 }
+    requires root { (r : ℕ) (t : Known) → r < vec_len roots.old
+        → (slice_index_or roots.old.items r t).knows.caller ≡ 0 }
     ensures all { roots.new.items ≡ all_met roots.old.items others.items }
     ensures callers { AllKnow roots.new.items }
 {

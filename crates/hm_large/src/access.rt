@@ -33,10 +33,10 @@ pub fn trap_from(store: &Store, addr: u64, len: u64) -> u64
     requires low { addr < 2 ^ 47 }
     requires most { len ≤ 2 ^ 30 }
     ensures within { IsWithin addr len result }
-    ensures first { (c : Config) (number : ℕ) (s : State) → IsSound c s → AreGuarded s.live → Shows c number s store.now
-        → HeldByNone s.live addr len → first_trap s.live addr len ≡ Some result }
-    ensures lent { (c : Config) (number : ℕ) (s : State) → IsSound c s → AreGuarded s.live → Shows c number s store.now
-        → result ≡ trap_in s.live addr len }
+    ensures first { (c : Config) (number : ℕ) (s : State) → IsSound c s → AreGuarded s.live
+        → Shows c number s store.now → HeldByNone s.live addr len → first_trap s.live addr len ≡ Some result }
+    ensures lent { (c : Config) (number : ℕ) (s : State) → IsSound c s → AreGuarded s.live
+        → Shows c number s store.now → result ≡ trap_in s.live addr len }
 {
     let left = live_left(store, addr);
     if left < len { addr + left } else { addr }
@@ -51,7 +51,8 @@ pub fn read<P: Pages>(
 ) -> Result<Option<Runs>, NoMemory>
     ensures length { IfOk result (λ found. IfSome found (λ runs. length (expand runs) ≡ len)) }
     ensures value { IfOk result (λ found. IsTrue (P.told pages.now)
-        → MatchOption found (InNone (P.runs pages.now) addr len) (λ runs. Reads (P.runs pages.now) addr len (expand runs))) }
+        → MatchOption found (InNone (P.runs pages.now) addr len)
+        (λ runs. Reads (P.runs pages.now) addr len (expand runs))) }
 {
     match pages.bytes(addr, len as usize) {
         Some(bytes) => Ok(Some(Runs::of(alloc, bytes)?)),
@@ -83,7 +84,8 @@ fn write_runs(bytes: &mut [u8], pairs: &[(u8, u64)])
 pub fn write<P: Pages>(pages: &mut P, addr: u64, runs: &Runs) -> bool
     ensures told { P.told pages.new ≡ P.told pages.old }
     ensures count { P.faults pages.new ≡ P.faults pages.old }
-    ensures held { IsTrue (P.told pages.old) → IsTrue result ↔ IsHeld (P.runs pages.old) addr (length (expand runs.now)) }
+    ensures held { IsTrue (P.told pages.old)
+        → IsTrue result ↔ IsHeld (P.runs pages.old) addr (length (expand runs.now)) }
     ensures written { IsTrue result → IsTrue (P.told pages.old)
         → Writes (P.runs pages.old) addr (length (expand runs.now)) (expand runs.now) (P.runs pages.new) }
     ensures unchanged { result ≡ false → P.runs pages.new ≡ P.runs pages.old }

@@ -67,7 +67,8 @@ impl Store {
         requires most { size ≤ 2 ^ 32 }
         requires guard { guard ≤ 2 ^ 32 }
         ensures fits { (c : Config) (number : ℕ) (s : State) → Shows c number s self.now
-            → MatchOption result ((a : ℕ) → IsCandidate c s align size guard a → ⊥) (IsLeastCandidate c s align size guard) }
+            → MatchOption result ((a : ℕ) → IsCandidate c s align size guard a → ⊥)
+            (IsLeastCandidate c s align size guard) }
         ensures below { IfSome result (λ a. a + size + 4096 * guard < 2 ^ 64) }
         ensures front { IfSome result (λ a. 4096 * guard ≤ a) }
     {
