@@ -299,12 +299,17 @@ fn refusal_of<P: Pages>(region: &mut ClassHeap<P>, addr: u64) -> Result<Refused,
     }
 }
 
-/// Why a freed block of run 0, an address within it and the first slot, which was never given, are refused.
-fn refusals<P: Pages>(region: &mut ClassHeap<P>) -> Result<(Refused, Refused, Refused), Fail> {
-    let block = one_block(region)?;
-    let again = refusal_of(region, block)?;
-    let inside = refusal_of(region, block.wrapping_add(8))?;
-    let unused = refusal_of(region, FIRST)?;
+/// Why a freed block of run 0, an address within it and the first slot, which was never given, are refused over
+/// these pages.
+fn refusals_over<P: Pages>(alloc: Global, pages: P) -> Result<(Refused, Refused, Refused), Fail>
+    requires nothing { IsTrue (P.told pages) → P.runs pages ≡ map.empty }
+    requires count { P.faults pages ≡ 0 }
+{
+    let mut region = region(alloc, 7, 1, pages)?;
+    let block = one_block(&mut region)?;
+    let again = refusal_of(&mut region, block)?;
+    let inside = refusal_of(&mut region, block.wrapping_add(8))?;
+    let unused = refusal_of(&mut region, FIRST)?;
     Ok((again, inside, unused))
 }
 
@@ -362,13 +367,12 @@ fn another_size_is_stated(rt: HostRuntime) -> Result<(), Fail> {
 fn refused_frees(rt: HostRuntime) -> Result<(), Fail> {
     let alloc = rt.alloc();
     let expected = (Refused::DoubleFree, Refused::NoSlot, Refused::Unused);
-    let mut plain = region(alloc, 7, 1, PlainPages::new(alloc))?;
-    assert_eq!(rt; refusals(&mut plain)?, expected, "plain pages");
-    let failing_pages = FailingPages::build(alloc, Vec::new(alloc));
-    let mut failing = region(alloc, 7, 1, failing_pages)?;
-    assert_eq!(rt; refusals(&mut failing)?, expected, "pages that may fail");
-    let mut silent = region(alloc, 7, 1, SilentPages::new(alloc))?;
-    assert_eq!(rt; refusals(&mut silent)?, expected, "pages that lend nothing");
+    let plain = refusals_over(alloc, PlainPages::new(alloc))?;
+    assert_eq!(rt; plain, expected, "plain pages");
+    let failing = refusals_over(alloc, FailingPages::build(alloc, Vec::new(alloc)))?;
+    assert_eq!(rt; failing, expected, "pages that may fail");
+    let silent = refusals_over(alloc, SilentPages::new(alloc))?;
+    assert_eq!(rt; silent, expected, "pages that lend nothing");
     Ok(())
 }
 

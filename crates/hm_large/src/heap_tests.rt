@@ -49,6 +49,23 @@ fn allot<P: Pages>(region: &mut LargeHeap<P>, asked: u64) -> Result<Reply, NoMem
     region.allot(WHO, asked, 1)
 }
 
+/// The address and the usable bytes of the block that is given.
+fn given<P: Pages>(region: &mut LargeHeap<P>, asked: u64) -> Result<(u64, u64), Fail>
+    requires { asked ≤ 2 ^ 30 }
+{
+    block_of(allot(region, asked)?)
+}
+
+/// Takes a block back.
+fn free<P: Pages>(region: &mut LargeHeap<P>, addr: u64) -> Result<Reply, NoMemory> {
+    region.give_back(WHO, addr, None)
+}
+
+/// The usable bytes of a block.
+fn measure<P: Pages>(region: &mut LargeHeap<P>, addr: u64) -> Result<Reply, NoMemory> {
+    region.measure(WHO, addr)
+}
+
 /// One byte at an address.
 fn fetch_one<P: Pages>(region: &mut LargeHeap<P>, addr: u64) -> Result<Reply, NoMemory> {
     region.fetch(WHO, addr.min(LAST), 1)
@@ -68,8 +85,8 @@ fn last_draws<P: Pages>(region: &LargeHeap<P>) -> Option<(u8, Option<u64>)> {
     Some((entry.draws.used, entry.choices.released))
 }
 
-/// The address and the usable bytes of the block that is given.
-fn given(reply: Reply) -> Result<(u64, u64), Fail> {
+/// The address and the usable bytes that a reply tells.
+fn block_of(reply: Reply) -> Result<(u64, u64), Fail> {
     match reply {
         Reply::Given { addr, usable } => Ok((addr, usable)),
         _ => Err(Fail::new("no block")),
@@ -80,11 +97,11 @@ fn given(reply: Reply) -> Result<(u64, u64), Fail> {
 fn size_of_a_block(rt: HostRuntime) -> Result<(), Fail> {
     let alloc = rt.alloc();
     let mut region = standard(alloc, PlainPages::new(alloc))?;
-    let (addr, usable) = given(allot(&mut region, 200_000)?)?;
+    let (addr, usable) = given(&mut region, 200_000)?;
     assert_eq!(rt; usable, 229_376);
     assert_eq!(rt; addr % 4096, 0);
     assert!(rt; addr > LARGE_START);
-    assert!(rt; matches!(region.measure(WHO, addr)?, Reply::Usable(229_376)));
+    assert!(rt; matches!(measure(&mut region, addr)?, Reply::Usable(229_376)));
     Ok(())
 }
 
@@ -92,7 +109,7 @@ fn size_of_a_block(rt: HostRuntime) -> Result<(), Fail> {
 fn trap_at_the_end(rt: HostRuntime) -> Result<(), Fail> {
     let alloc = rt.alloc();
     let mut region = standard(alloc, PlainPages::new(alloc))?;
-    let (addr, usable) = given(allot(&mut region, 200_000)?)?;
+    let (addr, usable) = given(&mut region, 200_000)?;
     let end = addr.wrapping_add(usable);
     assert!(rt; matches!(fetch_one(&mut region, end)?, Reply::Trap { addr } if addr == end));
     assert!(rt;
@@ -108,9 +125,9 @@ fn trap_at_the_end(rt: HostRuntime) -> Result<(), Fail> {
 fn refused_frees(rt: HostRuntime) -> Result<(), Fail> {
     let alloc = rt.alloc();
     let mut region = standard(alloc, PlainPages::new(alloc))?;
-    let (addr, _) = given(allot(&mut region, 200_000)?)?;
+    let (addr, _) = given(&mut region, 200_000)?;
     let inside = addr.wrapping_add(8);
-    assert!(rt; matches!(region.give_back(WHO, inside, None)?, Reply::NotLive));
+    assert!(rt; matches!(free(&mut region, inside)?, Reply::NotLive));
     assert!(rt;
         matches!(
             region.give_back(WHO, addr, Some(100_000))?,
@@ -127,9 +144,9 @@ fn refused_frees(rt: HostRuntime) -> Result<(), Fail> {
 fn freed_block(rt: HostRuntime) -> Result<(), Fail> {
     let alloc = rt.alloc();
     let mut region = standard(alloc, PlainPages::new(alloc))?;
-    let (addr, _) = given(allot(&mut region, 200_000)?)?;
+    let (addr, _) = given(&mut region, 200_000)?;
     assert!(rt; matches!(region.give_back(WHO, addr, Some(220_000))?, Reply::Freed));
-    assert!(rt; matches!(region.measure(WHO, addr)?, Reply::NotLive));
+    assert!(rt; matches!(measure(&mut region, addr)?, Reply::NotLive));
     Ok(())
 }
 
@@ -137,9 +154,9 @@ fn freed_block(rt: HostRuntime) -> Result<(), Fail> {
 fn great_block_draws_no_place(rt: HostRuntime) -> Result<(), Fail> {
     let alloc = rt.alloc();
     let mut region = standard(alloc, PlainPages::new(alloc))?;
-    let (addr, _) = given(allot(&mut region, 40_000_000)?)?;
+    let (addr, _) = given(&mut region, 40_000_000)?;
     assert_eq!(rt; last_draws(&region), Some((1, None)));
-    assert!(rt; matches!(region.give_back(WHO, addr, None)?, Reply::Freed));
+    assert!(rt; matches!(free(&mut region, addr)?, Reply::Freed));
     assert_eq!(rt; last_draws(&region), Some((0, None)));
     Ok(())
 }
@@ -148,10 +165,10 @@ fn great_block_draws_no_place(rt: HostRuntime) -> Result<(), Fail> {
 fn space_stays_in_quarantine(rt: HostRuntime) -> Result<(), Fail> {
     let alloc = rt.alloc();
     let mut region = region_of(alloc, PlainPages::new(alloc), 1 << 20)?;
-    let (addr, usable) = given(allot(&mut region, 500_000)?)?;
+    let (addr, usable) = given(&mut region, 500_000)?;
     assert_eq!(rt; usable, 524_288);
     assert!(rt; matches!(allot(&mut region, 500_000)?, Reply::NoSpace));
-    assert!(rt; matches!(region.give_back(WHO, addr, None)?, Reply::Freed));
+    assert!(rt; matches!(free(&mut region, addr)?, Reply::Freed));
     assert!(rt; matches!(allot(&mut region, 500_000)?, Reply::NoSpace));
     Ok(())
 }
@@ -160,9 +177,9 @@ fn space_stays_in_quarantine(rt: HostRuntime) -> Result<(), Fail> {
 fn aligned_blocks(rt: HostRuntime) -> Result<(), Fail> {
     let alloc = rt.alloc();
     let mut region = standard(alloc, PlainPages::new(alloc))?;
-    let (page, _) = given(region.allot(WHO, 5_000, 4096)?)?;
+    let (page, _) = block_of(region.allot(WHO, 5_000, 4096)?)?;
     assert_eq!(rt; page % 4096, 0);
-    let (block, usable) = given(region.allot(WHO, 5_000, 1 << 21)?)?;
+    let (block, usable) = block_of(region.allot(WHO, 5_000, 1 << 21)?)?;
     assert_eq!(rt; usable, 8192);
     assert_eq!(rt; block % (1 << 21), 0);
     Ok(())
@@ -172,7 +189,7 @@ fn aligned_blocks(rt: HostRuntime) -> Result<(), Fail> {
 fn written_bytes(rt: HostRuntime) -> Result<(), Fail> {
     let alloc = rt.alloc();
     let mut region = standard(alloc, PlainPages::new(alloc))?;
-    let (addr, _) = given(allot(&mut region, 10_000)?)?;
+    let (addr, _) = given(&mut region, 10_000)?;
     let runs = Runs::same(alloc, 7, 100)?;
     assert!(rt; matches!(fill_at(&mut region, addr, &runs)?, Reply::Filled));
     match region.fetch(WHO, addr.min(LAST), 101)? {
@@ -198,10 +215,10 @@ fn failed_drop_leaves_the_block(rt: HostRuntime) -> Result<(), Fail> {
     let alloc = rt.alloc();
     let pages = FailingPages::build(alloc, vec![in alloc; 2]?);
     let mut region = standard(alloc, pages)?;
-    let (addr, _) = given(allot(&mut region, 200_000)?)?;
-    assert!(rt; matches!(region.give_back(WHO, addr, None)?, Reply::PagesFailed));
-    assert!(rt; matches!(region.measure(WHO, addr)?, Reply::Usable(229_376)));
-    assert!(rt; matches!(region.give_back(WHO, addr, None)?, Reply::Freed));
+    let (addr, _) = given(&mut region, 200_000)?;
+    assert!(rt; matches!(free(&mut region, addr)?, Reply::PagesFailed));
+    assert!(rt; matches!(measure(&mut region, addr)?, Reply::Usable(229_376)));
+    assert!(rt; matches!(free(&mut region, addr)?, Reply::Freed));
     Ok(())
 }
 
@@ -209,12 +226,12 @@ fn failed_drop_leaves_the_block(rt: HostRuntime) -> Result<(), Fail> {
 fn pages_that_lend_nothing(rt: HostRuntime) -> Result<(), Fail> {
     let alloc = rt.alloc();
     let mut region = standard(alloc, SilentPages::new(alloc))?;
-    let (block, _) = given(allot(&mut region, 200_000)?)?;
+    let (block, _) = given(&mut region, 200_000)?;
     assert!(rt; matches!(fetch_one(&mut region, block)?, Reply::Trap { addr } if addr == block));
     let runs = Runs::same(alloc, 7, 100)?;
     assert!(rt;
         matches!(fill_at(&mut region, block, &runs)?, Reply::Trap { addr } if addr == block)
     );
-    assert!(rt; matches!(region.give_back(WHO, block, None)?, Reply::Freed));
+    assert!(rt; matches!(free(&mut region, block)?, Reply::Freed));
     Ok(())
 }
