@@ -36,7 +36,7 @@ use Rattle.hm_class.specs.Outcomes.{reply_of, canary_value, chose_opened, start_
 use Rattle.hm_class.specs.Slabs.{SameSlabs}
 use Rattle.hm_class.specs.Sources.{unopened_below, new_of, front_of}
 use Rattle.hm_class.specs.Region.{HoldsSlabs}
-use Rattle.hm_class.specs.Kept.{Shows, AreFull, IsKept, terms_of, cells_of}
+use Rattle.hm_class.specs.Kept.{Shows, AreFull, IsKept, terms_of, cells_of, identity, store}
 use Rattle.hm_class.proofs.Allotted.{kept_serve}
 use Rattle.hm_class.proofs.Drawn.{stepped_open, stepped_new, after_new, new_draws_are, one_draw_are}
 use Rattle.hm_class.proofs.Filing.{Stands, same_full, opened_partial, opened_empty, opened_shut, opened_stands, opened_then_partial, opened_then_empty, opened_are_full}
@@ -99,7 +99,7 @@ same_slabs meaning k k₁ begun mid stream stream₁ q = record {
 }
 
 module _ (told : Bool) (runs : PageRuns) (faults : ℕ) (c : Config) (number arena : ℕ) (p : Shape) (es : List Entry) (k : Slabs) (stream : Words) (quarantine : Kept) (parking : List (Option ℕ))
-    (kept : IsKept told runs faults c number arena p es k stream quarantine parking)
+    (kept : IsKept told runs faults (identity c number arena p) es (store k stream quarantine parking))
     {P : Type 0} (meaning : pages.Ghosts P) (begun mid now : P) (k₁ k' : Slabs) (stream₁ stream' : Words) (who : Who) (asked : ℕ)
     (told_begun : meaning.told begun ≡ told) (told_mid : meaning.told mid ≡ meaning.told begun) (runs_begun : meaning.runs begun ≡ runs) (is : meaning.faults begun ≡ faults) (same : meaning.faults now ≡ meaning.faults mid)
     (asks : raised asked ≤ class_size_of p) where
@@ -107,7 +107,7 @@ module _ (told : Bool) (runs : PageRuns) (faults : ℕ) (c : Config) (number are
   first = state (terms_of told c p) es
 
   abbrev Ends : Event → Type 0
-  Ends e = IsKept told (meaning.runs now) (meaning.faults now) c number arena p (es ++ entry_of who (Allot asked 1) (reply_of e.outcome) e.choices e.draws (meaning.faults begun) (meaning.faults now) ∷ []) k' stream' quarantine parking
+  Ends e = IsKept told (meaning.runs now) (meaning.faults now) (identity c number arena p) (es ++ entry_of who (Allot asked 1) (reply_of e.outcome) e.choices e.draws (meaning.faults begun) (meaning.faults now) ∷ []) (store k' stream' quarantine parking)
 
   tell : IsTrue told → IsTrue (meaning.told mid)
   tell y = told_mid ∙ told_begun ∙ y
@@ -116,7 +116,7 @@ module _ (told : Bool) (runs : PageRuns) (faults : ℕ) (c : Config) (number are
   unserved : (answer : Reply) → event_of (Allot asked 1) answer ≡ Undrawn → Allows (terms_of told c p) first (meaning.faults begun) (meaning.faults now) no_choices (Allot asked 1) answer → meaning.faults begun ≤ meaning.faults now
       → step p first (entry_of who (Allot asked 1) answer no_choices no_words (meaning.faults begun) (meaning.faults now)) ≡ record first { faults = meaning.faults now }
       → (IsTrue told → meaning.runs now ≡ runs) → k'.slabs ≡ k.slabs → k'.lists ≡ k.lists → k'.numbers ≡ k.numbers → stream' ≡ stream
-      → IsKept told (meaning.runs now) (meaning.faults now) c number arena p (es ++ entry_of who (Allot asked 1) answer no_choices no_words (meaning.faults begun) (meaning.faults now) ∷ []) k' stream' quarantine parking
+      → IsKept told (meaning.runs now) (meaning.faults now) (identity c number arena p) (es ++ entry_of who (Allot asked 1) answer no_choices no_words (meaning.faults begun) (meaning.faults now) ∷ []) (store k' stream' quarantine parking)
   unserved answer undrawn allows later after runs_same items lists numbers stream_same =
       let t : Terms = terms_of told c p in
       let e : Entry = entry_of who (Allot asked 1) answer no_choices no_words (meaning.faults begun) (meaning.faults now) in
@@ -124,7 +124,7 @@ module _ (told : Bool) (runs : PageRuns) (faults : ℕ) (c : Config) (number are
       let shows' : Shows p k.slabs (step p first e) = subst (λ (s : State). Shows p k.slabs s) (sym after) (shows_count p k.slabs first (meaning.faults now) kept.follows.shows) in
       pushed told runs faults c number arena p es k stream quarantine parking kept (meaning.runs now) (meaning.faults now) k' stream' quarantine parking e
       (allowed_of t first who (Allot asked 1) answer no_choices no_words (meaning.faults begun) (meaning.faults now) no_draws_are (asks, refl) (is ∙ kept.count) later allows)
-      (stepped_undrawn t (cells_of first k stream quarantine parking) e undrawn refl refl) refl
+      (stepped_undrawn t (cells_of first (store k stream quarantine parking)) e undrawn refl refl) refl
       (record {
         shows = subst (λ (u : Uses). Shows p u (step p first e)) (sym items) shows';
         shut = ap (λ (l : Lists). l.retired) lists ∙ kept.follows.shut ∙ ap (λ (s : State). s.shut) (sym after);
@@ -181,8 +181,8 @@ module _ (told : Bool) (runs : PageRuns) (faults : ℕ) (c : Config) (number are
       (kind_is p k.slabs first n kept.served.shape kept.follows.shows ∙ ap (λ (u : Uses). kind_at u n) (sym q.slabs))
       (one_draw_are (next_word stream₁)) (ap (λ (x : Words). after_word x) (sym q.stream_same))
       ((allows_now told runs faults c number arena p es k stream quarantine parking kept).source n f.0) (no_canary (has_bytes p)) refl
-      (λ a slab here answer picks. subst (λ (x : Words). IsSteppedEntry t (cells_of first k stream quarantine parking) (entry_of who (Allot asked 1) answer no_choices (one_word (next_word x)) (meaning.faults begun) (meaning.faults now))) (sym q.stream_same)
-      (stepped_open t (cells_of first k stream quarantine parking) first who asked a n (meaning.faults begun) (meaning.faults now) answer refl kept.served.valid.random picks slab
+      (λ a slab here answer picks. subst (λ (x : Words). IsSteppedEntry t (cells_of first (store k stream quarantine parking)) (entry_of who (Allot asked 1) answer no_choices (one_word (next_word x)) (meaning.faults begun) (meaning.faults now))) (sym q.stream_same)
+      (stepped_open t (cells_of first (store k stream quarantine parking)) first who asked a n (meaning.faults begun) (meaning.faults now) answer refl kept.served.valid.random picks slab
       (subst (λ (x : Words). first_free p first n (drawn p.slots (next_word x)) ≡ Some a) q.stream_same here) f.0))
       e.outcome v.0))
   kept_allotted (next.New n canary) e f v =
@@ -223,9 +223,9 @@ module _ (told : Bool) (runs : PageRuns) (faults : ℕ) (c : Config) (number are
       (refl, none_serves f.0.0, next_new (Some n) f.0.1)
       (ap (λ (x : Option Canary). is_some (canary_value x)) q.canary_is ∙ canary_there p stream) refl
       (λ a slab here answer picks.
-      subst (λ (x : Words). IsSteppedEntry t (cells_of first k stream quarantine parking) (entry_of who (Allot asked 1) answer (chose_opened n canary) (start_draws canary (next_word x)) (meaning.faults begun) (meaning.faults now))) (sym q.stream_is)
-      (subst (λ (x : Option Canary). IsSteppedEntry t (cells_of first k stream quarantine parking) (entry_of who (Allot asked 1) answer (chose_opened n x) (start_draws x (next_word (canary_stream p stream))) (meaning.faults begun) (meaning.faults now))) (sym q.canary_is)
-      (stepped_new t (cells_of first k stream quarantine parking) first who asked a n (meaning.faults begun) (meaning.faults now) answer refl kept.served.valid.random picks slab
+      subst (λ (x : Words). IsSteppedEntry t (cells_of first (store k stream quarantine parking)) (entry_of who (Allot asked 1) answer (chose_opened n canary) (start_draws canary (next_word x)) (meaning.faults begun) (meaning.faults now))) (sym q.stream_is)
+      (subst (λ (x : Option Canary). IsSteppedEntry t (cells_of first (store k stream quarantine parking)) (entry_of who (Allot asked 1) answer (chose_opened n x) (start_draws x (next_word (canary_stream p stream))) (meaning.faults begun) (meaning.faults now))) (sym q.canary_is)
+      (stepped_new t (cells_of first (store k stream quarantine parking)) first who asked a n (meaning.faults begun) (meaning.faults now) answer refl kept.served.valid.random picks slab
       (subst (λ (x : Option Canary). first_free p (opened p (Some n) (canary_value x) first) n (drawn p.slots (next_word (canary_stream p stream))) ≡ Some a) q.canary_is
       (subst (λ (x : Words). first_free p s₁ n (drawn p.slots (next_word x)) ≡ Some a) q.stream_is here)))))
       e.outcome v.0))

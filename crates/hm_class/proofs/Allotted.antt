@@ -34,7 +34,7 @@ use Rattle.hm_model.specs.Calls.{entry_of}
 use Rattle.hm_class.specs.Outcomes.{reply_of}
 use Rattle.hm_class.specs.Finds.{Serve}
 use Rattle.hm_class.specs.Region.{HoldsSlabs}
-use Rattle.hm_class.specs.Kept.{Shows, AreFull, IsKept, terms_of, cells_of}
+use Rattle.hm_class.specs.Kept.{Shows, AreFull, IsKept, terms_of, cells_of, identity, store}
 use Rattle.hm_slab_lists.specs.Lists.{Lists}
 use Rattle.hm_class.proofs.Filing.{Stands, placed_moved, placed_full}
 use Rattle.hm_class.proofs.Permitted.{IsServing}
@@ -46,7 +46,7 @@ use Rattle.hm_class.proofs.Taken.{kept_gives}
 
 -- slab n, which serves, was served from
 module _ (told : Bool) (runs : PageRuns) (faults : ℕ) (c : Config) (number arena : ℕ) (p : Shape) (es : List Entry) (k : Slabs) (stream : Words) (quarantine : Kept) (parking : List (Option ℕ))
-    (kept : IsKept told runs faults c number arena p es k stream quarantine parking)
+    (kept : IsKept told runs faults (identity c number arena p) es (store k stream quarantine parking))
     {P : Type 0} (meaning : pages.Ghosts P) (mid now : P) (k₁ k' : Slabs) (stream₁ stream' : Words) (n : ℕ) (kind₀ : Kind) (choices : Choices) (draws : Draws) (who : Who) (asked f f' : ℕ)
     (tell : IsTrue told → IsTrue (meaning.told mid)) (asks : raised asked ≤ class_size_of p) (is : f ≡ faults) (later : f ≤ f')
     (serves : IsServing k₁.slabs n) (below : n < p.limit) (no_guard : IsGuard p n → ⊥)
@@ -62,10 +62,10 @@ module _ (told : Bool) (runs : PageRuns) (faults : ℕ) (c : Config) (number are
     (are : AreDraws draws) (taken : after_words stream draws.used ≡ after_word stream₁)
     (source : Source p (state (terms_of told c p) es) choices.opened n) (has_canary : is_some choices.canary ≡ (has_bytes p && is_some choices.opened)) (chosen : choices ≡ chose choices.canary choices.opened None None None None)
     (stepped : (a : ℕ) → slab_of p a ≡ n → first_free p (opened p choices.opened choices.canary (state (terms_of told c p) es)) n (drawn p.slots (next_word stream₁)) ≡ Some a → (r : Reply) → event_of (Allot asked 1) r ≡ Picked a
-    → IsSteppedEntry (terms_of told c p) (cells_of (state (terms_of told c p) es) k stream quarantine parking) (entry_of who (Allot asked 1) r choices draws f f'))
+    → IsSteppedEntry (terms_of told c p) (cells_of (state (terms_of told c p) es) (store k stream quarantine parking)) (entry_of who (Allot asked 1) r choices draws f f'))
   where
     pub kept_serve : (o : Outcome) → Serve meaning k₁ k' mid now stream₁ stream' p n o
-        → IsKept told (meaning.runs now) f' c number arena p (es ++ entry_of who (Allot asked 1) (reply_of o) choices draws f f' ∷ []) k' stream' quarantine parking
+        → IsKept told (meaning.runs now) f' (identity c number arena p) (es ++ entry_of who (Allot asked 1) (reply_of o) choices draws f f' ∷ []) (store k' stream' quarantine parking)
     kept_serve o v =
         let then : State = opened p choices.opened choices.canary (state (terms_of told c p) es) in
         let i : ℕ = v.index in

@@ -16,17 +16,17 @@ use Rattle.hm_class_rules.specs.Draws.{stream_of, drawn_shape}
 use Rattle.hm_class_rules.specs.State.{start}
 use Rattle.hm_class.specs.Slabs.{Slabs, no_slabs}
 use Rattle.hm_class.specs.Uses.{numbers_of}
-use Rattle.hm_class.specs.Kept.{IsKept}
+use Rattle.hm_class.specs.Kept.{IsKept, identity, store}
 use Rattle.hm_class.proofs.Listed.{same_cells}
 use Rattle.hm_class.proofs.Paged.{holds_nothing}
 
 pub kept_built : (told : Bool) (runs : PageRuns) (faults : ℕ) (c : Config) (number arena : ℕ) (class : ClassId) (p : Shape) (es : List Entry) (k : Slabs) (stream : Words) (quarantine : Kept) → IsValid c → arena < c.arenas → class.0 < class_count
     → p ≡ drawn_shape number c arena class → IsShape p → (IsTrue told → runs ≡ map.empty) → faults ≡ 0 → es ≡ [] → k ≡ no_slabs (numbers_of p) c.park_length → stream ≡ after_word (stream_of number arena class) → quarantine ≡ nothing_kept p.array p.ring
-    → IsKept told runs faults c number arena p es k stream quarantine k.parking
+    → IsKept told runs faults (identity c number arena p) es (store k stream quarantine k.parking)
 kept_built told runs faults c number arena class p es k stream quarantine valid below class_below is shape nothing count no_entries none taken empty =
     let class_is : p.class ≡ class = ap (λ (q : Shape). q.class) is in
-    subst (λ (l : List Entry). IsKept told runs faults c number arena p l k stream quarantine k.parking) (sym no_entries)
-    (subst (λ (k : Slabs). IsKept told runs faults c number arena p [] k stream quarantine k.parking) (sym none) (record {
+    subst (λ (l : List Entry). IsKept told runs faults (identity c number arena p) l (store k stream quarantine k.parking)) (sym no_entries)
+    (subst (λ (k : Slabs). IsKept told runs faults (identity c number arena p) [] (store k stream quarantine k.parking)) (sym none) (record {
       served = record {
         valid = valid;
         arena_below = below;

@@ -48,7 +48,7 @@ use Rattle.hm_model.specs.Calls.{Adds, no_choices, entry_of, no_words}
 use Rattle.hm_model.specs.Replies.{IsClassReply, IsFetchReply}
 use Rattle.hm_class.specs.Outcomes.{reply_of}
 use Rattle.hm_class.specs.Judgements.{Refusals, RefusesCanary, Measures, other_number}
-use Rattle.hm_class.specs.Kept.{Shows, Follows, IsServed, IsKept, terms_of, cells_of}
+use Rattle.hm_class.specs.Kept.{Shows, Follows, IsServed, IsKept, terms_of, cells_of, identity, store}
 use Rattle.hm_class_rules.proofs.Whole.{whole_run}
 use Rattle.hm_slab_lists.specs.Lists.{Lists}
 use Rattle.hm_class_rules.specs.State.{is_partial, is_empty}
@@ -65,11 +65,11 @@ use Rattle.hm_class.proofs.Permitted.{allowed_of, no_slot, unused, double_free, 
 -- ---- what callers see
 -- the region's numbers are those of its first word
 pub shape_is : {P : Type 0} (meaning : pages.Ghosts P) (r : Region P) (p : Shape) (k : Slabs) (stream : Words) (quarantine : Kept) (parking : List (Option ℕ)) → r.class ≡ p.class
-    → IsKept (meaning.told r.pages) (meaning.runs r.pages) (meaning.faults r.pages) r.config r.number r.arena p r.entries k stream quarantine parking → p ≡ region_shape r
+    → IsKept (meaning.told r.pages) (meaning.runs r.pages) (meaning.faults r.pages) (identity r.config r.number r.arena p) r.entries (store k stream quarantine parking) → p ≡ region_shape r
 shape_is meaning r p k stream quarantine parking class kept = kept.served.is ∙ ap (λ c. drawn_shape r.number r.config r.arena c) (sym class)
 
 pub region_of : {P : Type 0} (meaning : pages.Ghosts P) (r : Region P) (p : Shape) (k : Slabs) (stream : Words) (quarantine : Kept) (parking : List (Option ℕ)) → r.class ≡ p.class
-    → IsKept (meaning.told r.pages) (meaning.runs r.pages) (meaning.faults r.pages) r.config r.number r.arena p r.entries k stream quarantine parking → live_count k.slabs ≤ r.spare → IsRegion meaning r
+    → IsKept (meaning.told r.pages) (meaning.runs r.pages) (meaning.faults r.pages) (identity r.config r.number r.arena p) r.entries (store k stream quarantine parking) → live_count k.slabs ≤ r.spare → IsRegion meaning r
 region_of meaning r p k stream quarantine parking class kept room =
     let tells : Bool = meaning.told r.pages in
     let is : p ≡ region_shape r = shape_is meaning r p k stream quarantine parking class kept in
@@ -104,7 +104,7 @@ added_of meaning old view new last who call answer choices draws before now same
 
 -- a reply that a slot of these numbers may have is one that the region may have
 pub reply_of_region : {P : Type 0} (meaning : pages.Ghosts P) (r old : Region P) (p : Shape) (k : Slabs) (stream : Words) (quarantine : Kept) (parking : List (Option ℕ)) (call : Call) (given answer : Reply) → r ≡ old → r.class ≡ p.class
-    → IsKept (meaning.told r.pages) (meaning.runs r.pages) (meaning.faults r.pages) r.config r.number r.arena p r.entries k stream quarantine parking → answer ≡ given → IsClassReply (usable p) call given
+    → IsKept (meaning.told r.pages) (meaning.runs r.pages) (meaning.faults r.pages) (identity r.config r.number r.arena p) r.entries (store k stream quarantine parking) → answer ≡ given → IsClassReply (usable p) call given
     → IsClassReply (usable (region_shape old)) call answer
 reply_of_region meaning r old p k stream quarantine parking call given answer view class kept same reply =
     subst (λ (q : Region _). IsClassReply (usable (region_shape q)) call answer) view
@@ -113,7 +113,7 @@ reply_of_region meaning r old p k stream quarantine parking call given answer vi
 
 -- where a range traps by the slots it traps by the region's state
 pub trap_of_region : {P : Type 0} (meaning : pages.Ghosts P) (r old : Region P) (p : Shape) (k : Slabs) (stream : Words) (quarantine : Kept) (parking : List (Option ℕ)) (a len : ℕ) → r ≡ old → r.class ≡ p.class
-    → IsKept (meaning.told r.pages) (meaning.runs r.pages) (meaning.faults r.pages) r.config r.number r.arena p r.entries k stream quarantine parking
+    → IsKept (meaning.told r.pages) (meaning.runs r.pages) (meaning.faults r.pages) (identity r.config r.number r.arena p) r.entries (store k stream quarantine parking)
     → trap_in p k.slabs a len ≡ first_trap (region_shape old) (region_state meaning.told old) a len
 trap_of_region meaning r old p k stream quarantine parking a len view class kept =
     let t : Terms = terms_of (meaning.told r.pages) r.config p in
@@ -147,7 +147,7 @@ fetch_reply a len (Bytes read) r is replies = subst (λ (x : Reply). IsFetchRepl
 fetch_reply a len (Trap q) r is replies = subst (λ (x : Reply). IsFetchReply a len x) (sym replies) is
 
 -- what is asked for fits a slot
-pub asks_of : (c : Config) (number arena : ℕ) (p : Shape) (x : ℕ) → IsServed c number arena p → x ≤ class_size p.class.0 → x ≤ class_size_of p
+pub asks_of : (c : Config) (number arena : ℕ) (p : Shape) (x : ℕ) → IsServed (identity c number arena p) → x ≤ class_size p.class.0 → x ≤ class_size_of p
 asks_of c number arena p x served le =
     let slot : p.slot ≡ slot_size p.class.0 = ap (λ (q : Shape). q.slot) served.is in
     of (p.class.0 == 0) p.slot (subst (λ (n : ℕ). x ≤ cond (p.class.0 == 0) 0 n) (sym slot) le)
@@ -161,12 +161,12 @@ no_draws_are = record { first = λ lt. refl; second = λ lt. refl; third = λ lt
 
 -- ---- one entry more
 module _ (told : Bool) (runs : PageRuns) (faults : ℕ) (c : Config) (number arena : ℕ) (p : Shape) (es : List Entry) (k : Slabs) (stream : Words) (quarantine : Kept) (parking : List (Option ℕ))
-    (kept : IsKept told runs faults c number arena p es k stream quarantine parking) where
+    (kept : IsKept told runs faults (identity c number arena p) es (store k stream quarantine parking)) where
   abbrev before : State
   before = state (terms_of told c p) es
 
   abbrev held : Cells
-  held = cells_of before k stream quarantine parking
+  held = cells_of before (store k stream quarantine parking)
 
   pub sound_now : IsSound p before
   sound_now = sound (terms_of told c p) es kept.served.shape kept.legal
@@ -212,8 +212,8 @@ module _ (told : Bool) (runs : PageRuns) (faults : ℕ) (c : Config) (number are
       }
 
   pub pushed : (runs' : PageRuns) (faults' : ℕ) (k' : Slabs) (stream' : Words) (quarantine' : Kept) (parking' : List (Option ℕ)) (e : Entry) → Allowed (terms_of told c p) before e → IsSteppedEntry (terms_of told c p) held e → faults' ≡ e.faults_after
-      → Follows p (step p before e) k' → (IsTrue told → HoldsSlabs p (step p before e).opens runs') → next (terms_of told c p) held e ≡ cells_of (step p before e) k' stream' quarantine' parking'
-      → IsKept told runs' faults' c number arena p (es ++ e ∷ []) k' stream' quarantine' parking'
+      → Follows p (step p before e) k' → (IsTrue told → HoldsSlabs p (step p before e).opens runs') → next (terms_of told c p) held e ≡ cells_of (step p before e) (store k' stream' quarantine' parking')
+      → IsKept told runs' faults' (identity c number arena p) (es ++ e ∷ []) (store k' stream' quarantine' parking')
   pushed runs' faults' k' stream' quarantine' parking' e allowed stepped is follows slabs lists =
       let t : Terms = terms_of told c p in
       let after : state t (es ++ e ∷ []) ≡ step p (state t es) e = run_push (step p) (Allowed t) start es e in
@@ -224,12 +224,12 @@ module _ (told : Bool) (runs : PageRuns) (faults : ℕ) (c : Config) (number are
         count = is ∙ ap (λ (s : State). s.faults) (sym after);
         follows = subst (λ (s : State). Follows p s k') (sym after) follows;
         slabs = λ y. subst (λ (s : State). HoldsSlabs p s.opens runs') (sym after) (slabs y);
-        lists = next_cells number arena t es e ∙ ap (λ (x : Cells). next t x e) kept.lists ∙ lists ∙ ap (λ (s : State). cells_of s k' stream' quarantine' parking') (sym after);
+        lists = next_cells number arena t es e ∙ ap (λ (x : Cells). next t x e) kept.lists ∙ lists ∙ ap (λ (s : State). cells_of s (store k' stream' quarantine' parking')) (sym after);
       }
 
   -- nothing but room changed, and the count of faults stayed
-  pub kept_moved : (told' : Bool) (runs' : PageRuns) (faults' : ℕ) (k' : Slabs) → told' ≡ told → (IsTrue told → runs' ≡ runs) → faults' ≡ faults → SameSlabs k k' → IsKept told' runs' faults' c number arena p es k' stream quarantine parking
-  kept_moved told' runs' faults' k' tells same is slabs = subst (λ (b : Bool). IsKept b runs' faults' c number arena p es k' stream quarantine parking) (sym tells) (record {
+  pub kept_moved : (told' : Bool) (runs' : PageRuns) (faults' : ℕ) (k' : Slabs) → told' ≡ told → (IsTrue told → runs' ≡ runs) → faults' ≡ faults → SameSlabs k k' → IsKept told' runs' faults' (identity c number arena p) es (store k' stream quarantine parking)
+  kept_moved told' runs' faults' k' tells same is slabs = subst (λ (b : Bool). IsKept b runs' faults' (identity c number arena p) es (store k' stream quarantine parking)) (sym tells) (record {
     served = kept.served;
     legal = kept.legal;
     stepped = kept.stepped;
@@ -251,7 +251,7 @@ module _ (told : Bool) (runs : PageRuns) (faults : ℕ) (c : Config) (number are
   -- an entry that draws nothing, after which the same slots say what the state says
   pub kept_undrawn : (runs' : PageRuns) (who : Who) (call : Call) (answer : Reply) (f : ℕ) (s' : State) → f ≡ faults → event_of call answer ≡ Undrawn → Allows (terms_of told c p) before f f no_choices call answer → Asks p call
       → step p before (entry_of who call answer no_choices no_words f f) ≡ record s' { faults = f } → Shows p k.slabs s' → s'.live ≡ before.live → s'.shut ≡ before.shut → (IsTrue told → HoldsSlabs p s'.opens runs')
-      → IsKept told runs' faults c number arena p (es ++ entry_of who call answer no_choices no_words f f ∷ []) k stream quarantine parking
+      → IsKept told runs' faults (identity c number arena p) (es ++ entry_of who call answer no_choices no_words f f ∷ []) (store k stream quarantine parking)
   kept_undrawn runs' who call answer f s' is undrawn allows asks after shows live shut slabs =
       let e : Entry = entry_of who call answer no_choices no_words f f in
       let t : Terms = terms_of told c p in
@@ -272,12 +272,12 @@ module _ (told : Bool) (runs : PageRuns) (faults : ℕ) (c : Config) (number are
   -- nothing changed
   pub kept_still : (who : Who) (call : Call) (answer : Reply) (f : ℕ) → f ≡ faults → event_of call answer ≡ Undrawn → Allows (terms_of told c p) before f f no_choices call answer → Asks p call
       → step p before (entry_of who call answer no_choices no_words f f) ≡ record before { faults = f }
-      → IsKept told runs faults c number arena p (es ++ entry_of who call answer no_choices no_words f f ∷ []) k stream quarantine parking
+      → IsKept told runs faults (identity c number arena p) (es ++ entry_of who call answer no_choices no_words f f ∷ []) (store k stream quarantine parking)
   kept_still who call answer f is undrawn allows asks same = kept_undrawn runs who call answer f before is undrawn allows asks same kept.follows.shows refl refl kept.slabs
 
   -- ---- giving back and measuring
   abbrev no_change : Who → Call → Reply → ℕ → Type 0
-  no_change who call answer f = IsKept told runs faults c number arena p (es ++ entry_of who call answer no_choices no_words f f ∷ []) k stream quarantine parking
+  no_change who call answer f = IsKept told runs faults (identity c number arena p) (es ++ entry_of who call answer no_choices no_words f f ∷ []) (store k stream quarantine parking)
 
   module _ {P : Type 0} (meaning : pages.Ghosts P) (pages : P) (told_is : meaning.told pages ≡ told) (runs_is : meaning.runs pages ≡ runs) (who : Who) (a f : ℕ) (is : f ≡ faults) where
     tell_now : IsTrue told → IsTrue (meaning.told pages)
@@ -330,7 +330,7 @@ module _ (told : Bool) (runs : PageRuns) (faults : ℕ) (c : Config) (number are
         (kept_still who (Fetch a len) (reply.Trap q) f is refl ((λ t. fetches t before kept.follows.shows (kept.slabs t)), refl) (some, most, below) refl)
 
     pub kept_filled : (runs' : PageRuns) (rs : List (ℕ × ℕ)) (bytes : List ℕ) (o : Outcome) → bytes ≡ expand rs → 1 ≤ length (expand rs) → length (expand rs) ≤ 2 ^ 30 → Fills told runs runs' p k.slabs a bytes o
-        → IsKept told runs' faults c number arena p (es ++ entry_of who (Fill a rs) (reply_of o) no_choices no_words f f ∷ []) k stream quarantine parking
+        → IsKept told runs' faults (identity c number arena p) (es ++ entry_of who (Fill a rs) (reply_of o) no_choices no_words f f ∷ []) (store k stream quarantine parking)
     kept_filled runs' rs bytes outcome.Filled same some most fills =
         let w : List ℕ = expand rs in
         let now : IsTrue told → (first_trap p before a (length w) ≡ None) × HoldsSlabs p (write p a w before).opens runs' = λ t.
@@ -344,7 +344,7 @@ module _ (told : Bool) (runs : PageRuns) (faults : ℕ) (c : Config) (number are
 
 -- a block that is to be taken back is not refused, as callers see it
 pub never_refused : {P : Type 0} (meaning : pages.Ghosts P) (r : Region P) (p : Shape) (k : Slabs) (stream : Words) (quarantine : Kept) (parking : List (Option ℕ)) (a : ℕ) (stated : Option ℕ) (o : Outcome)
-    → r.class ≡ p.class → IsKept (meaning.told r.pages) (meaning.runs r.pages) (meaning.faults r.pages) r.config r.number r.arena p r.entries k stream quarantine parking
+    → r.class ≡ p.class → IsKept (meaning.told r.pages) (meaning.runs r.pages) (meaning.faults r.pages) (identity r.config r.number r.arena p) r.entries (store k stream quarantine parking)
     → Refusals meaning p k r.pages a stated o → IsTakenBack meaning.told r a stated → ⊥
 never_refused meaning r p k stream quarantine parking a stated o class kept refused taken =
     let tells : Bool = meaning.told r.pages in

@@ -26,7 +26,7 @@ use Rattle.hm_class.specs.Slabs.{Slabs}
 use Rattle.hm_class.specs.Uses.{Uses, SlabUse, lives, occupied, has_occupied, has_available, is_held, kind_of, kind_at, use_at, passes_at, with_slot, with_use}
 use Rattle.hm_class.specs.Frees.{place_of_word, Clears, CanRelease}
 use Rattle.hm_class.specs.Region.{HoldsSlabs}
-use Rattle.hm_class.specs.Kept.{Shows, IsKept, terms_of}
+use Rattle.hm_class.specs.Kept.{Shows, IsKept, terms_of, identity, store}
 use Rattle.hm_class.proofs.Followed.{shows_held}
 use Rattle.hm_class.proofs.Freed.{place_fits}
 use Rattle.hm_class.proofs.Paged.{holds_write, holds_without, slab_run}
@@ -60,7 +60,7 @@ kind_held all n i u v was same =
 
 -- ---- the slot is held
 module _ (told : Bool) (runs : PageRuns) (faults : ℕ) (c : Config) (number arena : ℕ) (p : Shape) (es : List Entry) (k : Slabs) (stream : Words) (quarantine : Kept) (parking : List (Option ℕ))
-    (kept : IsKept told runs faults c number arena p es k stream quarantine parking)
+    (kept : IsKept told runs faults (identity c number arena p) es (store k stream quarantine parking))
     {P : Type 0} (meaning : pages.Ghosts P) (begun half : P) (k₁ : Slabs) (a n i : ℕ) (told_is : meaning.told begun ≡ told) (runs_is : meaning.runs begun ≡ runs)
     (is : a ≡ place p n i) (lt : i < p.slots) (was : use_at k.slabs n i ≡ Some Live) (items : k₁.slabs ≡ with_use k.slabs n i Held)
     (cleared : Clears meaning p begun half a) where

@@ -20,7 +20,7 @@ use Rattle.hm_class.specs.Uses.{Numbers, open_at, numbers_of, Uses, SlabUse, occ
 use Rattle.hm_class.specs.Finds.{Finds, CanOpen, CanPick, CanServe}
 use Rattle.hm_class.specs.Outcomes.{canary_value}
 use Rattle.hm_class.specs.Sources.{unopened_below, new_of, front_of}
-use Rattle.hm_class.specs.Kept.{Shows, IsKept, terms_of}
+use Rattle.hm_class.specs.Kept.{Shows, IsKept, terms_of, identity, store}
 use Rattle.hm_class.proofs.Followed.{shows_new}
 use Rattle.hm_class.proofs.Paged.{meets_none}
 use Rattle.hm_class.proofs.Permitted.{IsNew, new_slab_is, IsServing, source_serves, open_place, not_taken, has_one}
@@ -51,7 +51,7 @@ unopened_is p k o numbers e =
     same_unopened p k.lists.retired (length k.slabs) ∙ ap (λ (q : Numbers). unopened_below q.limit k.lists.retired (length k.slabs)) (sym numbers) ∙ e
 
 module _ (told : Bool) (runs : PageRuns) (faults : ℕ) (c : Config) (number arena : ℕ) (p : Shape) (es : List Entry) (k : Slabs) (stream : Words) (quarantine : Kept) (parking : List (Option ℕ))
-    (kept : IsKept told runs faults c number arena p es k stream quarantine parking) where
+    (kept : IsKept told runs faults (identity c number arena p) es (store k stream quarantine parking)) where
   abbrev now_is : State
   now_is = state (terms_of told c p) es
 

@@ -41,7 +41,7 @@ use Rattle.hm_class.specs.Outcomes.{freed_choices, freed_draws}
 use Rattle.hm_class.specs.Frees as frees
 use Rattle.hm_class.specs.Frees.{array_word, place_of_word, array_stream, Clears, Settles, is_surplus, freed_uses, with_unparked}
 use Rattle.hm_class.specs.Region.{HoldsSlabs}
-use Rattle.hm_class.specs.Kept.{Shows, AreFull, IsKept, terms_of, cells_of}
+use Rattle.hm_class.specs.Kept.{Shows, AreFull, IsKept, terms_of, cells_of, identity, store}
 use Rattle.hm_class.proofs.Entered.{length_taken, has_removed_same, has_overlaid}
 use Rattle.hm_class.proofs.Followed.{shows_count, shows_released, shows_retired, shows_unparked, shows_written}
 use Rattle.hm_class.proofs.Freed.{released_is, draws_are, stepped_freed, after_freed, stream_after, IsNextWord, IsUnparked, place_drawn, parking_drawn}
@@ -94,7 +94,7 @@ clean_without : (p : Shape) (s : State) (a : ℕ) → has_bytes p ≡ false → 
 clean_without p s a off = ap (λ (b : Bool). cond (b && not (found_canary p s a == kept_canary p s a)) (told_pair (kept_canary p s a) (found_canary p s a)) None) off
 
 module _ (told : Bool) (runs : PageRuns) (faults : ℕ) (c : Config) (number arena : ℕ) (p : Shape) (es : List Entry) (k : Slabs) (stream : Words) (quarantine : Kept)
-    (kept : IsKept told runs faults c number arena p es k stream quarantine k.parking)
+    (kept : IsKept told runs faults (identity c number arena p) es (store k stream quarantine k.parking))
     {P : Type 0} (meaning : pages.Ghosts P) (begun half now : P) (k₁ k' : Slabs) (stream' : Words) (a : ℕ) (slot : Slot) (stated : Option ℕ) (who : Who) (f f' : ℕ)
     (told_is : meaning.told begun ≡ told) (runs_is : meaning.runs begun ≡ runs) (accepts : Accepts meaning p k begun a stated slot)
     (items : k₁.slabs ≡ with_use k.slabs slot.slab slot.index Held) (cleared : Clears meaning p begun half a) (lists : SameLists k k₁)
@@ -126,12 +126,12 @@ module _ (told : Bool) (runs : PageRuns) (faults : ℕ) (c : Config) (number are
   finish : (released : Option ℕ) (m : ℕ) (e : Emptied) (final : State) (kb ka : Kind) → released ≡ let_go quarantine a (place_of_word p (next_word stream))
       → step p first (entry_freed p stream who a stated released e f f') ≡ record final { faults = f' }
       → Empties t (releases released taken) f f' (freed_choices released e) (surplus p (releases released taken) released)
-      → IsNextWord stream (p.array == 0) e → IsUnparked t (cells_of first k stream quarantine k.parking) e
+      → IsNextWord stream (p.array == 0) e → IsUnparked t (cells_of first (store k stream quarantine k.parking)) e
       → Shows p k'.slabs final → k'.lists.retired ≡ final.shut → AreFull k'.slabs k'.lists.full → k'.numbers ≡ numbers_of p → length final.live ≤ live_count k'.slabs → (IsTrue told → HoldsSlabs p final.opens (meaning.runs now))
       → touched p released (Returned a) ≡ m → kind p first m ≡ kb → kind p final m ≡ ka
       → k'.lists.partial ≡ listed Partial m kb ka k.lists.partial → k'.lists.empty ≡ listed Empty m kb ka k.lists.empty
       → stream' ≡ stream_after (array_stream p stream) e → k'.parking ≡ parking_with (parking_place t (freed_draws (array_word p (next_word stream)) e)) (freed_choices released e).retired k.parking
-      → IsKept told (meaning.runs now) f' c number arena p (es ++ entry_freed p stream who a stated released e f f' ∷ []) k' stream' (kept_with quarantine a (place_of_word p (next_word stream))) k'.parking
+      → IsKept told (meaning.runs now) f' (identity c number arena p) (es ++ entry_freed p stream who a stated released e f f' ∷ []) (store k' stream' (kept_with quarantine a (place_of_word p (next_word stream))) k'.parking)
   finish released m e final kb ka let_is after empties next unparked shows shut full numbers live slabs at was now_is partial empty taken_words places =
       let x : Entry = entry_freed p stream who a stated released e f f' in
       let same : (freed_choices released e).released ≡ released = released_is released e in
@@ -146,7 +146,7 @@ module _ (told : Bool) (runs : PageRuns) (faults : ℕ) (c : Config) (number are
         emptied = subst (λ (o : Option ℕ). Empties t (releases o taken) f f' (freed_choices released e) (surplus p (releases o taken) o)) (sym same) empties;
         choices = chosen_is released e;
       }))
-      (stepped_freed t (cells_of first k stream quarantine k.parking) who a f f' stated released e next unparked let_is) refl
+      (stepped_freed t (cells_of first (store k stream quarantine k.parking)) who a f f' stated released e next unparked let_is) refl
       (record {
         shows = subst (λ (s : State). Shows p k'.slabs s) (sym after) (shows_count p k'.slabs final f' shows);
         shut = shut ∙ ap (λ (s : State). s.shut) (sym after);
@@ -188,7 +188,7 @@ module _ (told : Bool) (runs : PageRuns) (faults : ℕ) (c : Config) (number are
       (sym (shows₁.opens m) ∙ open₁ m ∙ kept.follows.shows.opens m ∙ is.0, sym (same_kind₁ m) ∙ is.1)
 
   abbrev Ends : Option ℕ → Emptied → Type 0
-  Ends released e = IsKept told (meaning.runs now) f' c number arena p (es ++ entry_freed p stream who a stated released e f f' ∷ []) k' stream' (kept_with quarantine a (place_of_word p (next_word stream))) k'.parking
+  Ends released e = IsKept told (meaning.runs now) f' (identity c number arena p) (es ++ entry_freed p stream who a stated released e f f' ∷ []) (store k' stream' (kept_with quarantine a (place_of_word p (next_word stream))) k'.parking)
 
   -- nothing left the quarantine
   pub kept_held : (e : Emptied) → None ≡ let_go quarantine a (place_of_word p (next_word stream)) → e ≡ emptied.Kept → k'.slabs ≡ k₁.slabs → SameLists k₁ k' → (IsTrue told → meaning.runs now ≡ meaning.runs half) → stream' ≡ array_stream p stream → k'.parking ≡ k.parking
@@ -238,7 +238,7 @@ module _ (told : Bool) (runs : PageRuns) (faults : ℕ) (c : Config) (number are
         ap (λ (x : Bool). x && nat_lt 131072 ((length k₁.lists.empty + 1) * p.slab)) (ap (λ (x : Kind). same_kind x Empty) (sym (kind_is p uses₂ freed m kept.served.shape shows₂)) ∙ empty_kind p freed m)
         ∙ of (is_empty p freed m) refl
       where
-        now_kept : AreKept t first (cells_of first k stream quarantine k.parking)
+        now_kept : AreKept t first (cells_of first (store k stream quarantine k.parking))
         now_kept = kept_now told runs faults c number arena p es k stream quarantine k.parking kept
 
         of : (x : Bool) → is_empty p freed m ≡ x → (x && nat_lt 131072 ((length k₁.lists.empty + 1) * p.slab)) ≡ (x && nat_lt 131072 (length (empty_slabs p freed) * p.slab))

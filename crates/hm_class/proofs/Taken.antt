@@ -39,7 +39,7 @@ use Rattle.hm_class.specs.Outcomes.{reply_of}
 use Rattle.hm_class.specs.Gives.{Gives, Stains, Seals}
 use Rattle.hm_class.specs.Finds.{slot_in}
 use Rattle.hm_class.specs.Region.{HoldsSlabs}
-use Rattle.hm_class.specs.Kept.{Shows, AreFull, IsKept, terms_of, cells_of}
+use Rattle.hm_class.specs.Kept.{Shows, AreFull, IsKept, terms_of, cells_of, identity, store}
 use Rattle.hm_class.proofs.Counts.{weight}
 use Rattle.hm_class.proofs.Entered.{length_removed}
 use Rattle.hm_class.proofs.Followed.{shows_count, shows_given, shows_condemned, available_is}
@@ -96,7 +96,7 @@ more_live all all' n i u v was items = omega (arith, ap live_count items, counte
 
 -- ---- a slot of slab n is given, or condemned
 module _ (told : Bool) (runs : PageRuns) (faults : ℕ) (c : Config) (number arena : ℕ) (p : Shape) (es : List Entry) (k : Slabs) (stream : Words) (quarantine : Kept) (parking : List (Option ℕ))
-    (kept : IsKept told runs faults c number arena p es k stream quarantine parking)
+    (kept : IsKept told runs faults (identity c number arena p) es (store k stream quarantine parking))
     {P : Type 0} (meaning : pages.Ghosts P) (mid now : P) (k₁ k' : Slabs) (stream' : Words) (n i : ℕ) (kind₀ : Kind) (b : SlabUse) (choices : Choices) (draws : Draws) (who : Who) (asked f f' : ℕ)
     (tell : IsTrue told → IsTrue (meaning.told mid)) (asks : raised asked ≤ class_size_of p) (is : f ≡ faults) (later : f ≤ f')
     (lt : i < p.slots) (is_slab : slab_in k₁.slabs n ≡ Some b) (v : SlotUse) (was : use_at k₁.slabs n i ≡ Some v) (free : occupied v ≡ false)
@@ -111,13 +111,13 @@ module _ (told : Bool) (runs : PageRuns) (faults : ℕ) (c : Config) (number are
     (was_kind : kind p (state (terms_of told c p) es) n ≡ kind₀)
     (are : AreDraws draws) (taken : after_words stream draws.used ≡ stream')
     (picks : Picks p (state (terms_of told c p) es) (opened p choices.opened choices.canary (state (terms_of told c p) es)) choices (place p n i))
-    (stepped : (r : Reply) → event_of (Allot asked 1) r ≡ Picked (place p n i) → IsSteppedEntry (terms_of told c p) (cells_of (state (terms_of told c p) es) k stream quarantine parking) (entry_of who (Allot asked 1) r choices draws f f'))
+    (stepped : (r : Reply) → event_of (Allot asked 1) r ≡ Picked (place p n i) → IsSteppedEntry (terms_of told c p) (cells_of (state (terms_of told c p) es) (store k stream quarantine parking)) (entry_of who (Allot asked 1) r choices draws f f'))
   where
     abbrev then : State
     then = opened p choices.opened choices.canary (state (terms_of told c p) es)
 
     pub kept_gives : (o : Outcome) → Gives meaning p k₁ k' mid now (slot_in n i) o
-        → IsKept told (meaning.runs now) f' c number arena p (es ++ entry_of who (Allot asked 1) (reply_of o) choices draws f f' ∷ []) k' stream' quarantine parking
+        → IsKept told (meaning.runs now) f' (identity c number arena p) (es ++ entry_of who (Allot asked 1) (reply_of o) choices draws f f' ∷ []) (store k' stream' quarantine parking)
     kept_gives (outcome.Given a size) g =
         let t : Terms = terms_of told c p in
         let q : ℕ = place p n i in
@@ -126,7 +126,7 @@ module _ (told : Bool) (runs : PageRuns) (faults : ℕ) (c : Config) (number are
         let dead : weight lives v ≡ 0 = ap (λ (b : Bool). cond {A = ℕ} b 1 0) off.0 in
         let shows' : Shows p k'.slabs (record (gives p q asked then) { faults = f' }) = shows_count p k'.slabs (gives p q asked then) f'
         (subst (λ (u : Uses). Shows p u (gives p q asked then)) (sym g.slabs) (shows_given p k₁.slabs then n i b v kept.served.shape lt is_slab was shows asked free)) in
-        subst (λ (x : ℕ). IsKept told (meaning.runs now) f' c number arena p (es ++ entry_of who (Allot asked 1) (reply.Given x size) choices draws f f' ∷ []) k' stream' quarantine parking) (sym g.addr_is)
+        subst (λ (x : ℕ). IsKept told (meaning.runs now) f' (identity c number arena p) (es ++ entry_of who (Allot asked 1) (reply.Given x size) choices draws f f' ∷ []) (store k' stream' quarantine parking)) (sym g.addr_is)
         (pushed told runs faults c number arena p es k stream quarantine parking kept (meaning.runs now) f' k' stream' quarantine parking e
         (allowed_of t (state t es) who (Allot asked 1) (reply.Given q size) choices draws f f' are (asks, refl) (is ∙ kept.count) later
         (picks, g.size_is, λ y. finds_is c p then q None kept.served.valid.reuse (ap (λ (x : ℕ). first_nonzero (usable_bytes p then x)) (sym g.addr_is) ∙ found_told meaning p k₁.slabs then n i mid now told tell kept.served.shape on lt shows slabs a None g.addr_is g.clean y)))
@@ -150,7 +150,7 @@ module _ (told : Bool) (runs : PageRuns) (faults : ℕ) (c : Config) (number are
         let items : k'.slabs ≡ with_use k₁.slabs n i (Condemned (was_given v)) = g.slabs ∙ ap (λ (b : Bool). with_use k₁.slabs n i (Condemned b)) given in
         let shows' : Shows p k'.slabs (record (condemns q then) { faults = f' }) = shows_count p k'.slabs (condemns q then) f'
         (subst (λ (u : Uses). Shows p u (condemns q then)) (sym items) (shows_condemned p k₁.slabs then n i b v kept.served.shape lt is_slab was shows free)) in
-        subst (λ (x : ℕ). IsKept told (meaning.runs now) f' c number arena p (es ++ entry_of who (Allot asked 1) (reply.Overwritten x at found) choices draws f f' ∷ []) k' stream' quarantine parking) (sym g.addr_is)
+        subst (λ (x : ℕ). IsKept told (meaning.runs now) f' (identity c number arena p) (es ++ entry_of who (Allot asked 1) (reply.Overwritten x at found) choices draws f f' ∷ []) (store k' stream' quarantine parking)) (sym g.addr_is)
         (pushed told runs faults c number arena p es k stream quarantine parking kept (meaning.runs now) f' k' stream' quarantine parking e
         (allowed_of t (state t es) who (Allot asked 1) (reply.Overwritten q at found) choices draws f f' are (asks, refl) (is ∙ kept.count) later
         (picks, kept.served.valid.reuse, λ y. finds_is c p then q (Some (at, found)) kept.served.valid.reuse (ap (λ (x : ℕ). first_nonzero (usable_bytes p then x)) (sym g.addr_is) ∙ found_told meaning p k₁.slabs then n i mid now told tell kept.served.shape on lt shows slabs a (Some (at, found)) g.addr_is g.stained y)))

@@ -33,7 +33,8 @@ canary_by low high = record { low = low; high = high; canary = canary_of low hig
 
 -- the canary that is drawn, and the stream after it
 abbrev pub drawn_canary : Shape → Words → Option Canary
-drawn_canary p stream = if has_bytes p then Some (canary_by (next_word stream) (next_word (after_word stream))) else None
+drawn_canary p stream =
+    if has_bytes p then Some (canary_by (next_word stream) (next_word (after_word stream))) else None
 
 abbrev pub canary_stream : Shape → Words → Words
 canary_stream p stream = if has_bytes p then after_word (after_word stream) else stream

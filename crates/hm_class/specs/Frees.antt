@@ -72,7 +72,8 @@ module _ {P : Type 0} (meaning : pages.Ghosts P) where
       × (meaning.faults before ≤ meaning.faults now)
   Drops p n before now false =
       (has_bytes p ≡ true)
-      × (IsTrue (meaning.told before) → meaning.runs now ≡ map.insert (meaning.runs before) (slab_at p n) (zeros p.slab))
+      × (IsTrue (meaning.told before)
+      → meaning.runs now ≡ map.insert (meaning.runs before) (slab_at p n) (zeros p.slab))
       × (meaning.faults before < meaning.faults now)
 
 -- ---- what was and what is: the slabs, the pages and the stream, each before and after

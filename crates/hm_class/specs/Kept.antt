@@ -49,34 +49,62 @@ pub record Follows (p : Shape) (s : State) (k : Slabs) : Type 0 where
   pub numbers : k.numbers ≡ numbers_of p
   pub live_all : length s.live ≤ live_count k.slabs
 
--- what is kept, as cells
-abbrev pub cells_of : State → Slabs → Words → Kept → List (Option ℕ) → Cells
-cells_of s k stream quarantine parking = record {
-  state = s;
+-- which region it is: what no call changes
+pub record Identity : Type 0 where
+  pub config : Config
+  pub number : ℕ
+  pub arena : ℕ
+  pub shape : Shape
+
+abbrev pub identity : Config → ℕ → ℕ → Shape → Identity
+identity c number arena p = record { config = c; number = number; arena = arena; shape = p }
+
+-- what it keeps beside its pages and its history
+pub record Store : Type 0 where
+  pub slabs : Slabs
+  pub stream : Words
+  pub quarantine : Kept
+  pub parking : List (Option ℕ)
+
+abbrev pub store : Slabs → Words → Kept → List (Option ℕ) → Store
+store k stream quarantine parking = record {
+  slabs = k;
   stream = stream;
-  partial = k.lists.partial;
-  empty = k.lists.empty;
   quarantine = quarantine;
   parking = parking;
+}
+
+-- what is kept, as cells
+abbrev pub cells_of : State → Store → Cells
+cells_of s k = record {
+  state = s;
+  stream = k.stream;
+  partial = k.slabs.lists.partial;
+  empty = k.slabs.lists.empty;
+  quarantine = k.quarantine;
+  parking = k.parking;
 }
 
 abbrev pub terms_of : Bool → Config → Shape → Terms
 terms_of told c p = record { config = c; shape = p; told = told }
 
-pub record IsServed (c : Config) (number arena : ℕ) (p : Shape) : Type 0 where
-  pub valid : IsValid c
-  pub arena_below : arena < c.arenas
-  pub class_below : p.class.0 < class_count
-  pub is : p ≡ drawn_shape number c arena p.class
-  pub shape : IsShape p
+abbrev pub terms_in : Bool → Identity → Terms
+terms_in told own = terms_of told own.config own.shape
 
-pub record IsKept (told : Bool) (runs : PageRuns) (faults : ℕ) (c : Config) (number arena : ℕ) (p : Shape)
-    (es : List Entry) (k : Slabs) (stream : Words) (quarantine : Kept) (parking : List (Option ℕ)) : Type 0 where
-  pub served : IsServed c number arena p
-  pub legal : IsLegal (terms_of told c p) es
-  pub stepped : IsStepped number arena (terms_of told c p) es
-  pub count : faults ≡ (state (terms_of told c p) es).faults
-  pub follows : Follows p (state (terms_of told c p) es) k
-  pub slabs : IsTrue told → HoldsSlabs p (state (terms_of told c p) es).opens runs
-  pub lists : cells number arena (terms_of told c p) es
-      ≡ cells_of (state (terms_of told c p) es) k stream quarantine parking
+pub record IsServed (own : Identity) : Type 0 where
+  pub valid : IsValid own.config
+  pub arena_below : own.arena < own.config.arenas
+  pub class_below : own.shape.class.0 < class_count
+  pub is : own.shape ≡ drawn_shape own.number own.config own.arena own.shape.class
+  pub shape : IsShape own.shape
+
+-- the history is legal and drawn, and the pages and what is kept are what it says
+pub record IsKept (told : Bool) (runs : PageRuns) (faults : ℕ) (own : Identity) (es : List Entry)
+    (k : Store) : Type 0 where
+  pub served : IsServed own
+  pub legal : IsLegal (terms_in told own) es
+  pub stepped : IsStepped own.number own.arena (terms_in told own) es
+  pub count : faults ≡ (state (terms_in told own) es).faults
+  pub follows : Follows own.shape (state (terms_in told own) es) k.slabs
+  pub slabs : IsTrue told → HoldsSlabs own.shape (state (terms_in told own) es).opens runs
+  pub lists : cells own.number own.arena (terms_in told own) es ≡ cells_of (state (terms_in told own) es) k

@@ -65,8 +65,8 @@ pub record HoldsSlabs (p : Shape) (opens : List (ℕ × Slab)) (runs : PageRuns)
   pub only : (q : ℕ) (bytes : List ℕ) → map.get runs q ≡ Some bytes → IsSlab p opens q bytes
   pub whole : AllWhole (bytes_of_slab p) opens
 
--- the region is one of a valid configuration, its history is legal, its choices are drawn, and the pages and the room for
--- entries are what it says
+-- the region is one of a valid configuration, its history is legal, its choices are drawn, and the pages and the room
+-- for entries are what it says
 pub record IsRegion {P : Type 0} (meaning : pages.Ghosts P) (r : Region P) : Type 0 where
   pub valid : IsValid r.config
   pub arena_below : r.arena < r.config.arenas
@@ -80,8 +80,8 @@ pub record IsRegion {P : Type 0} (meaning : pages.Ghosts P) (r : Region P) : Typ
   -- an entry for the free of each live block
   pub room : length (region_state meaning.told r).live ≤ r.spare
 
--- the address starts a live block, the stated size is its own, and its canary is unchanged, which is known where the bytes are
--- told and in class 0, which has none
+-- the address starts a live block, the stated size is its own, and its canary is unchanged, which is known where the
+-- bytes are told and in class 0, which has none
 pub record IsTakenBack {P : Type 0} (told : P → Bool) (r : Region P) (a : ℕ) (stated : Option ℕ) : Type 0 where
   pub tells : has_bytes (region_shape r) ≡ true → IsTrue (told r.pages)
   pub block : IsLiveBlock (region_shape r) (region_state told r) a

@@ -160,7 +160,8 @@ abbrev pub with_slab : ℕ → Uses → SlabUse → Uses
 with_slab interval uses slab =
     (uses ++ Some slab ∷ []) ++ (if is_guard interval (length uses + 1) then None ∷ [] else [])
 
--- what is opened comes from those that are shut: the first of them; where there is none, a fresh slab is put at the next number
+-- what is opened comes from those that are shut: the first of them; where there is none, a fresh slab is put at the
+-- next number
 abbrev pub taken_uses : Numbers → List ℕ → Uses → Uses
 taken_uses q [] uses = with_slab q.guard_interval uses (fresh_slab q.slots)
 taken_uses q (m ∷ ms) uses = uses

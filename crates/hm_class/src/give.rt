@@ -90,7 +90,8 @@ fn serve_from<P: Pages>(
     ensures count { P.faults pages.new ≡ P.faults pages.old }
     ensures replies { IsSlotReply (usable shape.now) (reply_of result.0) }
     ensures word { result.1 ≡ next_word stream.old }
-    ensures served { Serve P.Pages slabs.old slabs.new pages.old pages.new stream.old stream.new shape.now slab result.0 }
+    ensures served { Serve P.Pages slabs.old slabs.new pages.old pages.new stream.old stream.new shape.now slab
+        result.0 }
 {
     let (word, start) = stream.draw(shape.slots);
     let Some(index) = slabs.first_from(slab, start) else {
@@ -115,7 +116,8 @@ pub fn serve<P: Pages>(
     ensures told { P.told pages.new ≡ P.told pages.old }
     ensures count { P.faults pages.new ≡ P.faults pages.old }
     ensures replies { IsSlotReply (usable shape.now) (reply_of result.outcome) }
-    ensures served { Serves P.Pages slabs.old slabs.new pages.old pages.new stream.old stream.new shape.now next result }
+    ensures served { Serves P.Pages slabs.old slabs.new pages.old pages.new stream.old stream.new shape.now next
+        result }
 {
     match next {
         NextSlab::Exhausted => Event::plain(Outcome::Exhausted),

@@ -46,7 +46,7 @@ pub struct ClassHeap<P: Pages> {
 impl<P: Pages> Model for ClassHeap<P> {
     ghost use Rattle.std.specs.Prelude.{◌-◌, ◌≤◌};
     ghost use Rattle.hm_class.specs.Region.{Region};
-    ghost use Rattle.hm_class.specs.Kept.{IsKept};
+    ghost use Rattle.hm_class.specs.Kept.{IsKept, identity, store};
     ghost use Rattle.hm_class.specs.Uses.{live_count};
 
     ghost Value = { Region P };
@@ -61,8 +61,9 @@ impl<P: Pages> Model for ClassHeap<P> {
       pages = h.pages;
     } };
 
-    ghost invariant = { λ h. IsKept (P.told h.pages) (P.runs h.pages) (P.faults h.pages) h.config h.number h.arena
-        h.shape h.entries.items h.slabs h.stream h.quarantine h.slabs.parking
+    ghost invariant = { λ h. IsKept (P.told h.pages) (P.runs h.pages) (P.faults h.pages)
+        (identity h.config h.number h.arena h.shape) h.entries.items
+        (store h.slabs h.stream h.quarantine h.slabs.parking)
         × (live_count h.slabs.slabs ≤ h.entries.cap - h.entries.len) };
 }
 

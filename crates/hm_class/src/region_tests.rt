@@ -236,14 +236,19 @@ fn empty_blocks<P: Pages>(
     Ok(blocks)
 }
 
-/// Two blocks are given and taken back, and two more are given.
-fn two_and_two<P: Pages>(region: &mut ClassHeap<P>) -> Result<[u64; 4], Fail> {
+/// Two blocks are given.
+fn two_given<P: Pages>(region: &mut ClassHeap<P>) -> Result<(u64, u64), Fail> {
     let a = given(region, 130_000)?;
     let b = given(region, 130_000)?;
+    Ok((a, b))
+}
+
+/// Two blocks are given and taken back, and two more are given.
+fn two_and_two<P: Pages>(region: &mut ClassHeap<P>) -> Result<[u64; 4], Fail> {
+    let (a, b) = two_given(region)?;
     free(region, a)?;
     free(region, b)?;
-    let c = given(region, 130_000)?;
-    let d = given(region, 130_000)?;
+    let (c, d) = two_given(region)?;
     Ok([a, b, c, d])
 }
 
@@ -253,16 +258,13 @@ fn stained_second<P: Pages>(
     alloc: Global,
     region: &mut ClassHeap<P>,
 ) -> Result<(u64, u64, u64), Fail> {
-    let z = given(region, 130_000)?;
-    let a = given(region, 130_000)?;
-    let b = given(region, 130_000)?;
-    let c = given(region, 130_000)?;
+    let (z, a) = two_given(region)?;
+    let (b, c) = two_given(region)?;
     free(region, z)?;
     free_and_stain(alloc, region, Some(a))?;
     free(region, b)?;
     free(region, c)?;
-    let d = given(region, 130_000)?;
-    let _e = given(region, 130_000)?;
+    let (d, _) = two_given(region)?;
     Ok((z, a, d))
 }
 

@@ -117,8 +117,8 @@ abbrev pub allotted : ℕ → ℕ → ℕ → ℕ → Reply → Plan
 allotted home place a count (Given new usable) = copying home place a new usable count
 allotted home place a count reply = Done (answer.Reply reply)
 
--- the old block was measured, or not: it stays where it serves, and else the lesser of its usable size and the new asked
--- size is copied
+-- the old block was measured, or not: it stays where it serves, and else the lesser of its usable size and the new
+-- asked size is copied
 abbrev pub measured : ℕ → ℕ → ℕ → ℕ → (ℕ → Bool) → Reply → Plan
 measured home place a asked keeps (Usable old) =
     if keeps old then Done (answer.Kept a old) else Part place (Allot asked 1) (allotted home place a (min old asked))

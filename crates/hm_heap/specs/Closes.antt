@@ -18,8 +18,8 @@ module _ {P : Type 0} (meaning : pages.Ghosts P) where
     pub told_is : meaning.told p ≡ o.told
     pub sound : IsSound meaning o h.entries p
 
-  -- the history and the pages of this region of a heap, whose pages tell as its turn says: the history goes on from what
-  -- its last turn had seen
+  -- the history and the pages of this region of a heap, whose pages tell as its turn says: the history goes on from
+  -- what its last turn had seen
   pub record IsClosedRegion (c : Config) (number region : ℕ) (t : Known) (h : History) (p : P) : Type 0 where
     pub told : Bool
     pub told_is : told ≡ (origin_in t.knows.origin).told

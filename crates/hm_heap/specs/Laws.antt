@@ -69,8 +69,8 @@ SlotsDelayed = (o : Origin) (before middle after : List Entry) (freed given : En
     → class_laws.IsFreedAt freed a → class_laws.IsGivenAt given a
     → delay (class_terms o).shape ≤ class_laws.frees_in middle
 
--- between the free of a large block that goes into quarantine and a given one that meets it stand at least 1,025 further
--- frees of such blocks
+-- between the free of a large block that goes into quarantine and a given one that meets it stand at least 1,025
+-- further frees of such blocks
 abbrev pub BlocksDelayed : Type 0
 BlocksDelayed = (o : Origin) (before middle after : List Entry) (freed given : Entry) (a b asked guard : ℕ)
     (block : blocks.Block)

@@ -13,7 +13,8 @@ abbrev pub who_of : PassView → ℕ → ℕ → Who
 who_of p step part = record { caller = p.caller; round = p.round; thread = p.thread; step = step; part = part }
 
 -- the turn at this place made the call; every other turn is as before
-pub record HasPart (p q : PassView) (place : ℕ) (who : Who) (call : Call) (result : Result Reply NoMemory) : Type 0 where
+pub record HasPart (p q : PassView) (place : ℕ) (who : Who) (call : Call)
+    (result : Result Reply NoMemory) : Type 0 where
   pub inside : place < length p.turns
   pub turn : Known
   pub turns_are : q.turns ≡ slice_set p.turns place turn

@@ -29,7 +29,8 @@ pub record IsOriginOf (c : Config) (number region : ℕ) (origin : List ℕ) : T
 pub record AreLocks (c : Config) (number : ℕ) (locks : List Lock) : Type 0 where
   pub valid : IsValid c
   pub count : length locks ≡ region_count c + 1
-  pub each : (r : ℕ) (l : Lock) → r < length locks → IsOriginOf c number (region_at c r) (slice_index_or locks r l).origin
+  pub each : (r : ℕ) (l : Lock) → r < length locks
+      → IsOriginOf c number (region_at c r) (slice_index_or locks r l).origin
 
 -- ---- passes
 -- a pass: its numbers, the splits that it has made, those that are not joined, and one turn for each region

@@ -57,7 +57,8 @@ Tries p q step (Done a) answer = (answer ≡ Ok a) × (q ≡ p)
 Tries p q step (Part place call next) answer =
     TriesPart p q place (who_of p step 1) call answer (λ between reply. Follows between q step 2 (next reply) answer)
 
-pub record ServesTry (IsPlan : Plan → Type 0) (p q : PassView) (step : ℕ) (answer : Result Answer NoMemory) : Type 0 where
+pub record ServesTry (IsPlan : Plan → Type 0) (p q : PassView) (step : ℕ)
+    (answer : Result Answer NoMemory) : Type 0 where
   pub plan : Plan
   pub is : IsPlan plan
   pub tries : Tries p q step plan answer

@@ -57,7 +57,8 @@ pub record IsReply (o : Origin) (call : Call) (reply : Reply) : Type 0 where
 abbrev pub IsInReach : ℕ → Type 0
 IsInReach a = (2 ^ 40 ≤ a) × (a < 2 ^ 47)
 
--- how far a reply reaches, whatever the region: where a given block begins, and that as many bytes come as were asked for
+-- how far a reply reaches, whatever the region: where a given block begins, and that as many bytes come as were
+-- asked for
 pub record Reaches (call : Call) (reply : Reply) : Type 0 where
   pub given : (a usable : ℕ) → reply ≡ Given a usable → IsInReach a
   pub bytes : (a len : ℕ) (runs : List (ℕ × ℕ)) → call ≡ Fetch a len → reply ≡ Bytes runs → length (expand runs) ≡ len

@@ -124,7 +124,8 @@ impl<'g, P: Pages, G: Gate> Heap<'g, P, G> {
         requires of { AreOf self.now.locks pass.old.turns }
         ensures same { pass.new ≡ record pass.old { turns = pass.new.turns } }
         ensures of { AreOf self.now.locks pass.new.turns }
-        ensures answer { Serves (IsCallocPlan self.now.config pass.old.thread count size) pass.old pass.new step result }
+        ensures answer { Serves (IsCallocPlan self.now.config pass.old.thread count size) pass.old pass.new step
+            result }
         ensures reach { IfOk result AnswerInReach }
     {
         match count.checked_mul(size) {
@@ -176,8 +177,8 @@ impl<'g, P: Pages, G: Gate> Heap<'g, P, G> {
         self.reply_at(rt, pass, step, addr, Request::GiveBack { addr, stated })
     }
 
-    /// Takes a block back. Where bytes are told, one that is live and whose canary is whole never lacks memory, unless it
-    /// is a large one of which a page failed as it was to be taken back before.
+    /// Takes a block back. Where bytes are told, one that is live and whose canary is whole never lacks memory, unless
+    /// it is a large one of which a page failed as it was to be taken back before.
     pub fn free<R: Wait>(
         &self,
         rt: &R,

@@ -231,7 +231,8 @@ impl<'g, P: Pages, G: Gate> Heap<'g, P, G> {
         requires of { AreOf self.now.locks pass.old.turns }
         ensures same { pass.new ≡ record pass.old { turns = pass.new.turns } }
         ensures of { AreOf self.now.locks pass.new.turns }
-        ensures answer { Serves (IsReallocPlan self.now.config pass.old.thread addr asked) pass.old pass.new step result }
+        ensures answer { Serves (IsReallocPlan self.now.config pass.old.thread addr asked) pass.old pass.new step
+            result }
         ensures reach { IfOk result AnswerInReach }
     {
         let kind = class_of(asked);

@@ -1,14 +1,16 @@
 -- The results of rounds ascend by round, and within a round by thread.
-use Rattle.std.proofs.Common.{◌≡◌, ◌⊎◌, ℕ, ◌+◌, ◌<◌, ◌≤◌, ◌&&◌, nat_lt, nat_le, true, List, [], ◌∷◌, ◌++◌, length, arith, refl, sym, subst}
+use Rattle.std.proofs.Common.{◌≡◌, ◌⊎◌, ℕ, ◌+◌, ◌<◌, ◌≤◌, true, List, [], ◌∷◌, ◌++◌, length, arith, refl, sym, subst}
 use Rattle.std.specs.List.{list_all}
-use Rattle.std.proofs.lemmas.Bool.{and_from, and_parts, leb-true, ltb-true}
+use Rattle.std.proofs.lemmas.Bool.{and_from, and_parts}
 use mathlib.Core.Logic.{inl, inr}
 use mathlib.Core.Path.{transport}
 use Rattle.hm_report.specs.declared.results.Results.{Results}
 use Rattle.hm_report.specs.Findings.{ascends, precedes}
 use Rattle.hm_sizes.specs.declared.config.Config.{Config}
-use Rattle.hm_trace.specs.Traces.{is_step, is_round, is_script, avoids, are_scripts}
+use Rattle.hm_trace.specs.Traces.{is_round, are_scripts}
 use Rattle.hm_trace.specs.Views.{ScriptView}
+use Rattle.hm_trace.proofs.Scripts.{thread_range}
+use Rattle.hm_trace.proofs.Stays.{test_follows}
 use Rattle.hm_replay.specs.Names.{Names, settled}
 use Rattle.hm_replay.specs.Rounds.{RunsRound, RunsRounds}
 use Rattle.hm_replay.specs.Uses.{Own}
@@ -43,18 +45,6 @@ earlier round later thread least (r ∷ rs) l a = (
   a.1,
 )
 
--- what is known of the first of scripts that follow others, and of the rest
-first_of : (ones : List ScriptView) (last : ℕ) (s : ScriptView) (scripts : List ScriptView)
-    → are_scripts ones last (s ∷ scripts) ≡ true
-    → (last < s.thread) × (is_script s ≡ true) × (are_scripts (ones ++ s ∷ []) s.thread scripts ≡ true)
-first_of ones last s scripts valid =
-    let one =
-    and_parts (nat_lt last s.thread && is_script s && avoids ones s.steps)
-    (are_scripts (ones ++ s ∷ []) s.thread scripts) valid in
-    let two = and_parts (nat_lt last s.thread && is_script s) (avoids ones s.steps) one.0 in
-    let three = and_parts (nat_lt last s.thread) (is_script s) two.0 in
-    (ltb-true last s.thread three.0, three.1, one.1)
-
 round_after : (c : Config) (own : ℕ → Own) (caller round : ℕ) (names now after : Names) (scripts ones : List ScriptView) (thread : ℕ)
     (these later : List Results) → are_scripts ones thread scripts ≡ true
     → RunsRound c own caller round names now scripts these after → ((t : ℕ) → AreAfter round t later)
@@ -62,13 +52,13 @@ round_after : (c : Config) (own : ℕ → Own) (caller round : ℕ) (names now a
 round_after c own caller round names now after [] ones thread these later valid ran rest =
     subst (λ (l : List Results). AreAfter round thread (l ++ later)) (sym ran.0) (rest thread)
 round_after c own caller round names now after (s ∷ scripts) ones thread these later valid ran rest =
-    let first = first_of ones thread s scripts valid in
+    let first = test_follows ones thread s (are_scripts (ones ++ s ∷ []) s.thread scripts) valid in
     let next : AreAfter round s.thread (ran.later ++ later) =
     round_after c own (caller + 1) round names (settled now s.steps ran.last) after scripts
     (ones ++ s ∷ []) s.thread ran.later later
-    first.2 ran.rest rest in
+    first.1 ran.rest rest in
     subst (λ (l : List Results). AreAfter round thread (l ++ later)) (sym ran.results_are) (
-      inr (sym ran.round_is, subst (λ (t : ℕ). thread < t) (sym ran.thread_is) first.0),
+      inr (sym ran.round_is, subst (λ (t : ℕ). thread < t) (sym ran.thread_is) first.0.later),
       transport (λ i. AreAfter (sym ran.round_is i) (sym ran.thread_is i) (ran.later ++ later)) next,
     )
 
@@ -91,19 +81,14 @@ results_ascend c own rounds results names last valid ran =
     they_ascend 0 0 results (rounds_after c own 1 1 names last rounds results 0 0 valid (omega arith) ran)
 
 -- ---- a round has at most 16 scripts
-few : (s : ScriptView) → is_script s ≡ true → s.thread ≤ 16
-few s valid =
-    let one = and_parts (nat_le 1 s.thread && nat_le s.thread 16) (list_all is_step s.steps) valid in
-    let two = and_parts (nat_le 1 s.thread) (nat_le s.thread 16) one.0 in
-    leb-true s.thread 16 two.1
-
 fewer : (scripts ones : List ScriptView) (last : ℕ) → last ≤ 16 → are_scripts ones last scripts ≡ true
     → length scripts + last ≤ 16
 fewer [] ones last most valid = omega (arith, most)
 fewer (s ∷ scripts) ones last most valid =
-    let first = first_of ones last s scripts valid in
-    let less : last < s.thread = first.0 in
-    let rest : length scripts + s.thread ≤ 16 = fewer scripts (ones ++ s ∷ []) s.thread (few s first.1) first.2 in
+    let first = test_follows ones last s (are_scripts (ones ++ s ∷ []) s.thread scripts) valid in
+    let less : last < s.thread = first.0.later in
+    let most : s.thread ≤ 16 = (thread_range s first.0.fits).1 in
+    let rest : length scripts + s.thread ≤ 16 = fewer scripts (ones ++ s ∷ []) s.thread most first.1 in
     omega (arith, less, rest)
 
 pub round_is_small : (scripts : List ScriptView) → is_round scripts ≡ true → length scripts ≤ 16

@@ -1,10 +1,10 @@
 -- What the first pass knows of the callers after their passes are joined.
-use Rattle.std.proofs.Common.{◌≡◌, ◌≢◌, ℕ, ◌+◌, ◌-◌, ◌<◌, ◌≤◌, ◌⊎◌, List, [], ◌∷◌, length, slice_index_or, Some, arith, refl, ap, ◌∙◌, sym, subst, suc, zero}
-use Rattle.std.proofs.lemmas.Grind.{common_steps}
+use Rattle.std.proofs.Common.{◌≡◌, ℕ, ◌+◌, ◌-◌, ◌<◌, ◌≤◌, ◌⊎◌, List, [], ◌∷◌, length, slice_index_or, Some, arith, refl, ap, ◌∙◌, sym, subst, suc, zero}
 use mathlib.Core.Logic.{inl, inr}
 use Rattle.hm_model.specs.declared.entry.Entry.{Entry}
 use Rattle.hm_turn.specs.Known.{Known}
 use Rattle.hm_turn.specs.Callers.{ended_of}
+use Rattle.hm_turn.proofs.Callers.{ended_first, ended_other}
 use Rattle.hm_heap.specs.Passes.{met, all_met}
 use Rattle.hm_heap.proofs.Splitting.{met_index, met_long}
 use Rattle.hm_replay.specs.declared.round.Worker.{Worker}
@@ -26,12 +26,6 @@ rest_in_order count r first w ws o = record {
   long = λ i d b. o.long (suc i) d (omega arith);
   caller = λ i d t b. let c = o.caller (suc i) d t (omega arith) in omega arith;
 }
-
-found : (c k : ℕ) (mine : List Entry) (es : List (ℕ × List Entry)) → c ≡ k → ended_of c ((k, mine) ∷ es) ≡ Some mine
-found c k mine es e = grind (arith, common_steps)
-
-passed : (c k : ℕ) (mine : List Entry) (es : List (ℕ × List Entry)) → c ≢ k → ended_of c ((k, mine) ∷ es) ≡ ended_of c es
-passed c k mine es e = grind (arith, common_steps)
 
 -- the turn of region r
 module _ (count r : ℕ) (t : Known) (inside : r < count) where
@@ -75,7 +69,7 @@ module _ (count r : ℕ) (t : Known) (inside : r < count) where
       (λ i w s b e.
       let u : Known = in_pass (slice_index_or ws i w) in
       let is : u.knows.caller ≡ first + i = o.caller i w t b in
-      passed c u.knows.caller u.knows.mine s.knows.ended
+      ended_other c u.knows.caller u.knows.mine s.knows.ended
       (λ z. elim outside [ inl l ↦ omega (arith, z, is, b, l) | inr l ↦ omega (arith, z, is, b, l) ])
       ∙ e)
       refl
@@ -91,7 +85,7 @@ module _ (count r : ℕ) (t : Known) (inside : r < count) where
       keeps (first + 1) (first + 0) (all_met ts w.pass.turns) ws (met_long ts w.pass.turns ∙ n)
       (rest_in_order count r first w ws o) (inl (omega arith))
       ∙ ap (λ (z : Known). ended_of (first + 0) z.knows.ended) (met_here ts w n (o.long 0 w (omega arith)))
-      ∙ found (first + 0) u.knows.caller u.knows.mine (slice_index_or ts r t).knows.ended (sym is)
+      ∙ ended_first (first + 0) u.knows.caller u.knows.mine (slice_index_or ts r t).knows.ended (sym is)
   knows first (suc i) ts (w ∷ ws) d n o l =
       let e : first + suc i ≡ first + 1 + i = omega arith in
       ap (λ c. ended_of c (after (all_met ts w.pass.turns) ws).knows.ended) e

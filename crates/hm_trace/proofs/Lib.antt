@@ -20,11 +20,11 @@ mod Powers
 mod ReadAgain
 mod ReadTraces
 mod Ready
-mod Scripts
+pub mod Scripts
 mod Signs
 mod Spelled
 mod SpelledLines
-mod Stays
+pub mod Stays
 mod Steps
 mod StressNames
 mod Stressed

@@ -1,6 +1,7 @@
 //! Texts that are traces, the first faults of texts that are none, and stress traces.
 use crate::{
-    FaultKind, Name, Place, ReadRefusal, Step, TraceFault, read_trace, stress_trace, write_trace,
+    FaultKind, Name, Place, ReadRefusal, Script, Step, TraceFault, read_trace, stress_trace,
+    write_trace,
 };
 use std::alloc::{AllocError, Global};
 use std::process::Abort;
@@ -243,22 +244,24 @@ fn group(name: &str, size: u64, other: &str) -> Option<[Step; 5]> {
     ])
 }
 
+/// The steps of a thread.
+fn steps_of(scripts: &[Script], thread: u32) -> Option<&[Step]> {
+    let script = scripts.iter().find(|script| script.thread() == thread)?;
+    Some(script.steps())
+}
+
 #[test]
 fn stress_traces(rt: HostRuntime) -> Result<(), Fail> {
-    let alloc = rt.alloc();
     for (number, thread, j, name, size, other) in GROUPS {
-        let trace = stress_trace(&rt, alloc, number)?;
+        let trace = stress_trace(&rt, rt.alloc(), number)?;
         assert_eq!(rt; trace.rounds().len(), 1);
         let scripts = trace.rounds().first().ok_or("no round")?.scripts();
         assert_eq!(rt; scripts.len(), 16);
-        let script = scripts
-            .iter()
-            .find(|script| script.thread() == thread)
-            .ok_or("no thread")?;
-        assert_eq!(rt; script.steps().len(), 12_500);
-        let steps = script.steps().chunks(5).nth(j).ok_or("no group")?;
+        let steps = steps_of(scripts, thread).ok_or("no thread")?;
+        assert_eq!(rt; steps.len(), 12_500);
+        let found = steps.chunks(5).nth(j).ok_or("no group")?;
         let expected = group(name, size, other).ok_or("no name")?;
-        assert_eq!(rt; steps, expected.as_slice());
+        assert_eq!(rt; found, expected.as_slice());
     }
     Ok(())
 }

@@ -31,10 +31,10 @@ in_first c xs = rw (eq-eqb c c refl) refl
 in_cases : (x c : ℕ) (xs : List ℕ) → is_among x (c ∷ xs) ≡ true → (x ≡ c) ⊎ (is_among x xs ≡ true)
 in_cases x c xs h = dite (ℕ_discrete x c) (λ e. inl e) (λ n. inr (rw (ne_eqb x c n) at h))
 
-ended_first : (x c : ℕ) (m : List Entry) (es : Ended) → x ≡ c → ended_of x ((c, m) ∷ es) ≡ Some m
+pub ended_first : (x c : ℕ) (m : List Entry) (es : Ended) → x ≡ c → ended_of x ((c, m) ∷ es) ≡ Some m
 ended_first x c m es e = rw (eq-eqb x c e) refl
 
-ended_other : (x c : ℕ) (m : List Entry) (es : Ended) → x ≢ c → ended_of x ((c, m) ∷ es) ≡ ended_of x es
+pub ended_other : (x c : ℕ) (m : List Entry) (es : Ended) → x ≢ c → ended_of x ((c, m) ∷ es) ≡ ended_of x es
 ended_other x c m es n = rw (ne_eqb x c n) refl
 
 no_numbers : (xs : List ℕ) → length xs ≡ 0 → xs ≡ []

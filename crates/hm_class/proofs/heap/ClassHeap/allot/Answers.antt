@@ -3,7 +3,7 @@ use Rattle.hm_model.specs.declared.entry.Call.TheVariants as call
 use Rattle.hm_model.specs.declared.entry.Entry.{Entry}
 use Rattle.hm_model.specs.declared.entry.Reply.{Reply}
 use Rattle.hm_model.specs.Calls.{entry_of}
-use Rattle.hm_class.specs.Kept.{IsKept}
+use Rattle.hm_class.specs.Kept.{IsKept, identity, store}
 use Rattle.hm_class.specs.Outcomes.{reply_of}
 use Rattle.hm_class.specs.Region.{Region}
 use Rattle.hm_class.specs.Uses.{live_count}
@@ -72,9 +72,9 @@ invariant_of-self-2 g c =
     let places : k'.parking ≡ h.slabs.parking =
     served_parking g.P.Pages h.shape h.slabs k₁ k' h.pages mid now h.stream stream₁ stream' n event c.serve-event.ensures.served
     ∙ found_parking g.P.Pages h.shape h.slabs k₁ k' h.pages mid now h.stream stream₁ stream' n found in (
-      subst (λ (l : List (Option ℕ)). IsKept (told now) (runs now) (faults now) h.config h.number h.arena h.shape c.push_reserved.new.self.items k' stream' h.quarantine l) (sym places)
-          (subst (λ (b : Bool). IsKept b (runs now) (faults now) h.config h.number h.arena h.shape c.push_reserved.new.self.items k' stream' h.quarantine h.slabs.parking) (sym (c.serve-event.ensures.told ∙ c.find_slab.ensures.told))
-          (subst (λ (l : List Entry). IsKept (told h.pages) (runs now) (faults now) h.config h.number h.arena h.shape l k' stream' h.quarantine h.slabs.parking) (sym all)
+      subst (λ (l : List (Option ℕ)). IsKept (told now) (runs now) (faults now) (identity h.config h.number h.arena h.shape) c.push_reserved.new.self.items (store k' stream' h.quarantine l)) (sym places)
+          (subst (λ (b : Bool). IsKept b (runs now) (faults now) (identity h.config h.number h.arena h.shape) c.push_reserved.new.self.items (store k' stream' h.quarantine h.slabs.parking)) (sym (c.serve-event.ensures.told ∙ c.find_slab.ensures.told))
+          (subst (λ (l : List Entry). IsKept (told h.pages) (runs now) (faults now) (identity h.config h.number h.arena h.shape) l (store k' stream' h.quarantine h.slabs.parking)) (sym all)
           (kept_allotted (g.P.Pages.told h.pages) (g.P.Pages.runs h.pages) (g.P.Pages.faults h.pages) h.config h.number h.arena h.shape h.entries.items h.slabs h.stream h.quarantine h.slabs.parking kept₀ g.P.Pages h.pages mid now k₁ k' stream₁ stream' c.args.who c.args.asked refl c.find_slab.ensures.told refl refl c.serve-event.ensures.count asks
           n event found c.serve-event.ensures.served))),
       omega (arith, same, more, c.in_ok-reserve.ensures.ok, c.reserve.ensures.len, c.push_reserved.ensures.len, c.push_reserved.ensures.capacity),
@@ -97,7 +97,7 @@ returns-clause-region g c =
 
 pub returns-in_err-reserve-clause-region : goal.returns-in_err-reserve-clause-region
 returns-in_err-reserve-clause-region g c = region_of g.P.Pages _ c.self.inside.shape _ _ _ _ refl
-    (let h = c.self.inside in subst (λ (l : List Entry). IsKept (g.P.Pages.told h.pages) (g.P.Pages.runs h.pages) (g.P.Pages.faults h.pages) h.config h.number h.arena h.shape l h.slabs h.stream h.quarantine h.slabs.parking) (sym c.reserve.ensures.items) c.self.invariant.0)
+    (let h = c.self.inside in subst (λ (l : List Entry). IsKept (g.P.Pages.told h.pages) (g.P.Pages.runs h.pages) (g.P.Pages.faults h.pages) (identity h.config h.number h.arena h.shape) l (store h.slabs h.stream h.quarantine h.slabs.parking)) (sym c.reserve.ensures.items) c.self.invariant.0)
     (omega (arith, c.self.invariant.1, c.reserve.ensures.len, c.reserve.ensures.capacity))
 
 pub returns-in_err-next-clause-region : goal.returns-in_err-next-clause-region
@@ -110,8 +110,8 @@ returns-in_err-next-clause-region g c =
     let kept₁ = kept_moved (g.P.Pages.told h.pages) (g.P.Pages.runs h.pages) (g.P.Pages.faults h.pages) h.config h.number h.arena h.shape h.entries.items h.slabs h.stream h.quarantine h.slabs.parking kept₀ (g.P.Pages.told mid) (g.P.Pages.runs mid) (g.P.Pages.faults mid) k₁ c.find_slab.ensures.told (λ y. q.0.runs_same y) q.1
     (same_slabs g.P.Pages h.slabs k₁ h.pages mid h.stream c.find_slab.new.stream q.0) in
     region_of g.P.Pages _ h.shape k₁ c.find_slab.new.stream h.quarantine h.slabs.parking refl
-    (subst (λ (l : List Entry). IsKept (g.P.Pages.told mid) (g.P.Pages.runs mid) (g.P.Pages.faults mid) h.config h.number h.arena h.shape l k₁ c.find_slab.new.stream h.quarantine h.slabs.parking) (sym c.reserve.ensures.items)
-    (subst (λ (x : Words). IsKept (g.P.Pages.told mid) (g.P.Pages.runs mid) (g.P.Pages.faults mid) h.config h.number h.arena h.shape h.entries.items k₁ x h.quarantine h.slabs.parking) (sym q.0.stream_same) kept₁))
+    (subst (λ (l : List Entry). IsKept (g.P.Pages.told mid) (g.P.Pages.runs mid) (g.P.Pages.faults mid) (identity h.config h.number h.arena h.shape) l (store k₁ c.find_slab.new.stream h.quarantine h.slabs.parking)) (sym c.reserve.ensures.items)
+    (subst (λ (x : Words). IsKept (g.P.Pages.told mid) (g.P.Pages.runs mid) (g.P.Pages.faults mid) (identity h.config h.number h.arena h.shape) h.entries.items (store k₁ x h.quarantine h.slabs.parking)) (sym q.0.stream_same) kept₁))
     (omega (arith, c.self.invariant.1, c.reserve.ensures.len, c.reserve.ensures.capacity, ap live_count q.0.slabs))
 
 pub returns-clause-replies : goal.returns-clause-replies

@@ -6,7 +6,7 @@ use Rattle.hm_model.specs.Calls.{no_choices, entry_of, no_words}
 use Rattle.hm_model.specs.Replies.{IsFetchReply}
 use Rattle.hm_class.specs.Access.{trap_in}
 use Rattle.hm_class.specs.Calls.{ReplyTraps, TrapsIn}
-use Rattle.hm_class.specs.Kept.{IsKept}
+use Rattle.hm_class.specs.Kept.{IsKept, identity, store}
 use Rattle.hm_class.proofs.Entries.{kept_fetched, added_of, appended, region_of, fetch_reply, fetch_traps, trap_of_region}
 use Rattle.hm_class.proofs.heap.ClassHeap.fetch.Goals as goal
 
@@ -16,7 +16,7 @@ invariant_of-self-2 g c =
     let f = c.faults-faults.result in
     let e = entry_of c.args.who (call.Fetch c.args.addr c.args.len) c.in_ok-reply.reply no_choices no_words f f in
     let all : c.push_reserved.new.self.items ≡ h.entries.items ++ e ∷ [] = appended _ _ _ _ _ c.push_reserved.ensures.items c.reserve.ensures.items c.plain.ensures in (
-      subst (λ (l : List Entry). IsKept (g.P.Pages.told h.pages) (g.P.Pages.runs h.pages) (g.P.Pages.faults h.pages) h.config h.number h.arena h.shape l h.slabs h.stream h.quarantine h.slabs.parking) (sym all)
+      subst (λ (l : List Entry). IsKept (g.P.Pages.told h.pages) (g.P.Pages.runs h.pages) (g.P.Pages.faults h.pages) (identity h.config h.number h.arena h.shape) l (store h.slabs h.stream h.quarantine h.slabs.parking)) (sym all)
           (kept_fetched (g.P.Pages.told h.pages) (g.P.Pages.runs h.pages) (g.P.Pages.faults h.pages) h.config h.number h.arena h.shape h.entries.items h.slabs h.stream h.quarantine h.slabs.parking c.self.invariant.0
           c.args.who c.args.addr f c.faults-faults.ensures c.requires.below c.args.len c.in_ok-fetched.fetched c.in_ok-reply.reply c.requires.some c.requires.most c.in_ok-fetched.ensures.fetched c.in_ok-reply.ensures.1),
       omega (arith, c.self.invariant.1, c.live.ensures, c.in_ok-reserve.ensures.ok, c.reserve.ensures.len, c.push_reserved.ensures.len, c.push_reserved.ensures.capacity),
@@ -38,17 +38,17 @@ returns-clause-region g c =
 
 pub returns-in_err-reserve-clause-region : goal.returns-in_err-reserve-clause-region
 returns-in_err-reserve-clause-region g c = region_of g.P.Pages _ c.self.inside.shape _ _ _ _ refl
-    (let h = c.self.inside in subst (λ (l : List Entry). IsKept (g.P.Pages.told h.pages) (g.P.Pages.runs h.pages) (g.P.Pages.faults h.pages) h.config h.number h.arena h.shape l h.slabs h.stream h.quarantine h.slabs.parking) (sym c.reserve.ensures.items) c.self.invariant.0)
+    (let h = c.self.inside in subst (λ (l : List Entry). IsKept (g.P.Pages.told h.pages) (g.P.Pages.runs h.pages) (g.P.Pages.faults h.pages) (identity h.config h.number h.arena h.shape) l (store h.slabs h.stream h.quarantine h.slabs.parking)) (sym c.reserve.ensures.items) c.self.invariant.0)
     (omega (arith, c.self.invariant.1, c.reserve.ensures.len, c.reserve.ensures.capacity))
 
 pub returns-in_err-fetched-clause-region : goal.returns-in_err-fetched-clause-region
 returns-in_err-fetched-clause-region g c = region_of g.P.Pages _ c.self.inside.shape _ _ _ _ refl
-    (let h = c.self.inside in subst (λ (l : List Entry). IsKept (g.P.Pages.told h.pages) (g.P.Pages.runs h.pages) (g.P.Pages.faults h.pages) h.config h.number h.arena h.shape l h.slabs h.stream h.quarantine h.slabs.parking) (sym c.reserve.ensures.items) c.self.invariant.0)
+    (let h = c.self.inside in subst (λ (l : List Entry). IsKept (g.P.Pages.told h.pages) (g.P.Pages.runs h.pages) (g.P.Pages.faults h.pages) (identity h.config h.number h.arena h.shape) l (store h.slabs h.stream h.quarantine h.slabs.parking)) (sym c.reserve.ensures.items) c.self.invariant.0)
     (omega (arith, c.self.invariant.1, c.reserve.ensures.len, c.reserve.ensures.capacity))
 
 pub returns-in_err-reply-clause-region : goal.returns-in_err-reply-clause-region
 returns-in_err-reply-clause-region g c = region_of g.P.Pages _ c.self.inside.shape _ _ _ _ refl
-    (let h = c.self.inside in subst (λ (l : List Entry). IsKept (g.P.Pages.told h.pages) (g.P.Pages.runs h.pages) (g.P.Pages.faults h.pages) h.config h.number h.arena h.shape l h.slabs h.stream h.quarantine h.slabs.parking) (sym c.reserve.ensures.items) c.self.invariant.0)
+    (let h = c.self.inside in subst (λ (l : List Entry). IsKept (g.P.Pages.told h.pages) (g.P.Pages.runs h.pages) (g.P.Pages.faults h.pages) (identity h.config h.number h.arena h.shape) l (store h.slabs h.stream h.quarantine h.slabs.parking)) (sym c.reserve.ensures.items) c.self.invariant.0)
     (omega (arith, c.self.invariant.1, c.reserve.ensures.len, c.reserve.ensures.capacity))
 
 pub returns-clause-replies : goal.returns-clause-replies

@@ -5,7 +5,7 @@ use Rattle.hm_model.specs.declared.entry.Reply.{Reply}
 use Rattle.hm_model.specs.Calls.{no_choices, entry_of, no_words}
 use Rattle.hm_class.specs.Access.{trap_in}
 use Rattle.hm_class.specs.Calls.{ReplyTraps, TrapsIn}
-use Rattle.hm_class.specs.Kept.{IsKept}
+use Rattle.hm_class.specs.Kept.{IsKept, identity, store}
 use Rattle.hm_class.specs.Outcomes.{reply_of}
 use Rattle.hm_model.specs.Runs.{expand}
 use Rattle.hm_class.proofs.Entries.{kept_filled, added_of, appended, region_of, fill_traps, trap_of_region}
@@ -24,9 +24,9 @@ invariant_of-self-2 g c =
     (c.plain.ensures ∙ ap (λ (y : Reply). entry_of c.args.who (call.Fill c.args.addr c.in_ok-runs.runs) y no_choices no_words f f) c.reply-reply.ensures
     ∙ ap (λ (x : List (ℕ × ℕ)). entry_of c.args.who (call.Fill c.args.addr x) (reply_of o) no_choices no_words f f) c.in_ok-runs.ensures.value) in
     let bytes : c.deref.result.now ≡ expand rs = c.deref.ensures.value ∙ c.in_ok-bytes.ensures ∙ ap (λ (x : List (ℕ × ℕ)). expand x) c.in_ok-runs.ensures.value in (
-      subst (λ (b : Bool). IsKept b (g.P.Pages.runs pages) (g.P.Pages.faults pages) h.config h.number h.arena h.shape c.push_reserved.new.self.items h.slabs h.stream h.quarantine h.slabs.parking) (sym c.fill-outcome.ensures.told)
-          (subst (λ (l : List Entry). IsKept (g.P.Pages.told h.pages) (g.P.Pages.runs pages) (g.P.Pages.faults pages) h.config h.number h.arena h.shape l h.slabs h.stream h.quarantine h.slabs.parking) (sym all)
-          (subst (λ (n : ℕ). IsKept (g.P.Pages.told h.pages) (g.P.Pages.runs pages) n h.config h.number h.arena h.shape (h.entries.items ++ e ∷ []) h.slabs h.stream h.quarantine h.slabs.parking) (sym c.fill-outcome.ensures.count)
+      subst (λ (b : Bool). IsKept b (g.P.Pages.runs pages) (g.P.Pages.faults pages) (identity h.config h.number h.arena h.shape) c.push_reserved.new.self.items (store h.slabs h.stream h.quarantine h.slabs.parking)) (sym c.fill-outcome.ensures.told)
+          (subst (λ (l : List Entry). IsKept (g.P.Pages.told h.pages) (g.P.Pages.runs pages) (g.P.Pages.faults pages) (identity h.config h.number h.arena h.shape) l (store h.slabs h.stream h.quarantine h.slabs.parking)) (sym all)
+          (subst (λ (n : ℕ). IsKept (g.P.Pages.told h.pages) (g.P.Pages.runs pages) n (identity h.config h.number h.arena h.shape) (h.entries.items ++ e ∷ []) (store h.slabs h.stream h.quarantine h.slabs.parking)) (sym c.fill-outcome.ensures.count)
           (kept_filled (g.P.Pages.told h.pages) (g.P.Pages.runs h.pages) (g.P.Pages.faults h.pages) h.config h.number h.arena h.shape h.entries.items h.slabs h.stream h.quarantine h.slabs.parking c.self.invariant.0
           c.args.who c.args.addr f c.faults-faults.ensures c.requires.below (g.P.Pages.runs pages) rs c.deref.result.now o bytes c.requires.some c.requires.most c.fill-outcome.ensures.filled))),
       omega (arith, c.self.invariant.1, c.live.ensures, c.in_ok-reserve.ensures.ok, c.reserve.ensures.len, c.push_reserved.ensures.len, c.push_reserved.ensures.capacity),
@@ -51,17 +51,17 @@ returns-clause-region g c =
 
 pub returns-in_err-reserve-clause-region : goal.returns-in_err-reserve-clause-region
 returns-in_err-reserve-clause-region g c = region_of g.P.Pages _ c.self.inside.shape _ _ _ _ refl
-    (let h = c.self.inside in subst (λ (l : List Entry). IsKept (g.P.Pages.told h.pages) (g.P.Pages.runs h.pages) (g.P.Pages.faults h.pages) h.config h.number h.arena h.shape l h.slabs h.stream h.quarantine h.slabs.parking) (sym c.reserve.ensures.items) c.self.invariant.0)
+    (let h = c.self.inside in subst (λ (l : List Entry). IsKept (g.P.Pages.told h.pages) (g.P.Pages.runs h.pages) (g.P.Pages.faults h.pages) (identity h.config h.number h.arena h.shape) l (store h.slabs h.stream h.quarantine h.slabs.parking)) (sym c.reserve.ensures.items) c.self.invariant.0)
     (omega (arith, c.self.invariant.1, c.reserve.ensures.len, c.reserve.ensures.capacity))
 
 pub returns-in_err-runs-clause-region : goal.returns-in_err-runs-clause-region
 returns-in_err-runs-clause-region g c = region_of g.P.Pages _ c.self.inside.shape _ _ _ _ refl
-    (let h = c.self.inside in subst (λ (l : List Entry). IsKept (g.P.Pages.told h.pages) (g.P.Pages.runs h.pages) (g.P.Pages.faults h.pages) h.config h.number h.arena h.shape l h.slabs h.stream h.quarantine h.slabs.parking) (sym c.reserve.ensures.items) c.self.invariant.0)
+    (let h = c.self.inside in subst (λ (l : List Entry). IsKept (g.P.Pages.told h.pages) (g.P.Pages.runs h.pages) (g.P.Pages.faults h.pages) (identity h.config h.number h.arena h.shape) l (store h.slabs h.stream h.quarantine h.slabs.parking)) (sym c.reserve.ensures.items) c.self.invariant.0)
     (omega (arith, c.self.invariant.1, c.reserve.ensures.len, c.reserve.ensures.capacity))
 
 pub returns-in_err-bytes-clause-region : goal.returns-in_err-bytes-clause-region
 returns-in_err-bytes-clause-region g c = region_of g.P.Pages _ c.self.inside.shape _ _ _ _ refl
-    (let h = c.self.inside in subst (λ (l : List Entry). IsKept (g.P.Pages.told h.pages) (g.P.Pages.runs h.pages) (g.P.Pages.faults h.pages) h.config h.number h.arena h.shape l h.slabs h.stream h.quarantine h.slabs.parking) (sym c.reserve.ensures.items) c.self.invariant.0)
+    (let h = c.self.inside in subst (λ (l : List Entry). IsKept (g.P.Pages.told h.pages) (g.P.Pages.runs h.pages) (g.P.Pages.faults h.pages) (identity h.config h.number h.arena h.shape) l (store h.slabs h.stream h.quarantine h.slabs.parking)) (sym c.reserve.ensures.items) c.self.invariant.0)
     (omega (arith, c.self.invariant.1, c.reserve.ensures.len, c.reserve.ensures.capacity))
 
 pub returns-clause-trap : goal.returns-clause-trap

@@ -4,7 +4,7 @@ use Rattle.hm_model.specs.declared.entry.Entry.{Entry}
 use Rattle.hm_model.specs.declared.entry.Reply.{Reply}
 use Rattle.hm_model.specs.declared.entry.Reply.TheVariants as reply
 use Rattle.hm_model.specs.Calls.{no_choices, entry_of, no_words}
-use Rattle.hm_class.specs.Kept.{IsKept}
+use Rattle.hm_class.specs.Kept.{IsKept, identity, store}
 use Rattle.hm_class.specs.Outcomes.{reply_of}
 use Rattle.hm_class.specs.Region.{Region, IsTakenBack}
 use Rattle.hm_class.proofs.Returned.{release_ready}
@@ -35,7 +35,7 @@ invariant_of-self-in-Refused g c =
     let all : c.push_reserved.new.self.items ≡ h.entries.items ++ e ∷ [] =
     appended _ _ _ _ _ c.push_reserved.ensures.items c.reserve.ensures.items
     (c.plain.ensures ∙ ap (λ (y : Reply). entry_of c.args.who (call.GiveBack c.args.addr c.args.stated) y no_choices no_words f f) c.reply-reply.ensures) in (
-      subst (λ (l : List Entry). IsKept (g.P.Pages.told h.pages) (g.P.Pages.runs h.pages) (g.P.Pages.faults h.pages) h.config h.number h.arena h.shape l h.slabs h.stream h.quarantine h.slabs.parking) (sym all)
+      subst (λ (l : List Entry). IsKept (g.P.Pages.told h.pages) (g.P.Pages.runs h.pages) (g.P.Pages.faults h.pages) (identity h.config h.number h.arena h.shape) l (store h.slabs h.stream h.quarantine h.slabs.parking)) (sym all)
           (kept_refused (g.P.Pages.told h.pages) (g.P.Pages.runs h.pages) (g.P.Pages.faults h.pages) h.config h.number h.arena h.shape h.entries.items h.slabs h.stream h.quarantine h.slabs.parking c.self.invariant.0
           g.P.Pages h.pages refl refl c.args.who c.args.addr f c.faults-before.ensures c.args.stated o c.in-Refused.ensures.judged),
       omega (arith, c.self.invariant.1, c.live.ensures, c.in_ok-reserve-in-Refused.ensures.ok, c.reserve.ensures.len, c.push_reserved.ensures.len, c.push_reserved.ensures.capacity),
@@ -98,10 +98,10 @@ invariant_of-self-in-Accepted g c =
     (c.entry.ensures ∙ ap (λ (ev : Event). entry_of c.args.who (call.GiveBack c.args.addr c.args.stated) reply.Freed ev.choices ev.draws f f') c.freed-event.ensures
     ∙ ap (λ (w : Option ℕ). entry_of c.args.who (call.GiveBack c.args.addr c.args.stated) reply.Freed (freed_choices released emptied) (freed_draws w emptied) f f') c.hold-released.ensures.word) in
     let less = live_ended (g.P.Pages.told h.pages) (g.P.Pages.runs h.pages) (g.P.Pages.faults h.pages) h.config h.number h.arena h.shape h.entries.items h.slabs h.stream h.quarantine c.self.invariant.0 g.P.Pages h.pages c.hold-released.new.pages c.settle-emptied.new.pages c.hold-released.new.slabs c.settle-emptied.new.slabs c.settle-emptied.new.stream c.args.addr c.in-Accepted.slot c.args.stated c.args.who c.faults-before.result c.faults-now.result refl refl c.in-Accepted.ensures.judged c.hold-released.ensures.slabs c.hold-released.ensures.cleared c.hold-released.ensures.lists c.faults-before.ensures later released emptied c.hold-released.ensures.released settled in (
-      subst (λ (b : Bool). IsKept b (g.P.Pages.runs now) (g.P.Pages.faults now) h.config h.number h.arena h.shape c.push_reserved-in-Accepted.new.self.items k' stream' c.hold-released.new.quarantine k'.parking) (sym (c.settle-emptied.ensures.told ∙ c.hold-released.ensures.told))
-          (subst (λ (l : List Entry). IsKept (g.P.Pages.told h.pages) (g.P.Pages.runs now) (g.P.Pages.faults now) h.config h.number h.arena h.shape l k' stream' c.hold-released.new.quarantine k'.parking) (sym all)
-          (subst (λ (n : ℕ). IsKept (g.P.Pages.told h.pages) (g.P.Pages.runs now) n h.config h.number h.arena h.shape (h.entries.items ++ x ∷ []) k' stream' c.hold-released.new.quarantine k'.parking) c.faults-now.ensures
-          (subst (λ (q : Kept). IsKept (g.P.Pages.told h.pages) (g.P.Pages.runs now) f' h.config h.number h.arena h.shape (h.entries.items ++ x ∷ []) k' stream' q k'.parking) (sym c.hold-released.ensures.kept)
+      subst (λ (b : Bool). IsKept b (g.P.Pages.runs now) (g.P.Pages.faults now) (identity h.config h.number h.arena h.shape) c.push_reserved-in-Accepted.new.self.items (store k' stream' c.hold-released.new.quarantine k'.parking)) (sym (c.settle-emptied.ensures.told ∙ c.hold-released.ensures.told))
+          (subst (λ (l : List Entry). IsKept (g.P.Pages.told h.pages) (g.P.Pages.runs now) (g.P.Pages.faults now) (identity h.config h.number h.arena h.shape) l (store k' stream' c.hold-released.new.quarantine k'.parking)) (sym all)
+          (subst (λ (n : ℕ). IsKept (g.P.Pages.told h.pages) (g.P.Pages.runs now) n (identity h.config h.number h.arena h.shape) (h.entries.items ++ x ∷ []) (store k' stream' c.hold-released.new.quarantine k'.parking)) c.faults-now.ensures
+          (subst (λ (q : Kept). IsKept (g.P.Pages.told h.pages) (g.P.Pages.runs now) f' (identity h.config h.number h.arena h.shape) (h.entries.items ++ x ∷ []) (store k' stream' q k'.parking)) (sym c.hold-released.ensures.kept)
           (kept_ended (g.P.Pages.told h.pages) (g.P.Pages.runs h.pages) (g.P.Pages.faults h.pages) h.config h.number h.arena h.shape h.entries.items h.slabs h.stream h.quarantine c.self.invariant.0 g.P.Pages h.pages c.hold-released.new.pages c.settle-emptied.new.pages c.hold-released.new.slabs c.settle-emptied.new.slabs c.settle-emptied.new.stream c.args.addr c.in-Accepted.slot c.args.stated c.args.who c.faults-before.result c.faults-now.result refl refl c.in-Accepted.ensures.judged c.hold-released.ensures.slabs c.hold-released.ensures.cleared c.hold-released.ensures.lists c.faults-before.ensures later released emptied c.hold-released.ensures.released settled c.hold-released.ensures.told half_is c.faults-now.ensures)))),
       omega (arith, c.self.invariant.1, less, c.push_reserved-in-Accepted.ensures.len, c.push_reserved-in-Accepted.ensures.capacity),
     )
@@ -122,5 +122,5 @@ returns-in-Accepted-clause-added g c =
 pub returns-in_err-reserve-in-Refused-clause-region : goal.returns-in_err-reserve-in-Refused-clause-region
 returns-in_err-reserve-in-Refused-clause-region g c =
     region_of g.P.Pages _ c.self.inside.shape _ _ _ _ refl
-    (let h = c.self.inside in subst (λ (l : List Entry). IsKept (g.P.Pages.told h.pages) (g.P.Pages.runs h.pages) (g.P.Pages.faults h.pages) h.config h.number h.arena h.shape l h.slabs h.stream h.quarantine h.slabs.parking) (sym c.reserve.ensures.items) c.self.invariant.0)
+    (let h = c.self.inside in subst (λ (l : List Entry). IsKept (g.P.Pages.told h.pages) (g.P.Pages.runs h.pages) (g.P.Pages.faults h.pages) (identity h.config h.number h.arena h.shape) l (store h.slabs h.stream h.quarantine h.slabs.parking)) (sym c.reserve.ensures.items) c.self.invariant.0)
     (omega (arith, c.self.invariant.1, c.reserve.ensures.len, c.reserve.ensures.capacity))

@@ -3,7 +3,7 @@ use Rattle.hm_model.specs.declared.entry.Call.TheVariants as call
 use Rattle.hm_model.specs.declared.entry.Entry.{Entry}
 use Rattle.hm_model.specs.declared.entry.Reply.{Reply}
 use Rattle.hm_model.specs.Calls.{no_choices, entry_of, no_words}
-use Rattle.hm_class.specs.Kept.{IsKept}
+use Rattle.hm_class.specs.Kept.{IsKept, identity, store}
 use Rattle.hm_class.specs.Outcomes.{reply_of}
 use Rattle.hm_class.proofs.Entries.{kept_measured, added_of, appended, region_of, reply_of_region}
 use Rattle.hm_class.proofs.heap.ClassHeap.measure.Goals as goal
@@ -17,7 +17,7 @@ invariant_of-self-2 g c =
     let all : c.push_reserved.new.self.items ≡ h.entries.items ++ e ∷ [] =
     appended _ _ _ _ _ c.push_reserved.ensures.items c.reserve.ensures.items
     (c.plain.ensures ∙ ap (λ (y : Reply). entry_of c.args.who (call.Measure c.args.addr) y no_choices no_words f f) c.reply-reply.ensures) in (
-      subst (λ (l : List Entry). IsKept (g.P.Pages.told h.pages) (g.P.Pages.runs h.pages) (g.P.Pages.faults h.pages) h.config h.number h.arena h.shape l h.slabs h.stream h.quarantine h.slabs.parking) (sym all)
+      subst (λ (l : List Entry). IsKept (g.P.Pages.told h.pages) (g.P.Pages.runs h.pages) (g.P.Pages.faults h.pages) (identity h.config h.number h.arena h.shape) l (store h.slabs h.stream h.quarantine h.slabs.parking)) (sym all)
           (kept_measured (g.P.Pages.told h.pages) (g.P.Pages.runs h.pages) (g.P.Pages.faults h.pages) h.config h.number h.arena h.shape h.entries.items h.slabs h.stream h.quarantine h.slabs.parking c.self.invariant.0
           g.P.Pages h.pages refl refl c.args.who c.args.addr f c.faults-faults.ensures o c.measure-outcome.ensures.measured),
       omega (arith, c.self.invariant.1, c.live.ensures, c.in_ok-reserve.ensures.ok, c.reserve.ensures.len, c.push_reserved.ensures.len, c.push_reserved.ensures.capacity),
@@ -40,7 +40,7 @@ returns-clause-region g c =
 
 pub returns-in_err-reserve-clause-region : goal.returns-in_err-reserve-clause-region
 returns-in_err-reserve-clause-region g c = region_of g.P.Pages _ c.self.inside.shape _ _ _ _ refl
-    (let h = c.self.inside in subst (λ (l : List Entry). IsKept (g.P.Pages.told h.pages) (g.P.Pages.runs h.pages) (g.P.Pages.faults h.pages) h.config h.number h.arena h.shape l h.slabs h.stream h.quarantine h.slabs.parking) (sym c.reserve.ensures.items) c.self.invariant.0)
+    (let h = c.self.inside in subst (λ (l : List Entry). IsKept (g.P.Pages.told h.pages) (g.P.Pages.runs h.pages) (g.P.Pages.faults h.pages) (identity h.config h.number h.arena h.shape) l (store h.slabs h.stream h.quarantine h.slabs.parking)) (sym c.reserve.ensures.items) c.self.invariant.0)
     (omega (arith, c.self.invariant.1, c.reserve.ensures.len, c.reserve.ensures.capacity))
 
 pub returns-clause-replies : goal.returns-clause-replies
