@@ -296,21 +296,22 @@ struct Holding {
     let_go: AtomicU64,
 }
 
-/// Waits until a word is raised, or for 10,000,000 turns.
-fn wait_for(word: &AtomicU64) {
+/// Waits until a word is at least so much, or for 10,000,000 turns. It says whether it came to that.
+fn comes_to(word: &AtomicU64, least: u64) -> bool {
     for _ in 0u32..10_000_000 {
-        if word.load(Ordering::SeqCst) > 0 {
-            return;
+        if word.load(Ordering::SeqCst) >= least {
+            return true;
         }
         thread::yield_now();
     }
+    false
 }
 
 impl Gate for Holding {
     fn inside(&self, _region: RegionId, caller: u32) {
         if caller == 1 {
             self.inside.fetch_add(1, Ordering::SeqCst);
-            wait_for(&self.let_go);
+            comes_to(&self.let_go, 1);
         }
     }
 }
@@ -324,22 +325,24 @@ fn second_asks<P: Pages>(
     requires { AreOf heap.now.locks second.turns }
 {
     let mut second = second;
-    wait_for(&gate.inside);
+    comes_to(&gate.inside, 1);
     let held = heap.try_malloc(&mut second, 1, 8);
     let free = heap.try_malloc(&mut second, 2, 4000);
     gate.let_go.fetch_add(1, Ordering::SeqCst);
     (held, free)
 }
 
-fn first_asks<R: Wait, P: Pages>(
+/// A pass asks once, and waits where it has to.
+fn asks<R: Wait, P: Pages, G: Gate>(
     rt: &R,
-    heap: &Heap<P, Holding>,
-    first: Pass,
+    heap: &Heap<P, G>,
+    pass: Pass,
+    size: u64,
 ) -> Result<Answer, NoMemory>
-    requires { AreOf heap.now.locks first.turns }
+    requires { AreOf heap.now.locks pass.turns }
 {
-    let mut first = first;
-    heap.malloc(rt, &mut first, 1, 8)
+    let mut pass = pass;
+    heap.malloc(rt, &mut pass, 1, size)
 }
 
 fn both_ask<R: Threads + Wait + Sync, P: Pages>(
@@ -358,7 +361,7 @@ fn both_ask<R: Threads + Wait + Sync, P: Pages>(
         rt,
         ||
             requires { AreOf heap.now.locks first.turns }
-        { first_asks(rt, heap, first) },
+        { asks(rt, heap, first, 8) },
         ||
             requires { AreOf heap.now.locks second.turns }
         { second_asks(heap, gate, second) },
@@ -379,6 +382,59 @@ fn a_region_is_busy_by_itself(rt: HostRuntime) -> Result<(), Fail> {
     assert_eq!(rt; told_by(&given?), Told::Given(8));
     assert_eq!(rt; told_by(&held?), Told::Busy);
     assert_eq!(rt; told_by(&free?), Told::Given(4088));
+    Ok(())
+}
+
+/// A gate that holds each call inside its region until two are inside, or for 10,000,000 turns.
+#[derive(Drop)]
+struct Meeting {
+    inside: AtomicU64,
+    missed: AtomicU64,
+}
+
+impl Gate for Meeting {
+    fn inside(&self, _region: RegionId, _caller: u32) {
+        self.inside.fetch_add(1, Ordering::SeqCst);
+        if !comes_to(&self.inside, 2) {
+            self.missed.fetch_add(1, Ordering::SeqCst);
+        }
+    }
+}
+
+fn both_wait<R: Threads + Wait + Sync, P: Pages>(
+    rt: &R,
+    heap: &Heap<P, Meeting>,
+    first: Pass,
+    second: Pass,
+) -> (Result<Answer, NoMemory>, Result<Answer, NoMemory>)
+    requires { AreOf heap.now.locks first.turns × AreOf heap.now.locks second.turns }
+{
+    join(
+        rt,
+        ||
+            requires { AreOf heap.now.locks first.turns }
+        { asks(rt, heap, first, 8) },
+        ||
+            requires { AreOf heap.now.locks second.turns }
+        { asks(rt, heap, second, 4000) },
+    )
+}
+
+/// Calls that wait are in two regions at once, so none of them holds more than its region's turn.
+#[test]
+fn waiting_calls_meet(rt: HostRuntime) -> Result<(), Fail> {
+    let gate = Meeting {
+        inside: AtomicU64::new(0),
+        missed: AtomicU64::new(0),
+    };
+    let config = Config::standard();
+    let (heap, mut root) = Heap::build(rt.alloc(), config, 1, &mut PlainMaker, &gate)?;
+    let first = heap.split(rt.alloc(), &mut root, 1, 1)?;
+    let second = heap.split(rt.alloc(), &mut root, 1, 2)?;
+    let (small, great) = both_wait(&rt, &heap, first, second);
+    assert_eq!(rt; told_by(&small?), Told::Given(8));
+    assert_eq!(rt; told_by(&great?), Told::Given(4088));
+    assert_eq!(rt; gate.missed.load(Ordering::SeqCst), 0);
     Ok(())
 }
 

@@ -178,6 +178,7 @@ pub fn run_round<R: Threads + Wait + Sync, P: Pages, G: Gate>(
     ensures of { AreOf heap.now.locks root.new.turns }
     ensures root { LeavesRoot (length round.now) root.old root.new }
     ensures splits { IfOk result (λ _. root.new.splits ≡ root.old.splits + length round.now) }
+    ensures at_most { (root.old.splits ≤ root.new.splits) × (root.new.splits ≤ root.old.splits + length round.now) }
     ensures ran { IfOk result (λ results. RunsRound heap.now.config (ended_in root.new.turns) (root.old.splits + 1)
         number (held env.old) (held env.old) round.now results.items (held env.new)) }
     ensures memory { OnErr result (env.new ≡ env.old) }
