@@ -32,8 +32,8 @@ fn is_zero_word(bytes: &[u8], from: usize) -> bool
         == 0
 }
 
-/// How many zero bytes at the front were passed, by whole lanes and words.
-fn skip_zeros(bytes: &[u8]) -> usize
+/// How many zero bytes at the front were passed, by whole lanes.
+fn skip_lanes(bytes: &[u8]) -> usize
     ensures within { result ≤ length bytes.now }
     ensures zero { AllZero bytes.now 0 result }
 {
@@ -42,6 +42,18 @@ fn skip_zeros(bytes: &[u8]) -> usize
     while 32 <= len - i && is_zero_lane(bytes, i) {
         i += 32;
     }
+    i
+}
+
+/// How many zero bytes at the front were passed: the first `from` of them, and after them whole words.
+fn skip_words(bytes: &[u8], from: usize) -> usize
+    requires within { from ≤ length bytes.now }
+    requires zero { AllZero bytes.now 0 from }
+    ensures within { result ≤ length bytes.now }
+    ensures zero { AllZero bytes.now 0 result }
+{
+    let len = bytes.len();
+    let mut i = from;
     while 8 <= len - i && is_zero_word(bytes, i) {
         i += 8;
     }
@@ -52,7 +64,7 @@ fn skip_zeros(bytes: &[u8]) -> usize
 pub fn first_nonzero(bytes: &[u8]) -> Option<usize>
     ensures { result ≡ first_nonzero bytes.now }
 {
-    let skipped = skip_zeros(bytes);
+    let skipped = skip_words(bytes, skip_lanes(bytes));
     let place = first_by_bytes(&bytes[skipped..])?;
     Some(skipped + place)
 }

@@ -15,6 +15,8 @@ use Rattle.hm_sizes.specs.Aligned.{AlignedGives}
 use Rattle.hm_sizes.specs.Classes.{class_count}
 use Rattle.hm_sizes.specs.Homes.{region_count, home_of}
 use Rattle.hm_sizes.specs.Sizes.{IsKindOf}
+use Rattle.hm_heap.specs.declared.realloc.Move.{Move}
+use Rattle.hm_heap.specs.declared.realloc.Source.{Source}
 use Rattle.hm_heap.specs.Plans.{Plan, Done, Part}
 use Rattle.hm_heap.specs.Requests.{IsInReach}
 
@@ -88,41 +90,43 @@ read_plan c a len = at_home (home_place c a) (Fetch a len)
 abbrev pub write_plan : Config → ℕ → List (ℕ × ℕ) → Plan
 write_plan c a runs = at_home (home_place c a) (Fill a runs)
 
--- ---- moving a block from home to place: each step takes what the one before replied
--- the old block was given back, or not
-abbrev pub freed : ℕ → ℕ → Reply → Plan
-freed new usable Freed = Done (answer.Reply (Given new usable))
-freed new usable reply = Done (answer.HalfMoved new usable reply)
+-- ---- moving a block: each step takes what the one before replied
+module _ (moved : Move) where
+  -- the old block was given back, or not
+  abbrev pub freed : Reply → Plan
+  freed Freed = Done (answer.Reply (Given moved.new moved.usable))
+  freed reply = Done (answer.HalfMoved moved.new moved.usable reply)
 
-abbrev pub freeing : ℕ → ℕ → ℕ → ℕ → Plan
-freeing home a new usable = Part home (GiveBack a None) (freed new usable)
+  abbrev pub freeing : Plan
+  freeing = Part moved.source.home (GiveBack moved.source.addr None) freed
 
--- the new block was filled, or not
-abbrev pub filled : ℕ → ℕ → ℕ → ℕ → Reply → Plan
-filled home a new usable Filled = freeing home a new usable
-filled home a new usable reply = Done (answer.HalfMoved new usable reply)
+  -- the new block was filled, or not
+  abbrev pub filled : Reply → Plan
+  filled Filled = freeing
+  filled reply = Done (answer.HalfMoved moved.new moved.usable reply)
 
--- the old block's bytes were fetched, or not
-abbrev pub fetched : ℕ → ℕ → ℕ → ℕ → ℕ → Reply → Plan
-fetched home place a new usable (Bytes runs) = Part place (Fill new runs) (filled home a new usable)
-fetched home place a new usable reply = Done (answer.HalfMoved new usable reply)
+  -- the old block's bytes were fetched, or not
+  abbrev pub fetched : Reply → Plan
+  fetched (Bytes runs) = Part moved.source.place (Fill moved.new runs) filled
+  fetched reply = Done (answer.HalfMoved moved.new moved.usable reply)
 
--- so many bytes are copied
-abbrev pub copying : ℕ → ℕ → ℕ → ℕ → ℕ → ℕ → Plan
-copying home place a new usable count =
-    if count == 0 then freeing home a new usable else Part home (Fetch a count) (fetched home place a new usable)
+  -- so many bytes are copied
+  abbrev pub copying : ℕ → Plan
+  copying count = if count == 0 then freeing else Part moved.source.home (Fetch moved.source.addr count) fetched
 
--- the new block was given, or not
-abbrev pub allotted : ℕ → ℕ → ℕ → ℕ → Reply → Plan
-allotted home place a count (Given new usable) = copying home place a new usable count
-allotted home place a count reply = Done (answer.Reply reply)
+module _ (source : Source) where
+  -- the new block was given, or not
+  abbrev pub allotted : ℕ → Reply → Plan
+  allotted count (Given new usable) = copying (record { source = source; new = new; usable = usable }) count
+  allotted count reply = Done (answer.Reply reply)
 
--- the old block was measured, or not: it stays where it serves, and else the lesser of its usable size and the new
--- asked size is copied
-abbrev pub measured : ℕ → ℕ → ℕ → ℕ → (ℕ → Bool) → Reply → Plan
-measured home place a asked keeps (Usable old) =
-    if keeps old then Done (answer.Kept a old) else Part place (Allot asked 1) (allotted home place a (min old asked))
-measured home place a asked keeps reply = Done (answer.Reply reply)
+  -- the old block was measured, or not: it stays where it serves, and else the lesser of its usable size and the new
+  -- asked size is copied
+  abbrev pub measured : ℕ → (ℕ → Bool) → Reply → Plan
+  measured asked keeps (Usable old) =
+      if keeps old then Done (answer.Kept source.addr old)
+      else Part source.place (Allot asked 1) (allotted (min old asked))
+  measured asked keeps reply = Done (answer.Reply reply)
 
 -- a block at home with so many usable bytes serves the new kind as it is: the class, or the large size, is the same
 abbrev pub keeps : Config → ℕ → Kind → ℕ → Bool
@@ -132,7 +136,8 @@ keeps c home TooLarge old = false
 
 abbrev pub moving_plan : Config → ℕ → ℕ → ℕ → Kind → Option ℕ → Plan
 moving_plan c place a asked kind None = Done answer.Outside
-moving_plan c place a asked kind (Some home) = Part home (Measure a) (measured home place a asked (keeps c home kind))
+moving_plan c place a asked kind (Some home) =
+    Part home (Measure a) (measured (record { home = home; place = place; addr = a }) asked (keeps c home kind))
 
 abbrev pub resize_plan : Config → ℕ → ℕ → ℕ → Kind → Option ℕ → Plan
 resize_plan c thread a asked kind None = Done answer.TooLarge

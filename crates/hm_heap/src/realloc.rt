@@ -62,8 +62,7 @@ impl<'g, P: Pages, G: Gate> Heap<'g, P, G> {
         requires reach { IsInReach moved.new }
         ensures same { pass.new ≡ record pass.old { turns = pass.new.turns } }
         ensures of { AreOf self.now.locks pass.new.turns }
-        ensures answer { Follows pass.old pass.new step part
-            (freeing moved.source.home moved.source.addr moved.new moved.usable) result }
+        ensures answer { Follows pass.old pass.new step part (freeing moved) result }
         ensures reach { IfOk result AnswerInReach }
     {
         let request = Request::GiveBack {
@@ -96,8 +95,7 @@ impl<'g, P: Pages, G: Gate> Heap<'g, P, G> {
         ensures same { pass.new ≡ record pass.old { turns = pass.new.turns } }
         ensures of { AreOf self.now.locks pass.new.turns }
         ensures answer { Follows pass.old pass.new step 4
-            (Part moved.source.place (call.Fill moved.new runs.now)
-            (filled moved.source.home moved.source.addr moved.new moved.usable)) result }
+            (Part moved.source.place (call.Fill moved.new runs.now) (filled moved)) result }
         ensures reach { IfOk result AnswerInReach }
     {
         let request = Request::Fill {
@@ -126,8 +124,7 @@ impl<'g, P: Pages, G: Gate> Heap<'g, P, G> {
         requires few { count ≤ 2 ^ 30 }
         ensures same { pass.new ≡ record pass.old { turns = pass.new.turns } }
         ensures of { AreOf self.now.locks pass.new.turns }
-        ensures answer { Follows pass.old pass.new step 3
-            (copying moved.source.home moved.source.place moved.source.addr moved.new moved.usable count) result }
+        ensures answer { Follows pass.old pass.new step 3 (copying moved count) result }
         ensures reach { IfOk result AnswerInReach }
     {
         if count == 0 {
@@ -163,7 +160,7 @@ impl<'g, P: Pages, G: Gate> Heap<'g, P, G> {
         ensures same { pass.new ≡ record pass.old { turns = pass.new.turns } }
         ensures of { AreOf self.now.locks pass.new.turns }
         ensures answer { Follows pass.old pass.new step 2
-            (Part source.place (call.Allot asked 1) (allotted source.home source.place source.addr count)) result }
+            (Part source.place (call.Allot asked 1) (allotted source count)) result }
         ensures reach { IfOk result AnswerInReach }
     {
         let request = Request::Allot { asked, align: 1 };
@@ -201,7 +198,7 @@ impl<'g, P: Pages, G: Gate> Heap<'g, P, G> {
         ensures of { AreOf self.now.locks pass.new.turns }
         ensures answer { Follows pass.old pass.new step 1
             (Part source.home (call.Measure source.addr)
-            (measured source.home source.place source.addr asked (keeps self.now.config source.home kind))) result }
+            (measured source asked (keeps self.now.config source.home kind))) result }
         ensures reach { IfOk result AnswerInReach }
     {
         let Source { home, addr, .. } = source;

@@ -420,7 +420,7 @@ fn both_wait<R: Threads + Wait + Sync, P: Pages>(
     )
 }
 
-/// Calls that wait are in two regions at once, so none of them holds more than its region's turn.
+/// Two calls that may wait, each in a thread of its own, are inside two regions at once.
 #[test]
 fn waiting_calls_meet(rt: HostRuntime) -> Result<(), Fail> {
     let gate = Meeting {

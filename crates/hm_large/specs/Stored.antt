@@ -49,29 +49,32 @@ module _ {P : Type 0} (meaning : pages.Ghosts P) where
   abbrev pub SameRuns : P → P → Type 0
   SameRuns before now = IsTrue (meaning.told before) → meaning.runs now ≡ meaning.runs before
 
-  abbrev pub Ends : Config → ℕ → State → ℕ → ℕ → Store → P → P → ℕ → Outcome → Type 0
-  Ends c number s asked align new before now guard (outcome.Given addr) =
-      IsLeastCandidate c s align (size_for asked) guard addr
-      × Shows c number (record s { live = (addr, new_block asked guard) ∷ s.live; words = suc s.words }) new
-      × (IsTrue (meaning.told before) → meaning.runs now ≡ map.insert (meaning.runs before) addr (zeros (size_for asked)))
-      × (meaning.faults before ≤ meaning.faults now)
-  Ends c number s asked align new before now guard outcome.NoSpace =
-      ((a : ℕ) → IsCandidate c s align (size_for asked) guard a → ⊥)
-      × Shows c number (record s { words = suc s.words }) new
-      × SameRuns before now
-      × (meaning.faults now ≡ meaning.faults before)
-  Ends c number s asked align new before now guard outcome.PagesFailed =
-      ((a : ℕ) × IsCandidate c s align (size_for asked) guard a)
-      × Shows c number (record s { words = suc s.words }) new
-      × SameRuns before now
-      × (meaning.faults before < meaning.faults now)
+  -- an allotment in a state that a store shows, with the store afterwards, and the pages before and now
+  module _ (c : Config) (number : ℕ) (s : State) (asked align : ℕ) (new : Store) (before now : P) where
+    -- what the outcome says of the guard and leaves
+    abbrev pub Ends : ℕ → Outcome → Type 0
+    Ends guard (outcome.Given addr) =
+        IsLeastCandidate c s align (size_for asked) guard addr
+        × Shows c number (record s { live = (addr, new_block asked guard) ∷ s.live; words = suc s.words }) new
+        × (IsTrue (meaning.told before)
+        → meaning.runs now ≡ map.insert (meaning.runs before) addr (zeros (size_for asked)))
+        × (meaning.faults before ≤ meaning.faults now)
+    Ends guard outcome.NoSpace =
+        ((a : ℕ) → IsCandidate c s align (size_for asked) guard a → ⊥)
+        × Shows c number (record s { words = suc s.words }) new
+        × SameRuns before now
+        × (meaning.faults now ≡ meaning.faults before)
+    Ends guard outcome.PagesFailed =
+        ((a : ℕ) × IsCandidate c s align (size_for asked) guard a)
+        × Shows c number (record s { words = suc s.words }) new
+        × SameRuns before now
+        × (meaning.faults before < meaning.faults now)
 
-  -- the next word was drawn, and the guard by it
-  pub record Allots (c : Config) (number : ℕ) (s : State) (asked align : ℕ) (new : Store) (before now : P)
-      (attempt : Attempt) : Type 0 where
-    pub word : attempt.word ≡ word_after number s.words
-    pub guard : attempt.guard ≡ guard_of (size_for asked) attempt.word
-    pub ends : Ends c number s asked align new before now attempt.guard attempt.outcome
+    -- the next word was drawn, and the guard by it
+    pub record Allots (attempt : Attempt) : Type 0 where
+      pub word : attempt.word ≡ word_after number s.words
+      pub guard : attempt.guard ≡ guard_of (size_for asked) attempt.word
+      pub ends : Ends attempt.guard attempt.outcome
 
   -- nothing was changed, but for room
   pub record Declines (c : Config) (number : ℕ) (s : State) (new : Store) (before now : P) : Type 0 where

@@ -25,31 +25,31 @@ pub record RunsScript (t : Terms) (own : Own) (names now : Names) (s : ScriptVie
   pub run : IsRun t names s.steps result.items last own
   pub rest : Rest (settled now s.steps last) later
 
--- the scripts from this caller on: each begins with the names before the round, and at the end all its names are set
-abbrev pub RunsRound : Config → (ℕ → Own) → ℕ → ℕ → Names → Names → List ScriptView → List Results → Names
-    → Type 0
-RunsRound c own caller round names now [] results after = (results ≡ []) × (after ≡ now)
-RunsRound c own caller round names now (s ∷ scripts) results after =
-    RunsScript (record { config = c; caller = caller; round = round; thread = s.thread }) (own caller) names now s
-    results (λ next later. RunsRound c own (caller + 1) round names next scripts later after)
+module _ (c : Config) (own : ℕ → Own) where
+  -- the scripts from this caller on: each begins with the names before the round, and at the end all its names are set
+  abbrev pub RunsRound : ℕ → ℕ → Names → Names → List ScriptView → List Results → Names → Type 0
+  RunsRound caller round names now [] results after = (results ≡ []) × (after ≡ now)
+  RunsRound caller round names now (s ∷ scripts) results after =
+      RunsScript (record { config = c; caller = caller; round = round; thread = s.thread }) (own caller) names now s
+      results (λ next later. RunsRound (caller + 1) round names next scripts later after)
 
--- ---- the rounds of a trace
--- the round was run with these names, and the rest goes on with the names after it
-pub record RunsNext (c : Config) (own : ℕ → Own) (caller round : ℕ) (names : Names) (scripts : List ScriptView)
-    (results : List Results) (Rest : Names → List Results → Type 0) : Type 0 where
-  pub these : List Results
-  pub later : List Results
-  pub results_are : results ≡ these ++ later
-  pub after : Names
-  pub this : RunsRound c own caller round names names scripts these after
-  pub rest : Rest after later
+  -- ---- the rounds of a trace
+  -- the round was run with these names, and the rest goes on with the names after it
+  pub record RunsNext (caller round : ℕ) (names : Names) (scripts : List ScriptView) (results : List Results)
+      (Rest : Names → List Results → Type 0) : Type 0 where
+    pub these : List Results
+    pub later : List Results
+    pub results_are : results ≡ these ++ later
+    pub after : Names
+    pub this : RunsRound caller round names names scripts these after
+    pub rest : Rest after later
 
--- the rounds from this number on, whose callers follow one another, and the names at the end
-abbrev pub RunsRounds : Config → (ℕ → Own) → ℕ → ℕ → Names → List (List ScriptView) → List Results → Names → Type 0
-RunsRounds c own caller round names [] results last = (results ≡ []) × (last ≡ names)
-RunsRounds c own caller round names (scripts ∷ rounds) results last =
-    RunsNext c own caller round names scripts results
-    (λ after later. RunsRounds c own (caller + length scripts) (round + 1) after rounds later last)
+  -- the rounds from this number on, whose callers follow one another, and the names at the end
+  abbrev pub RunsRounds : ℕ → ℕ → Names → List (List ScriptView) → List Results → Names → Type 0
+  RunsRounds caller round names [] results last = (results ≡ []) × (last ≡ names)
+  RunsRounds caller round names (scripts ∷ rounds) results last =
+      RunsNext caller round names scripts results
+      (λ after later. RunsRounds (caller + length scripts) (round + 1) after rounds later last)
 
 -- how many scripts there are in all
 abbrev pub script_count : List (List ScriptView) → ℕ

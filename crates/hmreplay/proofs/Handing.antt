@@ -5,13 +5,13 @@ use Rattle.hm_report.specs.declared.results.Results.{Results}
 use Rattle.hm_heap.specs.declared.close.Closed.{Closed}
 use Rattle.hmreplay.specs.declared.words.Options.{Options}
 use Rattle.hmreplay.specs.Handed.{HandsOut, IsReadTrace, IsSpelled}
-use Rattle.hmreplay.specs.Streams.{IsReadToEnd}
+use Rattle.hmreplay.specs.Streams.{Stream, IsReadToEnd}
 
-module _ {P : Type 0} (meaning : pages.Ghosts P) (o : Options) (left left' : Option (List ℕ)) (bytes : List ℕ) (read : IsReadToEnd left left' bytes) where
+module _ {P : Type 0} (meaning : pages.Ghosts P) (o : Options) (source : Stream) (bytes : List ℕ) (read : IsReadToEnd source bytes) where
   -- the trace that the bytes are the spelling of is that of the source, whose bytes they are
   pub of_source : (closed : Option (Closed P)) (results : Option (List Results))
-      → HandsOut meaning (IsSpelled bytes) o closed results → HandsOut meaning (IsReadTrace left left') o closed results
-  of_source (Some c) (Some rs) h = (h.0, (h.1.0, subst (λ (l : List ℕ). IsReadToEnd left left' l) h.1.1 read), h.2)
+      → HandsOut meaning (IsSpelled bytes) o closed results → HandsOut meaning (IsReadTrace source) o closed results
+  of_source (Some c) (Some rs) h = (h.0, (h.1.0, subst (λ (l : List ℕ). IsReadToEnd source l) h.1.1 read), h.2)
   of_source (Some c) None h = h
   of_source None (Some rs) h = h
   of_source None None h = h

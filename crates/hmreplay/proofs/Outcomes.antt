@@ -1,6 +1,6 @@
 -- What the closing of a heap hands out, and the laws of its histories.
-use Rattle.std.proofs.Common.{◌≡◌, ℕ, ◌+◌, ◌<◌, ◌≤◌, Bool, cond, nat_lt, List, [], length, slice_index_or, refl, sym, ◌∙◌, subst, arith}
-use Rattle.std.proofs.lemmas.List.{get_or-map}
+use Rattle.std.proofs.Common.{◌≡◌, ℕ, ◌+◌, ◌<◌, ◌≤◌, Bool, cond, nat_lt, List, length, slice_index_or, refl, sym, ◌∙◌, subst, arith}
+use Rattle.std.proofs.lemmas.Option.{get_or_from_slice_get, slice_get_within}
 use Rattle.std.proofs.lemmas.Bool.Decides.{nat_tests}
 use Rattle.hm_outside.specs.declared.pages.Pages as pages
 use Rattle.hm_model.specs.declared.entry.Entry.{Entry}
@@ -17,6 +17,7 @@ use Rattle.hm_heap.specs.Laws as heap_laws
 use Rattle.hm_heap.specs.Passes.{PassView, AreOf, region_at}
 use Rattle.hm_replay.specs.Names.{Names}
 use Rattle.hm_replay.specs.Replays.{HasReplayed, ReplaysClose, EntriesAreOfTrace}
+use Rattle.hm_replay.specs.Rounds.{IsOfTrace, EachIs}
 use Rattle.hm_replay.proofs.Turns.{some_of}
 use Rattle.hmreplay.specs.declared.words.Options.{Options}
 use Rattle.hmreplay.specs.Words.{config_of}
@@ -26,16 +27,18 @@ use Rattle.hmreplay.proofs.Fronts.{lawful_front}
 
 module _ {P : Type 0} (meaning : pages.Ghosts P) where
   -- ---- closing
-  ends : (o : Options) (locks : List Lock) (turns : List Known) (hs : List History) (ps : List P)
-      → AreOf locks turns → length locks ≡ region_count (config_of o) + 1 → Closes meaning (config_of o) o.seed turns hs ps → AreEnds meaning o hs ps
-  ends o locks turns hs ps of count closes = record {
+  ends : (o : Options) (locks : List Lock) (turns : List Known) (closed : Closed P)
+      → AreOf locks turns → length locks ≡ region_count (config_of o) + 1 → Closes meaning (config_of o) o.seed turns closed.histories closed.pages → AreEnds meaning o closed
+  ends o locks turns closed of count closes = record {
     histories = closes.histories ∙ (of.same ∙ count);
     pages = closes.pages ∙ sym closes.histories;
-    each = λ r h p below.
-        let below' : r < length turns = omega (arith, below, closes.histories) in
-        let one = closes.each r (some_of turns r below') h p below' in
-        subst (λ (told : Bool). IsEnd meaning (record { config = config_of o; number = o.seed; region = region_at (config_of o) r; told = told }) (slice_index_or hs r h) (slice_index_or ps r p))
-        (sym one.end.told_is) one.end;
+    each = λ r h p h_is p_is.
+        let below : r < length turns = omega (arith, slice_get_within closed.histories r h h_is, closes.histories) in
+        let one = closes.each r (some_of turns r below) h p below in
+        let end = subst (λ (told : Bool). IsEnd meaning (record { config = config_of o; number = o.seed; region = region_at (config_of o) r; told = told }) (slice_index_or closed.histories r h) (slice_index_or closed.pages r p))
+        (sym one.end.told_is) one.end in
+        subst (λ (kept : P). IsEnd meaning (origin_at meaning o r kept) h kept) (get_or_from_slice_get closed.pages r p p p_is)
+        (subst (λ (x : History). IsEnd meaning (origin_at meaning o r (slice_index_or closed.pages r p)) x (slice_index_or closed.pages r p)) (get_or_from_slice_get closed.histories r h h h_is) end);
   }
 
   pub replayed : (o : Options) (c : Config) (number : ℕ) (locks : List Lock) (p : PassView) (closed : Closed P)
@@ -50,30 +53,27 @@ module _ {P : Type 0} (meaning : pages.Ghosts P) where
       let whole = close (config_of o) p closed.histories trace results last done shut.histories
       (λ r t h below. (shut.each r t h (some_of closed.pages r (omega (arith, below, shut.pages))) below).whole) in
       record {
-        ends = ends o locks p.turns closed.histories closed.pages of count shut;
+        ends = ends o locks p.turns closed of count shut;
         names = last;
         rounds = whole;
-        entries = of_trace (config_of o) closed.histories trace results last whole;
+        entries = λ r h h_is. subst (λ (x : History). EachIs (IsOfTrace 1 1 trace) x.entries) (get_or_from_slice_get closed.histories r h h h_is)
+            (of_trace (config_of o) closed.histories trace results last whole r h (slice_get_within closed.histories r h h_is));
       }
 
   -- ---- what the histories begin with
-  module _ (o : Options) (hs : List History) (ps : List P) (place : ℕ) (p : P) (entries : List Entry) (begins : Begins meaning o hs ps place entries) where
-    history : History
-    history = some_of hs place begins.below
+  module _ (o : Options) (closed : Closed P) (place : ℕ) (p : P) (entries : List Entry) (begins : Begins meaning o closed place p entries) where
+    end : IsEnd meaning (origin_at meaning o place p) begins.history p
+    end = begins.ends.each place begins.history p begins.history_is begins.pages_are
 
-    end : IsEnd meaning (origin_at meaning o place (slice_index_or ps place p)) (slice_index_or hs place history) (slice_index_or ps place p)
-    end = begins.ends.each place history p begins.below
-
-    pub is_region : IsRegionOf (origin_at meaning o place (slice_index_or ps place p))
+    pub is_region : IsRegionOf (origin_at meaning o place p)
     is_region = end.sound.is_region
 
-    pub lawful : IsLawful (origin_at meaning o place (slice_index_or ps place p)) entries
-    lawful = lawful_front (origin_at meaning o place (slice_index_or ps place p)) entries begins.later
-        (subst (λ (es : List Entry). IsLawful (origin_at meaning o place (slice_index_or ps place p)) es)
-        (sym (get_or-map (λ (h : History). h.entries) hs place history [] begins.below) ∙ begins.is) end.sound.lawful)
+    pub lawful : IsLawful (origin_at meaning o place p) entries
+    lawful = lawful_front (origin_at meaning o place p) entries begins.later
+        (subst (λ (es : List Entry). IsLawful (origin_at meaning o place p) es) begins.is end.sound.lawful)
 
     pub place_below : place < region_count (config_of o) + 1
-    place_below = omega (arith, begins.below, begins.ends.histories)
+    place_below = omega (arith, slice_get_within closed.histories place begins.history begins.history_is, begins.ends.histories)
 
   -- two places of one region are one
   one_place : (count r s : ℕ) → count ≤ 196 → r < count + 1 → s < count + 1 → cond (nat_lt r count) r 196 ≡ cond (nat_lt s count) s 196 → r ≡ s
@@ -82,10 +82,10 @@ module _ {P : Type 0} (meaning : pages.Ghosts P) where
   few_regions : (c : Config) → c.arenas ≤ 4 → region_count c ≤ 196
   few_regions c most = omega (arith, most)
 
-  pub regions_apart : heap_laws.RegionsApart → RegionsApart meaning
-  regions_apart apart o hs ps place other p entries theirs begins their_begins a b q one two =
-      let of = is_region o hs ps place p entries begins in
+  pub regions_apart : heap_laws.RegionsApart → (o : Options) (closed : Closed P) → RegionsApart meaning o closed
+  regions_apart apart o closed place other p their_p entries theirs begins their_begins a b q one two =
+      let of = is_region o closed place p entries begins in
       one_place (region_count (config_of o)) place other (few_regions (config_of o) of.valid.arenas_most)
-      (place_below o hs ps place p entries begins) (place_below o hs ps other p theirs their_begins)
-      (apart (origin_at meaning o place (slice_index_or ps place p)) (origin_at meaning o other (slice_index_or ps other p)) entries theirs a b q refl
-      of (is_region o hs ps other p theirs their_begins) (lawful o hs ps place p entries begins) (lawful o hs ps other p theirs their_begins) one two)
+      (place_below o closed place p entries begins) (place_below o closed other their_p theirs their_begins)
+      (apart (origin_at meaning o place p) (origin_at meaning o other their_p) entries theirs a b q refl
+      of (is_region o closed other their_p theirs their_begins) (lawful o closed place p entries begins) (lawful o closed other their_p theirs their_begins) one two)

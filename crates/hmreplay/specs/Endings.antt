@@ -19,12 +19,13 @@ use Rattle.hm_heap.specs.declared.close.Closed.{Closed}
 use Rattle.hm_journal.specs.Journals.{journal_text}
 use Rattle.hmreplay.specs.declared.refusal.Refusal.{Refusal}
 use Rattle.hmreplay.specs.declared.refusal.Refusal.TheVariants.{Usage, ReadFault, TooLong}
-use Rattle.hmreplay.specs.declared.words.Command.TheVariants.{Run, Stress}
+use Rattle.hmreplay.specs.declared.run.Run.{Run}
+use Rattle.hmreplay.specs.declared.words.Command.TheVariants as command
 use Rattle.hmreplay.specs.declared.words.Options.{Options}
 use Rattle.hmreplay.specs.declared.words.Output.{Output}
 use Rattle.hmreplay.specs.declared.words.Output.TheVariants.{Report, Journal}
 use Rattle.hmreplay.specs.Words.{asked_in, config_of}
-use Rattle.hmreplay.specs.Streams.{IsReadToEnd, IsTakenPast, IsTakenWithin, IsWritten}
+use Rattle.hmreplay.specs.Streams.{Stream, HasFailed, IsReadToEnd, IsTakenPast, IsTakenWithin, IsWritten}
 use Rattle.hmreplay.specs.Replayed.{IsReplayed}
 
 -- ---- refusals
@@ -40,10 +41,10 @@ line_of TooLong = codes "fault: too long" ++ 10 ∷ []
 
 -- why a source is refused: it failed, no more bytes than may be being taken, or it has too many; what the words are is
 -- no matter of the source
-abbrev pub IsRefused : Refusal → Option (List ℕ) → Option (List ℕ) → Type 0 → Type 0
-IsRefused Usage left left' rose = ⊥
-IsRefused ReadFault left left' rose = rose × IsTakenWithin 67108864 left left'
-IsRefused TooLong left left' rose = IsTakenPast 67108864 left left'
+abbrev pub IsRefused : Refusal → Stream → Type 0
+IsRefused Usage source = ⊥
+IsRefused ReadFault source = HasFailed source × IsTakenWithin 67108864 source
+IsRefused TooLong source = IsTakenPast 67108864 source
 
 -- ---- faults of a trace
 abbrev pub kind_text : FaultKind → List ℕ
@@ -81,23 +82,22 @@ output_text o Report left results = report_text results
 output_text o Journal left results = journal_text (config_of o) o.seed left.histories
 
 -- ---- endings
-module _ {P : Type 0} (meaning : pages.Ghosts P) (status : ℕ) (closed : Option (Closed P))
-    (held held' : Option (List ℕ)) (sink_rose : Type 0) where
+module _ {P : Type 0} (meaning : pages.Ghosts P) (run : Run P) (sink : Stream) where
   -- the trace was run and the heap closed, and the text of what it left was written, or a front of it where the sink
   -- failed
   pub record RunsTrace (o : Options) (trace : List (List ScriptView)) (text_of : Closed P → List Results → List ℕ)
       : Type 0 where
     pub left : Closed P
-    pub closed_is : closed ≡ Some left
+    pub closed_is : run.closed ≡ Some left
     pub results : List Results
     pub replayed : IsReplayed meaning o left trace results
-    pub written : IsWritten status (status_after results) held held' sink_rose (text_of left results)
+    pub written : IsWritten run.status (status_after results) sink (text_of left results)
 
   -- memory was wanted: nothing was written
   pub record LacksMemory : Type 0 where
-    pub status_is : status ≡ 6
-    pub unwritten : held' ≡ held
-    pub not_closed : closed ≡ None
+    pub status_is : run.status ≡ 6
+    pub unwritten : sink.after ≡ sink.before
+    pub not_closed : run.closed ≡ None
 
   -- the text is a trace, which was run: its report or its journal was written
   pub record RunsText (o : Options) (output : Output) (bytes : List ℕ) : Type 0 where
@@ -110,8 +110,8 @@ module _ {P : Type 0} (meaning : pages.Ghosts P) (status : ℕ) (closed : Option
   pub record IsFaulty (bytes : List ℕ) : Type 0 where
     pub fault : TraceFault
     pub first : text_fault bytes ≡ Some fault
-    pub not_closed : closed ≡ None
-    pub written : IsWritten status 3 held held' sink_rose (fault_line fault)
+    pub not_closed : run.closed ≡ None
+    pub written : IsWritten run.status 3 sink (fault_line fault)
 
   -- how a text that was read ends
   abbrev pub TextEnds : Options → Output → List ℕ → Type 0
@@ -123,21 +123,21 @@ module _ {P : Type 0} (meaning : pages.Ghosts P) (status : ℕ) (closed : Option
 
   -- a line that says why a run is refused was written, or a front of it where the sink failed
   pub record TellsRefusal (refusal : Refusal) : Type 0 where
-    pub not_closed : closed ≡ None
-    pub written : IsWritten status (status_of refusal) held held' sink_rose (line_of refusal)
+    pub not_closed : run.closed ≡ None
+    pub written : IsWritten run.status (status_of refusal) sink (line_of refusal)
 
   -- ---- by the source
-  module _ (left left' : Option (List ℕ)) (source_rose : Type 0) where
+  module _ (source : Stream) where
     -- it failed, or has too many bytes
     pub record SourceRefused : Type 0 where
       pub refusal : Refusal
-      pub cause : IsRefused refusal left left' source_rose
+      pub cause : IsRefused refusal source
       pub tells : TellsRefusal refusal
 
     -- it was read to its end, and has no more bytes than may be taken
     pub record SourceRead (o : Options) (output : Output) : Type 0 where
       pub bytes : List ℕ
-      pub read : IsReadToEnd left left' bytes
+      pub read : IsReadToEnd source bytes
       pub within : length bytes ≤ 67108864
       pub ends : TextEnds o output bytes
 
@@ -149,28 +149,26 @@ module _ {P : Type 0} (meaning : pages.Ghosts P) (status : ℕ) (closed : Option
     -- they are not accepted: nothing was taken from the source
     pub record EndsUnasked (words : List (String Global)) : Type 0 where
       pub words_are : asked_in words ≡ None
-      pub untouched : left' ≡ left
+      pub untouched : source.after ≡ source.before
       pub tells : TellsRefusal Usage
 
     pub record EndsRun (words : List (String Global)) : Type 0 where
       pub options : Options
       pub output : Output
-      pub words_are : asked_in words ≡ Some (record { command = Run output; options = options })
+      pub words_are : asked_in words ≡ Some (record { command = command.Run output; options = options })
       pub ends : SourceEnds options output
 
     -- nothing was taken from the source
     pub record EndsStress (words : List (String Global)) : Type 0 where
       pub options : Options
       pub number : ℕ
-      pub words_are : asked_in words ≡ Some (record { command = Stress number; options = options })
-      pub untouched : left' ≡ left
+      pub words_are : asked_in words ≡ Some (record { command = command.Stress number; options = options })
+      pub untouched : source.after ≡ source.before
       pub ends : StressEnds options number
 
     abbrev pub EndsAsAsked : List (String Global) → Type 0
     EndsAsAsked words = EndsRun words ⊎ EndsStress words ⊎ EndsUnasked words
 
--- how a run ends: the words, what was left of the source before and after, what the sink held before and after
-abbrev pub Ends : {P : Type 0} → pages.Ghosts P → ℕ → Option (Closed P) → List (String Global) → Option (List ℕ)
-    → Option (List ℕ) → Type 0 → Option (List ℕ) → Option (List ℕ) → Type 0 → Type 0
-Ends meaning status closed words left left' source_rose held held' sink_rose =
-    EndsAsAsked meaning status closed held held' sink_rose left left' source_rose words
+-- how a run ends, by the words that it was given, its source and its sink
+abbrev pub Ends : {P : Type 0} → pages.Ghosts P → List (String Global) → Run P → Stream → Stream → Type 0
+Ends meaning words run source sink = EndsAsAsked meaning run sink source words

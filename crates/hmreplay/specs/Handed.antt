@@ -7,26 +7,27 @@ use Rattle.hm_trace.specs.Stress.{stress}
 use Rattle.hm_trace.specs.Traces.{IsTrace}
 use Rattle.hm_trace.specs.Views.{ScriptView}
 use Rattle.hm_heap.specs.declared.close.Closed.{Closed}
+use Rattle.hmreplay.specs.declared.run.Run.{Run}
 use Rattle.hmreplay.specs.declared.words.Asked.{Asked}
 use Rattle.hmreplay.specs.declared.words.Command.{Command}
-use Rattle.hmreplay.specs.declared.words.Command.TheVariants.{Run, Stress}
+use Rattle.hmreplay.specs.declared.words.Command.TheVariants as command
 use Rattle.hmreplay.specs.declared.words.Options.{Options}
-use Rattle.hmreplay.specs.Streams.{IsReadToEnd}
+use Rattle.hmreplay.specs.Streams.{Stream, IsReadToEnd}
 use Rattle.hmreplay.specs.Replayed.{IsReplayed}
 
 -- the trace whose spelling the bytes are
 abbrev pub IsSpelled : List ℕ → List (List ScriptView) → Type 0
 IsSpelled bytes trace = IsTrace trace × (bytes ≡ spelling trace)
 
-module _ (left left' : Option (List ℕ)) where
+module _ (source : Stream) where
   -- the trace whose spelling was read to its end
   abbrev pub IsReadTrace : List (List ScriptView) → Type 0
-  IsReadTrace trace = IsTrace trace × IsReadToEnd left left' (spelling trace)
+  IsReadTrace trace = IsTrace trace × IsReadToEnd source (spelling trace)
 
   -- the trace that a command asks for: that of the source, or that of the number
   abbrev pub IsAskedTrace : Command → List (List ScriptView) → Type 0
-  IsAskedTrace (Run output) trace = IsReadTrace trace
-  IsAskedTrace (Stress number) trace = trace ≡ stress number
+  IsAskedTrace (command.Run output) trace = IsReadTrace trace
+  IsAskedTrace (command.Stress number) trace = trace ≡ stress number
 
 module _ {P : Type 0} (meaning : pages.Ghosts P) where
   -- where a trace was run, and only there, the heap that was closed then, and the results of that trace's steps
@@ -39,8 +40,7 @@ module _ {P : Type 0} (meaning : pages.Ghosts P) where
   HandsOut IsOf o None None = ⊤
 
   -- as the words ask; nothing where they are not accepted
-  abbrev pub HandsOutAs : Option Asked → Option (List ℕ) → Option (List ℕ) → Option (Closed P)
-      → Option (List Results) → Type 0
-  HandsOutAs (Some asked) left left' closed results =
-      HandsOut (IsAskedTrace left left' asked.command) asked.options closed results
-  HandsOutAs None left left' closed results = (closed ≡ None) × (results ≡ None)
+  abbrev pub HandsOutAs : Option Asked → Stream → Run P → Type 0
+  HandsOutAs (Some asked) source run =
+      HandsOut (IsAskedTrace source asked.command) asked.options run.closed run.results
+  HandsOutAs None source run = (run.closed ≡ None) × (run.results ≡ None)

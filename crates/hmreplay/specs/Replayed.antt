@@ -1,5 +1,5 @@
 -- What a run of a trace leaves: the history of each region, beside its pages.
-use Rattle.std.specs.Prelude.{◌≡◌, ◌+◌, ◌<◌, ℕ, List, length, slice_index_or}
+use Rattle.std.specs.Prelude.{◌≡◌, ◌+◌, ℕ, List, length, slice_get, Some}
 use Rattle.hm_outside.specs.declared.pages.Pages as pages
 use Rattle.hm_report.specs.declared.results.Results.{Results}
 use Rattle.hm_sizes.specs.Homes.{region_count}
@@ -28,17 +28,18 @@ module _ {P : Type 0} (meaning : pages.Ghosts P) (o : Options) where
   -- there is a history for each region, by ascending number, beside its pages: it is legal, and its choices are drawn
   -- from the words of the region's stream; its count of faults is the pages' own; where they tell, their runs and bytes
   -- are what the history says
-  pub record AreEnds (hs : List History) (ps : List P) : Type 0 where
-    pub histories : length hs ≡ region_count (config_of o) + 1
-    pub pages : length ps ≡ length hs
-    pub each : (r : ℕ) (h : History) (p : P) → r < length hs
-        → IsEnd meaning (origin_at r (slice_index_or ps r p)) (slice_index_or hs r h) (slice_index_or ps r p)
+  pub record AreEnds (closed : Closed P) : Type 0 where
+    pub histories : length closed.histories ≡ region_count (config_of o) + 1
+    pub pages : length closed.pages ≡ length closed.histories
+    pub each : (place : ℕ) (h : History) (p : P)
+        → slice_get closed.histories place ≡ Some h → slice_get closed.pages place ≡ Some p
+        → IsEnd meaning (origin_at place p) h p
 
   -- beside that: the histories hold each script's calls once, in order and round by round, with these results; and each
   -- entry is of a step of a script
   pub record IsReplayed (closed : Closed P) (trace : List (List ScriptView)) (results : List Results) : Type 0 where
-    pub ends : AreEnds closed.histories closed.pages
+    pub ends : AreEnds closed
     pub names : Names
     pub rounds : AreReplayed (config_of o) closed.histories trace results names
-    pub entries : (r : ℕ) (h : History) → r < length closed.histories
-        → EachIs (IsOfTrace 1 1 trace) (slice_index_or closed.histories r h).entries
+    pub entries : (place : ℕ) (h : History) → slice_get closed.histories place ≡ Some h
+        → EachIs (IsOfTrace 1 1 trace) h.entries

@@ -1,26 +1,59 @@
--- What reading a source to its end and writing a text to a sink leave.
+-- What a run takes from its source and puts to its sink.
 use Rattle.std.specs.Prelude.{◌≡◌, ◌⊎◌, ℕ, ◌<◌, ◌≤◌, List, take, length}
 use Rattle.std.specs.declared.option.Option.{Option}
+use Rattle.hm_outside.specs.declared.streams.Source as sources
+use Rattle.hm_outside.specs.declared.streams.Sink as sinks
+use Rattle.hm_outside.specs.Causes.{Rose}
 use Rattle.hm_outside.specs.Streams.{Taken, Put, IsEmptied}
 
+-- a stream before a run and after it: what a source has left, or a sink holds, where it tells that; and how often it
+-- failed
+pub record Stream : Type 0 where
+  pub before : Option (List ℕ)
+  pub after : Option (List ℕ)
+  pub faults_before : ℕ
+  pub faults_after : ℕ
+
+abbrev pub source_of : {S : Type 0} → sources.Ghosts S → S → S → Stream
+source_of meaning old new = record {
+  before = meaning.left old;
+  after = meaning.left new;
+  faults_before = meaning.faults old;
+  faults_after = meaning.faults new;
+}
+
+abbrev pub sink_of : {K : Type 0} → sinks.Ghosts K → K → K → Stream
+sink_of meaning old new = record {
+  before = meaning.held old;
+  after = meaning.held new;
+  faults_before = meaning.faults old;
+  faults_after = meaning.faults new;
+}
+
+-- its count of faults rose, or stands at its last value
+abbrev pub HasFailed : Stream → Type 0
+HasFailed stream = Rose stream.faults_before stream.faults_after
+
+-- ---- a source
 -- these bytes were taken, and none is left
-abbrev pub IsReadToEnd : Option (List ℕ) → Option (List ℕ) → List ℕ → Type 0
-IsReadToEnd before after bytes = Taken before after bytes × IsEmptied after
+abbrev pub IsReadToEnd : Stream → List ℕ → Type 0
+IsReadToEnd source bytes = Taken source.before source.after bytes × IsEmptied source.after
 
 -- more than so many bytes were taken
-abbrev pub IsTakenPast : ℕ → Option (List ℕ) → Option (List ℕ) → Type 0
-IsTakenPast limit before after = (bytes : List ℕ) × Taken before after bytes × (limit < length bytes)
+abbrev pub IsTakenPast : ℕ → Stream → Type 0
+IsTakenPast limit source = (bytes : List ℕ) × Taken source.before source.after bytes × (limit < length bytes)
 
 -- at most so many bytes were taken
-abbrev pub IsTakenWithin : ℕ → Option (List ℕ) → Option (List ℕ) → Type 0
-IsTakenWithin most before after = (bytes : List ℕ) × Taken before after bytes × (length bytes ≤ most)
+abbrev pub IsTakenWithin : ℕ → Stream → Type 0
+IsTakenWithin most source = (bytes : List ℕ) × Taken source.before source.after bytes × (length bytes ≤ most)
 
+-- ---- a sink
 -- a front of the text was put, and not all of it
-abbrev pub IsFrontPut : Option (List ℕ) → Option (List ℕ) → List ℕ → Type 0
-IsFrontPut before after text = (n : ℕ) × (n < length text) × Put before after (take n text)
+abbrev pub IsFrontPut : Stream → List ℕ → Type 0
+IsFrontPut sink text = (n : ℕ) × (n < length text) × Put sink.before sink.after (take n text)
 
--- the text was put and the status is the one planned; or the status is 5, the sink's count rose and a front of the text
--- was put
-abbrev pub IsWritten : ℕ → ℕ → Option (List ℕ) → Option (List ℕ) → Type 0 → List ℕ → Type 0
-IsWritten status planned before after rose text =
-    ((status ≡ planned) × Put before after text) ⊎ ((status ≡ 5) × rose × IsFrontPut before after text)
+-- the text was put and the status is the one planned; or the status is 5, the sink failed and a front of the text was
+-- put
+abbrev pub IsWritten : ℕ → ℕ → Stream → List ℕ → Type 0
+IsWritten status planned sink text =
+    ((status ≡ planned) × Put sink.before sink.after text) ⊎ ((status ≡ 5) × HasFailed sink × IsFrontPut sink text)

@@ -1,16 +1,16 @@
 //! Laws of how runs end, and of the histories that they hand out. Each function does nothing of its own: its
 //! contract is the law.
 ghost use Rattle.std.specs.Prelude.{◌≡◌, ◌<◌, ◌⊎◌, ℕ, List, Some, String, length};
-ghost use Rattle.std.specs.declared.option.Option.{Option};
 ghost use Rattle.std.specs.declared.alloc.Global.{Global};
-ghost use Rattle.hm_outside.specs.Causes.{Rose};
 ghost use Rattle.hm_trace.specs.Spelling.{spelling};
 ghost use Rattle.hm_trace.specs.Traces.{IsTrace};
 ghost use Rattle.hm_trace.specs.Views.{ScriptView};
 ghost use Rattle.hm_heap.specs.declared.close.Closed.{Closed};
+ghost use Rattle.hmreplay.specs.declared.run.Run.{Run};
+ghost use Rattle.hmreplay.specs.declared.words.Options.{Options};
 ghost use Rattle.hmreplay.specs.Endings.{Ends};
 ghost use Rattle.hmreplay.specs.Laws.{LiveBlocksApart, RegionsApart, SlotsComeLate, BlocksComeLate, SlotsAreZero, BlocksAreZero, OverwrittenStay, ClassRefusals, LargeRefusals};
-ghost use Rattle.hmreplay.specs.Streams.{IsTakenPast};
+ghost use Rattle.hmreplay.specs.Streams.{Stream, HasFailed, IsTakenPast};
 ghost use Rattle.hmreplay.specs.Words.{AsksRun, AsksStress};
 
 use hm_class_rules::condemned_slots;
@@ -22,16 +22,14 @@ use hm_trace::{spellings_are_short, spellings_have_no_fault};
 /// 0 or 1, or for want of memory with 6. And so where they ask for the trace that a number makes, and the sink does
 /// not fail.
 pub fn runs_are_complete<P: Pages>()
-    ensures source { (status : ℕ) (closed : Option (Closed P)) (words : List (String Global))
+    ensures source { (words : List (String Global)) (run : Run P) (source sink : Stream)
         (trace : List (List ScriptView))
-        (bytes : List ℕ) (left' held held' : Option (List ℕ)) (f g h k : ℕ)
-        → Ends P.Pages status closed words (Some bytes) left' (Rose f g) held held' (Rose h k)
-        → AsksRun words → IsTrace trace → bytes ≡ spelling trace → (Rose f g → ⊥) → (Rose h k → ⊥)
-        → (status ≡ 0) ⊎ (status ≡ 1) ⊎ (status ≡ 6) }
-    ensures stress { (status : ℕ) (closed : Option (Closed P)) (words : List (String Global))
-        (left left' held held' : Option (List ℕ)) (f g h k : ℕ)
-        → Ends P.Pages status closed words left left' (Rose f g) held held' (Rose h k)
-        → AsksStress words → (Rose h k → ⊥) → (status ≡ 0) ⊎ (status ≡ 1) ⊎ (status ≡ 6) }
+        → Ends P.Pages words run source sink → AsksRun words
+        → IsTrace trace → source.before ≡ Some (spelling trace) → (HasFailed source → ⊥) → (HasFailed sink → ⊥)
+        → (run.status ≡ 0) ⊎ (run.status ≡ 1) ⊎ (run.status ≡ 6) }
+    ensures stress { (words : List (String Global)) (run : Run P) (source sink : Stream)
+        → Ends P.Pages words run source sink → AsksStress words → (HasFailed sink → ⊥)
+        → (run.status ≡ 0) ⊎ (run.status ≡ 1) ⊎ (run.status ≡ 6) }
 {
     spellings_have_no_fault();
     spellings_are_short();
@@ -40,37 +38,37 @@ pub fn runs_are_complete<P: Pages>()
 /// A run ends with 7 only where more than 67,108,864 bytes were taken. And where the words ask for a source to be
 /// run, it has more, and neither it nor the sink fails, a run ends with 7, or for want of memory with 6.
 pub fn too_long_is_exact<P: Pages>()
-    ensures only { (status : ℕ) (closed : Option (Closed P)) (words : List (String Global))
-        (left left' held held' : Option (List ℕ)) (f g h k : ℕ)
-        → Ends P.Pages status closed words left left' (Rose f g) held held' (Rose h k)
-        → status ≡ 7 → IsTakenPast 67108864 left left' }
-    ensures long { (status : ℕ) (closed : Option (Closed P)) (words : List (String Global)) (bytes : List ℕ)
-        (left' held held' : Option (List ℕ)) (f g h k : ℕ)
-        → Ends P.Pages status closed words (Some bytes) left' (Rose f g) held held' (Rose h k)
-        → AsksRun words → 67108864 < length bytes → (Rose f g → ⊥) → (Rose h k → ⊥) → (status ≡ 7) ⊎ (status ≡ 6) }
+    ensures only { (words : List (String Global)) (run : Run P) (source sink : Stream)
+        → Ends P.Pages words run source sink → run.status ≡ 7 → IsTakenPast 67108864 source }
+    ensures long { (words : List (String Global)) (run : Run P) (source sink : Stream) (bytes : List ℕ)
+        → Ends P.Pages words run source sink → AsksRun words
+        → source.before ≡ Some bytes → 67108864 < length bytes → (HasFailed source → ⊥) → (HasFailed sink → ⊥)
+        → (run.status ≡ 7) ⊎ (run.status ≡ 6) }
 {}
 
 /// After any number of entries of each history, live blocks never overlap, in one region or across regions.
 pub fn live_blocks_apart<P: Pages>()
-    ensures one_region { LiveBlocksApart P.Pages }
-    ensures two_regions { RegionsApart P.Pages }
+    ensures one_region { (o : Options) (closed : Closed P) (place : ℕ) (p : P)
+        → LiveBlocksApart P.Pages o closed place p }
+    ensures two_regions { (o : Options) (closed : Closed P) → RegionsApart P.Pages o closed }
 {
     apart_blocks();
 }
 
 /// What was freed is given again only after the stated number of further frees.
 pub fn freed_blocks_come_late<P: Pages>()
-    ensures slots { SlotsComeLate P.Pages }
-    ensures blocks { BlocksComeLate P.Pages }
+    ensures slots { (o : Options) (closed : Closed P) (place : ℕ) (p : P) → SlotsComeLate P.Pages o closed place p }
+    ensures blocks { (o : Options) (closed : Closed P) (place : ℕ) (p : P) → BlocksComeLate P.Pages o closed place p }
 {
     delayed_blocks();
 }
 
 /// What is given is zero; a slot that was found overwritten is never given.
 pub fn given_blocks_are_zero<P: Pages>()
-    ensures slots { SlotsAreZero P.Pages }
-    ensures blocks { BlocksAreZero P.Pages }
-    ensures overwritten { OverwrittenStay P.Pages }
+    ensures slots { (o : Options) (closed : Closed P) (place : ℕ) (p : P) → SlotsAreZero P.Pages o closed place p }
+    ensures blocks { (o : Options) (closed : Closed P) (place : ℕ) (p : P) → BlocksAreZero P.Pages o closed place p }
+    ensures overwritten { (o : Options) (closed : Closed P) (place : ℕ) (p : P)
+        → OverwrittenStay P.Pages o closed place p }
 {
     zeroed_blocks();
     condemned_slots();
@@ -78,6 +76,6 @@ pub fn given_blocks_are_zero<P: Pages>()
 
 /// Each refusal comes exactly where its cause holds; a page fails only where its count of faults rose.
 pub fn refusals_have_causes<P: Pages>()
-    ensures class { ClassRefusals P.Pages }
-    ensures large { LargeRefusals P.Pages }
+    ensures class { (o : Options) (closed : Closed P) (place : ℕ) (p : P) → ClassRefusals P.Pages o closed place p }
+    ensures large { (o : Options) (closed : Closed P) (place : ℕ) (p : P) → LargeRefusals P.Pages o closed place p }
 {}

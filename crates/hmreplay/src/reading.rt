@@ -1,7 +1,6 @@
 //! Reading a source to its end, in pieces, up to a limit.
 ghost use Rattle.std.specs.Prelude.{◌≡◌, ◌≤◌, length, IfOk, IsErrOf};
-ghost use Rattle.hm_outside.specs.Causes.{Rose};
-ghost use Rattle.hmreplay.specs.Streams.{IsReadToEnd, IsTakenPast, IsTakenWithin};
+ghost use Rattle.hmreplay.specs.Streams.{HasFailed, IsReadToEnd, IsTakenPast, IsTakenWithin, source_of};
 
 use hm_outside::Source;
 use std::alloc::Global;
@@ -26,13 +25,14 @@ pub enum ReadStop {
 /// All bytes of the source. Each turn but the last takes at least one byte, and at most one byte past
 /// the limit is taken.
 pub fn read_all<S: Source>(alloc: Global, source: &mut S) -> Result<Vec<u8>, ReadStop>
-    ensures whole { IfOk result (λ v. IsReadToEnd (S.left source.old) (S.left source.new) v.items) }
+    ensures whole { IfOk result (λ v. IsReadToEnd (source_of S.Source source.old source.new) v.items) }
     ensures within { IfOk result (λ v. length v.items ≤ 67108864) }
-    ensures fault { IsErrOf result ReadStop.Fault → Rose (S.faults source.old) (S.faults source.new) }
+    ensures fault { IsErrOf result ReadStop.Fault → HasFailed (source_of S.Source source.old source.new) }
     ensures before_fault { IsErrOf result ReadStop.Fault
-        → IsTakenWithin 67108864 (S.left source.old) (S.left source.new) }
-    ensures bound { IsTakenWithin 67108865 (S.left source.old) (S.left source.new) }
-    ensures long { IsErrOf result ReadStop.TooLong → IsTakenPast 67108864 (S.left source.old) (S.left source.new) }
+        → IsTakenWithin 67108864 (source_of S.Source source.old source.new) }
+    ensures bound { IsTakenWithin 67108865 (source_of S.Source source.old source.new) }
+    ensures long { IsErrOf result ReadStop.TooLong
+        → IsTakenPast 67108864 (source_of S.Source source.old source.new) }
 {
     match vec![in alloc; 0u8; PIECE] {
         Ok(mut piece) => read_by(alloc, source, &mut piece),
@@ -43,13 +43,14 @@ pub fn read_all<S: Source>(alloc: Global, source: &mut S) -> Result<Vec<u8>, Rea
 // All bytes of the source, each piece of them by way of a buffer.
 fn read_by<S: Source>(alloc: Global, source: &mut S, piece: &mut [u8]) -> Result<Vec<u8>, ReadStop>
     requires { length piece.old ≡ 65536 }
-    ensures whole { IfOk result (λ v. IsReadToEnd (S.left source.old) (S.left source.new) v.items) }
+    ensures whole { IfOk result (λ v. IsReadToEnd (source_of S.Source source.old source.new) v.items) }
     ensures within { IfOk result (λ v. length v.items ≤ 67108864) }
-    ensures fault { IsErrOf result ReadStop.Fault → Rose (S.faults source.old) (S.faults source.new) }
+    ensures fault { IsErrOf result ReadStop.Fault → HasFailed (source_of S.Source source.old source.new) }
     ensures before_fault { IsErrOf result ReadStop.Fault
-        → IsTakenWithin 67108864 (S.left source.old) (S.left source.new) }
-    ensures bound { IsTakenWithin 67108865 (S.left source.old) (S.left source.new) }
-    ensures long { IsErrOf result ReadStop.TooLong → IsTakenPast 67108864 (S.left source.old) (S.left source.new) }
+        → IsTakenWithin 67108864 (source_of S.Source source.old source.new) }
+    ensures bound { IsTakenWithin 67108865 (source_of S.Source source.old source.new) }
+    ensures long { IsErrOf result ReadStop.TooLong
+        → IsTakenPast 67108864 (source_of S.Source source.old source.new) }
 {
     let mut bytes = Vec::new(alloc);
     'turns: while bytes.len() <= LIMIT {

@@ -1,13 +1,12 @@
 //! The top call: the words, the source to its end or a number, the trace, the heap and the rounds, what is
 //! written, the sink.
 ghost use Rattle.std.specs.Prelude.{◌≡◌, ◌⊎◌, Some, None, true, IfOk};
-ghost use Rattle.hm_outside.specs.Causes.{Rose};
 ghost use Rattle.hm_report.specs.Findings.{ascends, has_finding};
 ghost use Rattle.hm_sizes.specs.Configs.{IsValid};
 ghost use Rattle.hm_trace.specs.Stress.{stress};
 ghost use Rattle.hmreplay.specs.Endings.{Ends, SourceEnds, StressEnds, TextEnds, status_of, line_of, status_after, output_text, fault_line};
 ghost use Rattle.hmreplay.specs.Handed.{HandsOut, HandsOutAs, IsReadTrace, IsSpelled};
-ghost use Rattle.hmreplay.specs.Streams.{IsTakenWithin, IsWritten};
+ghost use Rattle.hmreplay.specs.Streams.{IsTakenWithin, IsWritten, sink_of, source_of};
 ghost use Rattle.hmreplay.specs.Words.{IfUnasked, asked_in, config_of};
 
 use crate::reading::{ReadStop, read_all};
@@ -41,8 +40,8 @@ pub struct Run<P> {
 fn refuse<K: Sink, P>(sink: &mut K, refusal: Refusal) -> Run<P>
     ensures closed { result.closed ≡ None }
     ensures results { result.results ≡ None }
-    ensures written { IsWritten result.status (status_of refusal) (K.held sink.old) (K.held sink.new)
-        (Rose (K.faults sink.old) (K.faults sink.new)) (line_of refusal) }
+    ensures written { IsWritten result.status (status_of refusal) (sink_of K.Sink sink.old sink.new)
+        (line_of refusal) }
 {
     Run {
         status: finish(sink, refusal.status(), refusal.line()),
@@ -69,8 +68,7 @@ fn refuse_text<K: Sink, P>(alloc: Global, sink: &mut K, fault: &TraceFault) -> R
     ensures closed { result.closed ≡ None }
     ensures results { result.results ≡ None }
     ensures written { ((result.status ≡ 6) × (K.held sink.new ≡ K.held sink.old))
-        ⊎ IsWritten result.status 3 (K.held sink.old) (K.held sink.new) (Rose (K.faults sink.old) (K.faults sink.new))
-        (fault_line fault.now) }
+        ⊎ IsWritten result.status 3 (sink_of K.Sink sink.old sink.new) (fault_line fault.now) }
 {
     match line_of_fault(alloc, fault) {
         Ok(line) => Run {
@@ -106,8 +104,8 @@ fn write_results<K: Sink, P>(sink: &mut K, ran: Ran<P>, found: bool, text: &[u8]
     requires found { found ≡ has_finding ran.results.items }
     ensures closed { result.closed ≡ Some ran.closed }
     ensures results { result.results ≡ Some ran.results.items }
-    ensures written { IsWritten result.status (status_after ran.results.items) (K.held sink.old) (K.held sink.new)
-        (Rose (K.faults sink.old) (K.faults sink.new)) text.now }
+    ensures written { IsWritten result.status (status_after ran.results.items) (sink_of K.Sink sink.old sink.new)
+        text.now }
 {
     let planned = if found {
         Status::Finding
@@ -134,8 +132,7 @@ fn run_text<R: Threads + Wait + Sync, K: Sink, M: PageMaker, G: Gate>(
     gate: &G,
 ) -> Run<M::P>
     requires valid { IsValid (config_of options.now) }
-    ensures ends { TextEnds M.P.Pages result.status result.closed (K.held sink.old) (K.held sink.new)
-        (Rose (K.faults sink.old) (K.faults sink.new)) options.now output bytes.now }
+    ensures ends { TextEnds M.P.Pages result (sink_of K.Sink sink.old sink.new) options.now output bytes.now }
     ensures handed { HandsOut M.P.Pages (IsSpelled bytes.now) options.now result.closed result.results }
 {
     let trace = match read_trace(alloc, bytes) {
@@ -168,11 +165,10 @@ fn run_source<R: Threads + Wait + Sync, S: Source, K: Sink, M: PageMaker, G: Gat
     gate: &G,
 ) -> Run<M::P>
     requires valid { IsValid (config_of options.now) }
-    ensures bound { IsTakenWithin 67108865 (S.left source.old) (S.left source.new) }
-    ensures ends { SourceEnds M.P.Pages result.status result.closed (K.held sink.old) (K.held sink.new)
-        (Rose (K.faults sink.old) (K.faults sink.new)) (S.left source.old) (S.left source.new)
-        (Rose (S.faults source.old) (S.faults source.new)) options.now output }
-    ensures handed { HandsOut M.P.Pages (IsReadTrace (S.left source.old) (S.left source.new)) options.now
+    ensures bound { IsTakenWithin 67108865 (source_of S.Source source.old source.new) }
+    ensures ends { SourceEnds M.P.Pages result (sink_of K.Sink sink.old sink.new)
+        (source_of S.Source source.old source.new) options.now output }
+    ensures handed { HandsOut M.P.Pages (IsReadTrace (source_of S.Source source.old source.new)) options.now
         result.closed result.results }
 {
     match read_all(alloc, source) {
@@ -194,8 +190,7 @@ fn run_stress<R: Threads + Wait + Sync, K: Sink, M: PageMaker, G: Gate>(
     gate: &G,
 ) -> Run<M::P>
     requires valid { IsValid (config_of options.now) }
-    ensures ends { StressEnds M.P.Pages result.status result.closed (K.held sink.old) (K.held sink.new)
-        (Rose (K.faults sink.old) (K.faults sink.new)) options.now number }
+    ensures ends { StressEnds M.P.Pages result (sink_of K.Sink sink.old sink.new) options.now number }
     ensures handed { HandsOut M.P.Pages (λ trace. trace ≡ stress number) options.now result.closed result.results }
 {
     let trace = match stress_trace(rt, alloc, number) {
@@ -230,13 +225,11 @@ pub fn replay<R: Threads + Wait + Sync, S: Source, K: Sink, M: PageMaker, G: Gat
     maker: &mut M,
     gate: &G,
 ) -> Run<M::P>
-    ensures bound { IsTakenWithin 67108865 (S.left source.old) (S.left source.new) }
-    ensures ends { Ends M.P.Pages result.status result.closed words.now (S.left source.old) (S.left source.new)
-        (Rose (S.faults source.old) (S.faults source.new)) (K.held sink.old) (K.held sink.new)
-        (Rose (K.faults sink.old) (K.faults sink.new)) }
+    ensures bound { IsTakenWithin 67108865 (source_of S.Source source.old source.new) }
+    ensures ends { Ends M.P.Pages words.now result (source_of S.Source source.old source.new)
+        (sink_of K.Sink sink.old sink.new) }
     ensures untouched { IfUnasked (asked_in words.now) (source.new ≡ source.old) }
-    ensures handed { HandsOutAs M.P.Pages (asked_in words.now) (S.left source.old) (S.left source.new)
-        result.closed result.results }
+    ensures handed { HandsOutAs M.P.Pages (asked_in words.now) (source_of S.Source source.old source.new) result }
 {
     let asked = match read_words(words) {
         Some(asked) => asked,

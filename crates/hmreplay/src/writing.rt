@@ -1,8 +1,7 @@
 //! Writing a text to a sink.
 ghost use Rattle.std.specs.Prelude.{◌≤◌, OnOk, OnErr};
-ghost use Rattle.hm_outside.specs.Causes.{Rose};
 ghost use Rattle.hm_outside.specs.Streams.{Put};
-ghost use Rattle.hmreplay.specs.Streams.{IsFrontPut, IsWritten};
+ghost use Rattle.hmreplay.specs.Streams.{HasFailed, IsFrontPut, IsWritten, sink_of};
 
 use crate::status::Status;
 use hm_outside::{Sink, SinkFault};
@@ -10,8 +9,8 @@ use hm_outside::{Sink, SinkFault};
 // Writes the whole text, or a front of it where the sink fails.
 fn write_all<K: Sink>(sink: &mut K, text: &[u8]) -> Result<(), SinkFault>
     ensures whole { OnOk result (Put (K.held sink.old) (K.held sink.new) text.now) }
-    ensures front { OnErr result (IsFrontPut (K.held sink.old) (K.held sink.new) text.now) }
-    ensures fault { OnErr result (Rose (K.faults sink.old) (K.faults sink.new)) }
+    ensures front { OnErr result (IsFrontPut (sink_of K.Sink sink.old sink.new) text.now) }
+    ensures fault { OnErr result (HasFailed (sink_of K.Sink sink.old sink.new)) }
     ensures later { K.faults sink.old ≤ K.faults sink.new }
 {
     let mut at = 0;
@@ -27,8 +26,7 @@ fn write_all<K: Sink>(sink: &mut K, text: &[u8]) -> Result<(), SinkFault>
 
 /// Writes the text and answers the status that is planned, or 5 where the sink fails.
 pub fn finish<K: Sink>(sink: &mut K, planned: u8, text: &[u8]) -> u8
-    ensures { IsWritten result planned (K.held sink.old) (K.held sink.new)
-        (Rose (K.faults sink.old) (K.faults sink.new)) text.now }
+    ensures { IsWritten result planned (sink_of K.Sink sink.old sink.new) text.now }
 {
     match write_all(sink, text) {
         Ok(()) => planned,

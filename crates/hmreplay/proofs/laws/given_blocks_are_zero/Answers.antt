@@ -1,21 +1,21 @@
-use Rattle.std.proofs.Common.{[], ◌∷◌, ◌++◌, slice_index_or}
-use Rattle.hmreplay.specs.Laws.{class_at}
+use Rattle.std.proofs.Common.{[], ◌∷◌, ◌++◌}
+use Rattle.hmreplay.specs.Laws.{class_rules}
 use Rattle.hmreplay.specs.Replayed.{origin_at}
 use Rattle.hmreplay.proofs.Outcomes.{is_region, lawful}
 use Rattle.hmreplay.proofs.laws.given_blocks_are_zero.Goals as goal
 
 pub returns-clause-slots : goal.returns-clause-slots
-returns-clause-slots g c = λ o hs ps place p before given a k begins is told below.
-    c.zeroed_blocks.ensures.slots (origin_at g.P.Pages o place (slice_index_or ps place p)) before given a k
-    (is_region g.P.Pages o hs ps place p (before ++ given ∷ []) begins.begins) (lawful g.P.Pages o hs ps place p (before ++ given ∷ []) begins.begins)
+returns-clause-slots g c = λ o closed place p before given a k begins is told below.
+    c.zeroed_blocks.ensures.slots (origin_at g.P.Pages o place p) before given a k
+    (is_region g.P.Pages o closed place p (before ++ given ∷ []) begins.begins) (lawful g.P.Pages o closed place p (before ++ given ∷ []) begins.begins)
     begins.class is told below
 
 pub returns-clause-blocks : goal.returns-clause-blocks
-returns-clause-blocks g c = λ o hs ps place p before given a asked guard k begins is below.
-    c.zeroed_blocks.ensures.blocks (origin_at g.P.Pages o place (slice_index_or ps place p)) before given a asked guard k
-    (lawful g.P.Pages o hs ps place p (before ++ given ∷ []) begins.begins) begins.large is below
+returns-clause-blocks g c = λ o closed place p before given a asked guard k begins is below.
+    c.zeroed_blocks.ensures.blocks (origin_at g.P.Pages o place p) before given a asked guard k
+    (lawful g.P.Pages o closed place p (before ++ given ∷ []) begins.begins) begins.large is below
 
 pub returns-clause-overwritten : goal.returns-clause-overwritten
-returns-clause-overwritten g c = λ o hs ps place p before middle found given a begins.
-    c.condemned_slots.ensures (class_at g.P.Pages o ps place p) before middle [] found given a
-    ((lawful g.P.Pages o hs ps place p (before ++ found ∷ (middle ++ given ∷ [])) begins.begins).class begins.class).legal
+returns-clause-overwritten g c = λ o closed place p before middle found given a begins.
+    c.condemned_slots.ensures (class_rules g.P.Pages o closed place p) before middle [] found given a
+    ((lawful g.P.Pages o closed place p (before ++ found ∷ (middle ++ given ∷ [])) begins.begins).class begins.class).legal

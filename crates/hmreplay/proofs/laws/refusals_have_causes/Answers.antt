@@ -3,19 +3,19 @@ use Rattle.hm_class_rules.proofs.Legal as class_legal
 use Rattle.hm_heap.specs.ClassRules as class
 use Rattle.hm_large.proofs.Legal as large_legal
 use Rattle.hm_heap.specs.LargeRules as large
-use Rattle.hmreplay.specs.Laws.{class_at, large_at}
+use Rattle.hmreplay.specs.Laws.{class_rules, large_rules}
 use Rattle.hmreplay.proofs.Causes.{refuses_class, refuses_large}
 use Rattle.hmreplay.proofs.Outcomes.{lawful}
 use Rattle.hmreplay.proofs.laws.refusals_have_causes.Goals as goal
 
 pub returns-clause-class : goal.returns-clause-class
-returns-clause-class g c = λ o hs ps place p before e begins.
-    let t = class_at g.P.Pages o ps place p in
+returns-clause-class g c = λ o closed place p before e begins.
+    let t = class_rules g.P.Pages o closed place p in
     refuses_class t (class.state t before) e
-    (class_legal.one_less t before e ((lawful g.P.Pages o hs ps place p (before ++ e ∷ []) begins.begins).class begins.class).legal).1
+    (class_legal.one_less t before e ((lawful g.P.Pages o closed place p (before ++ e ∷ []) begins.begins).class begins.class).legal).1
 
 pub returns-clause-large : goal.returns-clause-large
-returns-clause-large g c = λ o hs ps place p before e begins.
-    let t = large_at g.P.Pages o ps place p in
+returns-clause-large g c = λ o closed place p before e begins.
+    let t = large_rules g.P.Pages o closed place p in
     refuses_large t (large.state t before) e
-    (large_legal.one_less t before e ((lawful g.P.Pages o hs ps place p (before ++ e ∷ []) begins.begins).large begins.large).legal).1
+    (large_legal.one_less t before e ((lawful g.P.Pages o closed place p (before ++ e ∷ []) begins.begins).large begins.large).legal).1
