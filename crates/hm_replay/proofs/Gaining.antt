@@ -146,7 +146,7 @@ part_grew p q place who call r h =
     (λ t. called_grew (slice_index_or p.turns place t) h.turn who call r (h.called t).0 (h.called t).1)
 
 -- one part that was replied to: its entry is taken, and the rest follows
-part_gains : (p m q : PassView) (place : ℕ) (who : Who) (call : Call) (reply : Reply) (Rest : Own → Reply → Own → Type 0)
+pub part_gains : (p m q : PassView) (place : ℕ) (who : Who) (call : Call) (reply : Reply) (Rest : Own → Reply → Own → Type 0)
     → HasPart p m place who call (Ok reply) → Gains m.turns q.turns (λ xs ys. Rest xs reply ys)
     → Gains p.turns q.turns (λ xs ys. TakesPart place who call xs (λ left again. Rest left again ys))
 part_gains p m q place who call reply Rest h later =

@@ -1,6 +1,7 @@
 pub mod Addresses
 pub mod Gaining
 pub mod Trying
+pub mod Fronts
 pub mod Running
 pub mod Turns
 pub mod Order
@@ -9,6 +10,7 @@ pub mod Finishes
 pub mod Starts
 pub mod Merging
 pub mod Rounding
+pub mod Begun
 pub mod Replaying
 pub mod Ascending
 pub mod Entries

@@ -58,7 +58,7 @@ module _ (locks : List Lock) (first round : ℕ) (root : PassView) (names : Name
   AllStarted ws =
       (i : ℕ) (w : Worker) → i < length ws → IsBegun locks (first + i) round root names (slice_index_or ws i w)
 
-  worked_begun : (ws : List Worker) → AllStarted ws → AreWorked locks first ws
+  pub worked_begun : (ws : List Worker) → AllStarted ws → AreWorked locks first ws
   worked_begun ws e = record {
     of = λ i w l. (e i w l).ready.of;
     callers = λ i w l. (e i w l).ready.callers;
@@ -304,10 +304,10 @@ module _ (locks : List Lock) (round total : ℕ) (p q : PassView) (names : Names
       (begun_seen locks (p.splits + 1) round p names ws s.begun) s.few
 
   -- or after they were
-  worked : (vs : List Worker) → length vs ≡ length ws → AllRan locks ws vs → AreWorked locks (p.splits + 1) vs
+  pub worked : (vs : List Worker) → length vs ≡ length ws → AllRan locks ws vs → AreWorked locks (p.splits + 1) vs
   worked vs n ran = worked_run locks (p.splits + 1) round p names ws vs n s.begun ran
 
-  parted_run : (vs : List Worker) → length vs ≡ length ws → HasParted locks (length vs) p q
+  pub parted_run : (vs : List Worker) → length vs ≡ length ws → HasParted locks (length vs) p q
   parted_run vs n = subst (λ (k : ℕ). HasParted locks k p q) (sym n) s.parted
 
   pub leaves_run : (vs : List Worker) → length vs ≡ length ws → AllRan locks ws vs → (z : PassView)
@@ -355,7 +355,7 @@ runs_round c own caller round names now (w ∷ ws) (r ∷ rs) e all =
     }
 
 -- what a joined worker made is what the first pass knows of its caller
-ended_is : (locks : List Lock) (p q z : PassView) (vs : List Worker) (rs : List (Option Results)) (i : ℕ) (w : Worker)
+pub ended_is : (locks : List Lock) (p q z : PassView) (vs : List Worker) (rs : List (Option Results)) (i : ℕ) (w : Worker)
     → HasParted locks (length vs) p q → AreWorked locks (p.splits + 1) vs → FinishedTo locks q z vs rs → i < length vs
     → mine_of (slice_index_or vs i w).pass.turns ≡ ended_in z.turns (p.splits + 1 + i)
 ended_is locks p q z vs rs i w a o f l =

@@ -1,8 +1,9 @@
 -- One more step of a script.
-use Rattle.std.proofs.Common.{◌≡◌, ℕ, ◌+◌, ◌<◌, zero, suc, Bool, true, get_or, List, [], ◌∷◌, ◌++◌, append-nil, length, Option, Some, None, Result, refl, sym, ◌∙◌, ap, subst, arith}
+use Rattle.std.proofs.Common.{◌≡◌, ℕ, ◌+◌, ◌<◌, zero, suc, Bool, true, get_or, List, [], ◌∷◌, ◌++◌, append-nil, length, take, Option, Some, None, Result, refl, sym, ◌∙◌, ap, subst, arith}
 use Rattle.std.specs.Prelude.{IfOk}
 use Rattle.std.specs.List.{list_all}
 use Rattle.std.proofs.lemmas.Bool.{and_parts}
+use Rattle.std.proofs.lemmas.List.{length-map, length-take-le}
 use mathlib.Core.Path.{fun_ext, transport}
 use Rattle.hm_outside.specs.declared.memory.NoMemory.{NoMemory}
 use Rattle.hm_model.specs.declared.answer.Answer.{Answer}
@@ -15,8 +16,8 @@ use Rattle.hm_replay.specs.Names.{Names}
 use Rattle.hm_replay.specs.Uses.{Own, used_up}
 use Rattle.hm_replay.specs.Steps.{Terms, who_at, Answers, skipped, IsStepPlan, Steps, base_of, names_after}
 use Rattle.hm_replay.specs.Scripts.{Runs}
-use Rattle.hm_replay.specs.Gains.{Gains, GainsAnswer, mine_of}
-use Rattle.hm_replay.proofs.Gaining.{gains_as, gains_none}
+use Rattle.hm_replay.specs.Gains.{Gains, GainsAnswer, GainsResult, GainsResults, mine_of, terms_of}
+use Rattle.hm_replay.proofs.Gaining.{gains_as, gains_none, gains_then}
 
 -- ---- the call of a step
 -- the same step, spelled otherwise
@@ -69,6 +70,29 @@ pushed t n names last (u ∷ steps) s rs r xs ys zs ran step =
       rest = pushed t (n + 1) (names_after names u ran.result.answer) last steps s ran.later r ran.left ys zs ran.rest
           (subst (λ (m : ℕ). Steps t m s (base_of last s) r ys zs) next step);
     }
+
+-- how many steps are before the one at a place
+pub steps_before : (steps : List Step) (i : ℕ) → i < length steps → i + 1 ≡ 1 + length (steps_view (take i steps))
+steps_before steps i lt =
+    omega (arith, length-map (take i steps) step_view ∙ length-take-le i steps (omega (arith, lt)))
+
+pub ran_more : (h : HeapView) (p m q : PassView) (names last : Names) (steps : List Step) (i : ℕ) (s : Step)
+    (rs : List StepResult) (r : StepResult) → i < length steps → m ≡ record p { turns = m.turns }
+    → GainsResults h p m names (steps_view (take i steps)) rs last → GainsResult h m q (i + 1) last (step_view s) r
+    → GainsResults h p q names (steps_view (take i steps) ++ step_view s ∷ []) (rs ++ r ∷ []) (names_after last (step_view s) r.answer)
+ran_more h p m q names last steps i s rs r lt same ran one =
+    let t = terms_of h p in
+    let before = steps_view (take i steps) in
+    let One : ℕ → Own → Own → Type 0 = λ k. Steps t k (step_view s) (base_of last (step_view s)) r in
+    let step : Gains m.turns q.turns (One (i + 1)) =
+    subst (λ (z : Terms). Gains m.turns q.turns (Steps z (i + 1) (step_view s) (base_of last (step_view s)) r))
+    (ap (λ (z : PassView). terms_of h z) same) one in
+    gains_then p.turns m.turns q.turns (Runs t 1 names before rs last) (One (i + 1))
+    (Runs t 1 names (before ++ step_view s ∷ []) (rs ++ r ∷ []) (names_after last (step_view s) r.answer))
+    (λ xs ys zs runs this.
+    pushed t 1 names last before (step_view s) rs r xs ys zs runs
+    (subst (λ (k : ℕ). One k ys zs) (steps_before steps i lt) this))
+    ran step
 
 -- what every step passes, the step at a place passes
 pub passes_at : (test : StepView → Bool) (steps : List Step) (i : ℕ) (s : Step) → list_all test (steps_view steps) ≡ true

@@ -10,8 +10,8 @@ use Rattle.hm_heap.specs.Plans.{Plan}
 use Rattle.hm_report.specs.declared.results.StepResult.{StepResult}
 use Rattle.hm_trace.specs.Views.{StepView}
 use Rattle.hm_replay.specs.Names.{Names}
-use Rattle.hm_replay.specs.Scripts.{Runs}
-use Rattle.hm_replay.specs.Steps.{Terms, Answers, Steps, base_of}
+use Rattle.hm_replay.specs.Scripts.{Runs, RunsFront}
+use Rattle.hm_replay.specs.Steps.{Terms, Answers, Steps, Fronts, BreaksOff, base_of}
 use Rattle.hm_replay.specs.Uses.{Own}
 
 -- what a script is run on
@@ -40,7 +40,21 @@ GainsResult h p q number names step r = Gains p.turns q.turns (Steps (terms_of h
 abbrev pub GainsResults : HeapView → PassView → PassView → Names → List StepView → List StepResult → Names → Type 0
 GainsResults h p q names steps rs last = Gains p.turns q.turns (Runs (terms_of h p) 1 names steps rs last)
 
--- what calls leave of a turn
+-- ---- for want of memory
+-- the first parts of a call of this step by one of these plans were made
+abbrev pub GainsFront : (Plan → Type 0) → PassView → PassView → ℕ → Type 0
+GainsFront IsPlan p q number = Gains p.turns q.turns (Fronts IsPlan (λ part. who_of p number part))
+
+-- a step was not run to its end
+abbrev pub GainsBroken : HeapView → PassView → PassView → ℕ → Names → StepView → Type 0
+GainsBroken h p q number names step =
+    Gains p.turns q.turns (BreaksOff (terms_of h p) number step (base_of names step))
+
+-- the first steps were run, and left these names
+abbrev pub GainsFrontOf : HeapView → PassView → PassView → Names → List StepView → Names → Type 0
+GainsFrontOf h p q names steps last = Gains p.turns q.turns (RunsFront (terms_of h p) names steps last)
+
+-- ---- what calls leave of a turn
 pub record Grew (t u : Known) : Type 0 where
   pub lock : u.lock ≡ t.lock
   pub same : u.knows ≡ record t.knows { seen = u.knows.seen; mine = u.knows.mine; lost = u.knows.lost }

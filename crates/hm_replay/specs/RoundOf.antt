@@ -1,11 +1,14 @@
 -- What a round says of the first pass.
-use Rattle.std.specs.Prelude.{◌≡◌, ℕ, ◌+◌, ◌<◌, ◌≤◌, ◌⊎◌, false, List, [], ◌++◌, length, map, slice_index_or, Option, Some, None}
+use Rattle.std.specs.Prelude.{◌≡◌, ℕ, ◌+◌, ◌-◌, ◌<◌, ◌≤◌, ◌⊎◌, false, List, [], ◌++◌, length, map, slice_index_or, take, Option, Some, None}
 use Rattle.hm_model.specs.declared.entry.Entry.{Entry}
+use Rattle.hm_sizes.specs.declared.config.Config.{Config}
+use Rattle.hm_trace.specs.Views.{ScriptView}
 use Rattle.hm_turn.specs.Callers.{is_among, ended_of}
 use Rattle.hm_turn.specs.Known.{Known}
 use Rattle.hm_heap.specs.Passes.{PassView, AllKnow}
 use Rattle.hm_replay.specs.Gains.{mine_of}
-use Rattle.hm_replay.specs.Rounds.{AreOfCallers}
+use Rattle.hm_replay.specs.Names.{Names}
+use Rattle.hm_replay.specs.Rounds.{AreFronts, AreOfCallers}
 use Rattle.hm_replay.specs.Uses.{Own}
 
 -- the entries of a joined caller, and none of another
@@ -49,3 +52,10 @@ pub record LeavesRoot (count : ℕ) (p q : PassView) : Type 0 where
   pub stays : Stays (p.splits + 1) count p.turns q.turns
   pub gathered : IsGathered p → IsGathered q
   pub seen : IsGathered p → AllSeeMore (p.splits + 1) count p.turns q.turns
+
+-- of the scripts of a round the first ones were begun, as many as passes were split off; all entries of each one's caller
+-- are those of a front of the script, and no entry is of another caller
+pub record BeginsRound (c : Config) (round : ℕ) (names : Names) (scripts : List ScriptView) (p q : PassView) : Type 0
+  where
+    pub alone : LeavesRoot (q.splits - p.splits) p q
+    pub fronts : AreFronts c (ended_in q.turns) (p.splits + 1) round names (take (q.splits - p.splits) scripts)

@@ -8,7 +8,7 @@ use Rattle.hm_sizes.specs.declared.config.Config.{Config}
 use Rattle.hm_trace.specs.Views.{ScriptView}
 use Rattle.hm_heap.specs.declared.close.History.{History}
 use Rattle.hm_replay.specs.Names.{Names, settled}
-use Rattle.hm_replay.specs.Scripts.{IsRun}
+use Rattle.hm_replay.specs.Scripts.{IsFront, IsRun}
 use Rattle.hm_replay.specs.Steps.{Terms}
 use Rattle.hm_replay.specs.Uses.{Own}
 
@@ -32,6 +32,13 @@ module _ (c : Config) (own : ℕ → Own) where
   RunsRound caller round names now (s ∷ scripts) results after =
       RunsScript (record { config = c; caller = caller; round = round; thread = s.thread }) (own caller) names now s
       results (λ next later. RunsRound (caller + 1) round names next scripts later after)
+
+  -- the scripts from this caller on, each begun with these names: all entries of its caller are those of a front of it
+  abbrev pub AreFronts : ℕ → ℕ → Names → List ScriptView → Type 0
+  AreFronts caller round names [] = ⊤
+  AreFronts caller round names (s ∷ scripts) =
+      ((last : Names) × IsFront (record { config = c; caller = caller; round = round; thread = s.thread }) names s.steps
+      last (own caller)) × AreFronts (caller + 1) round names scripts
 
   -- ---- the rounds of a trace
   -- the round was run with these names, and the rest goes on with the names after it

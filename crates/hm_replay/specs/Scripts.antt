@@ -1,9 +1,9 @@
 -- The run of a script over all histories: its own entries are used up step by step.
-use Rattle.std.specs.Prelude.{◌≡◌, ℕ, ◌+◌, List, [], ◌∷◌}
+use Rattle.std.specs.Prelude.{◌≡◌, ◌⊎◌, ℕ, ◌+◌, List, [], ◌∷◌, ◌++◌, length}
 use Rattle.hm_report.specs.declared.results.StepResult.{StepResult}
 use Rattle.hm_trace.specs.Views.{StepView}
 use Rattle.hm_replay.specs.Names.{Names}
-use Rattle.hm_replay.specs.Steps.{Terms, base_of, names_after, Steps}
+use Rattle.hm_replay.specs.Steps.{Terms, base_of, names_after, Steps, BreaksOff}
 use Rattle.hm_replay.specs.Uses.{Own, used_up, Stay}
 
 -- the step was run with these names, and the rest goes on with the names after it
@@ -25,3 +25,23 @@ Runs t number names (step ∷ steps) results last xs ys =
 -- all entries of the caller are those of the script
 abbrev pub IsRun : Terms → Names → List StepView → List StepResult → Names → Own → Type 0
 IsRun t names steps results last own = Runs t 1 names steps results last own used_up
+
+-- ---- a script that ends for want of memory
+-- the step with this number, the first of these, was not run to its end
+abbrev pub StopsAt : Terms → ℕ → Names → List StepView → Own → Own → Type 0
+StopsAt t number names [] xs ys = Stay xs ys
+StopsAt t number names (step ∷ later) xs ys = Stay xs ys ⊎ BreaksOff t number step (base_of names step) xs ys
+
+-- the first steps, however many, were run and left these names; the next one may have been begun
+pub record RunsFront (t : Terms) (names : Names) (steps : List StepView) (last : Names) (xs ys : Own) : Type 0 where
+  pub done : List StepView
+  pub later : List StepView
+  pub steps_are : steps ≡ done ++ later
+  pub results : List StepResult
+  pub left : Own
+  pub runs : Runs t 1 names done results last xs left
+  pub stops : StopsAt t (1 + length done) last later left ys
+
+-- all entries of the caller are those of a front of the script
+abbrev pub IsFront : Terms → Names → List StepView → Names → Own → Type 0
+IsFront t names steps last own = RunsFront t names steps last own used_up

@@ -13,7 +13,7 @@ use Rattle.hm_trace.specs.Views.{PlaceView, Null, At, Named, StepView, Malloc, C
 use Rattle.hm_heap.specs.Calls.{IsMallocPlan, IsCallocPlan, IsAlignedPlan, IsReallocPlan, free_plan, usable_plan, read_plan, write_plan, AnswerInReach}
 use Rattle.hm_heap.specs.Plans.{Plan}
 use Rattle.hm_replay.specs.Names.{Names, with_name}
-use Rattle.hm_replay.specs.Uses.{Own, Stay, Uses}
+use Rattle.hm_replay.specs.Uses.{Own, Stay, Uses, UsesFront}
 
 -- ---- where a step refers to
 -- an address and an offset
@@ -118,3 +118,16 @@ abbrev pub Steps : Terms → ℕ → StepView → Option ℕ → StepResult → 
 Steps t number step None r xs ys = (r ≡ skipped) × Stay xs ys
 Steps t number step (Some base) r xs ys =
     Calls (IsStepPlan t.config t.thread step base) (λ part. who_at t number part) base r xs ys
+
+-- ---- a step that ends for want of memory
+-- of a call by one of these plans the first parts were made, however many
+pub record Fronts (IsPlan : Plan → Type 0) (who : ℕ → Who) (xs ys : Own) : Type 0 where
+  pub plan : Plan
+  pub is : IsPlan plan
+  pub uses : UsesFront who 1 plan xs ys
+
+-- a step that is skipped does not end so
+abbrev pub BreaksOff : Terms → ℕ → StepView → Option ℕ → Own → Own → Type 0
+BreaksOff t number step None xs ys = ⊥
+BreaksOff t number step (Some base) xs ys =
+    Fronts (IsStepPlan t.config t.thread step base) (λ part. who_at t number part) xs ys

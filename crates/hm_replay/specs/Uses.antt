@@ -1,5 +1,5 @@
 -- The entries of one caller are used up by plans, each part taking the next one of its region.
-use Rattle.std.specs.Prelude.{◌≡◌, ◌≢◌, ℕ, ◌+◌, List, [], ◌∷◌}
+use Rattle.std.specs.Prelude.{◌≡◌, ◌≢◌, ◌⊎◌, ℕ, ◌+◌, List, [], ◌∷◌}
 use Rattle.hm_model.specs.declared.answer.Answer.{Answer}
 use Rattle.hm_model.specs.declared.entry.Entry.{Entry}
 use Rattle.hm_model.specs.declared.entry.Call.{Call}
@@ -37,3 +37,9 @@ abbrev pub Uses : (ℕ → Who) → ℕ → Plan → Answer → Own → Own → 
 Uses who n (Done a) answer xs ys = (answer ≡ a) × Stay xs ys
 Uses who n (Part place call next) answer xs ys =
     TakesPart place (who n) call xs (λ left reply. Uses who (n + 1) (next reply) answer left ys)
+
+-- the first parts of the plan, however many, are the next entries, numbered from n
+abbrev pub UsesFront : (ℕ → Who) → ℕ → Plan → Own → Own → Type 0
+UsesFront who n (Done a) xs ys = Stay xs ys
+UsesFront who n (Part place call next) xs ys =
+    Stay xs ys ⊎ TakesPart place (who n) call xs (λ left reply. UsesFront who (n + 1) (next reply) left ys)

@@ -9,7 +9,7 @@ use Rattle.hm_heap.specs.Passes.{PassView, AreOf, AllKnow, all_met}
 use Rattle.hm_replay.specs.declared.round.Worker.{Worker}
 use Rattle.hm_replay.specs.Gains.{mine_of, AllGrew}
 use Rattle.hm_replay.specs.Names.{Names, held, settled, AreSetBy}
-use Rattle.hm_replay.specs.Scripts.{IsRun}
+use Rattle.hm_replay.specs.Scripts.{IsFront, IsRun}
 
 -- ---- one worker
 -- the turns' caller is the pass's
@@ -39,6 +39,12 @@ pub record HasMade (c : Config) (p q : PassView) (s : ScriptView) (names : Names
 
 abbrev pub KeepsMade : Config → Worker → Worker → Type 0
 KeepsMade c w v = IfSome v.results (λ rs. HasMade c w.pass v.pass w.script.now (held w.env) rs (held v.env))
+
+-- whether or not it was found, they are those of a front of the script
+abbrev pub MakesFront : Config → Worker → Worker → Type 0
+MakesFront c w v =
+    IsFront (record { config = c; caller = w.pass.caller; round = w.pass.round; thread = w.pass.thread }) (held w.env)
+    w.script.now.steps (held v.env) (mine_of v.pass.turns)
 
 -- ---- passes are split off
 -- a turn that has split off so many callers, from the first on

@@ -1,11 +1,11 @@
 //! The call of a step.
-ghost use Rattle.std.specs.Prelude.{◌≡◌, ◌≤◌, ◌^◌, true, None, IfOk};
+ghost use Rattle.std.specs.Prelude.{◌≡◌, ◌≤◌, ◌^◌, true, None, IfOk, OnErr};
 ghost use Rattle.hm_model.specs.Runs.{same_runs};
 ghost use Rattle.hm_trace.specs.Traces.{is_step};
 ghost use Rattle.hm_trace.specs.Views.{step_view};
 ghost use Rattle.hm_heap.specs.Calls.{IsMallocPlan, free_plan, write_plan, AnswerInReach};
 ghost use Rattle.hm_heap.specs.Passes.{AreOf};
-ghost use Rattle.hm_replay.specs.Gains.{GainsAnswer, AllGrew, is_busy};
+ghost use Rattle.hm_replay.specs.Gains.{GainsAnswer, GainsFront, AllGrew, is_busy};
 ghost use Rattle.hm_replay.specs.Steps.{IsStepPlan, SetsInReach};
 
 use hm_heap::{Heap, Pass};
@@ -36,6 +36,8 @@ fn malloc<R: Wait, P: Pages, G: Gate>(
     ensures grew { AllGrew pass.old.turns pass.new.turns }
     ensures gains { IfOk result
         (GainsAnswer (IsMallocPlan heap.now.config pass.old.thread size) pass.old pass.new step_number) }
+    ensures stops { OnErr result
+        (GainsFront (IsMallocPlan heap.now.config pass.old.thread size) pass.old pass.new step_number) }
     ensures reach { IfOk result AnswerInReach }
 {
     let tried = heap.try_malloc(pass, step_number, size)?;
@@ -59,6 +61,8 @@ fn free<R: Wait, P: Pages, G: Gate>(
     ensures grew { AllGrew pass.old.turns pass.new.turns }
     ensures gains { IfOk result
         (GainsAnswer (λ plan. plan ≡ free_plan heap.now.config addr None) pass.old pass.new step_number) }
+    ensures stops { OnErr result
+        (GainsFront (λ plan. plan ≡ free_plan heap.now.config addr None) pass.old pass.new step_number) }
 {
     let tried = heap.try_free(pass, step_number, addr)?;
     if is_busy(&tried) {
@@ -87,12 +91,16 @@ fn write<R: Wait, P: Pages, G: Gate>(
     ensures gains { IfOk result
         (GainsAnswer (λ plan. plan ≡ write_plan heap.now.config addr (same_runs byte len)) pass.old pass.new
         step_number) }
+    ensures stops { OnErr result
+        (GainsFront (λ plan. plan ≡ write_plan heap.now.config addr (same_runs byte len)) pass.old pass.new
+        step_number) }
 {
     let runs = Runs::same(alloc, byte, len)?;
     heap.write(rt, pass, step_number, addr, &runs)
 }
 
-/// Makes the call of a step, at the address that the step refers to.
+/// Makes the call of a step, at the address that the step refers to. For want of memory it ends with the first parts of
+/// the call, however many.
 #[tactic(auto, using(crate::proofs::Gaining::serves_grew, crate::proofs::Gaining::follows_grew))]
 pub(crate) fn call<R: Wait, P: Pages, G: Gate>(
     rt: &R,
@@ -110,6 +118,9 @@ pub(crate) fn call<R: Wait, P: Pages, G: Gate>(
     ensures grew { AllGrew pass.old.turns pass.new.turns }
     ensures gains { IfOk result
         (GainsAnswer (IsStepPlan heap.now.config pass.old.thread (step_view step.now) base) pass.old pass.new
+        step_number) }
+    ensures stops { OnErr result
+        (GainsFront (IsStepPlan heap.now.config pass.old.thread (step_view step.now) base) pass.old pass.new
         step_number) }
     ensures reach { IfOk result (SetsInReach (step_view step.now)) }
 {

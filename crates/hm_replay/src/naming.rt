@@ -1,5 +1,5 @@
 //! The name that a step sets by its answer.
-ghost use Rattle.std.specs.Prelude.{◌≡◌, IfSome, OnOk};
+ghost use Rattle.std.specs.Prelude.{◌≡◌, IfSome, OnOk, OnErr};
 ghost use Rattle.hm_trace.specs.Views.{step_view};
 ghost use Rattle.hm_heap.specs.Requests.{IsInReach};
 ghost use Rattle.hm_heap.specs.Calls.{AnswerInReach};
@@ -38,7 +38,8 @@ fn moved(answer: &Answer) -> Option<u64>
 /// Sets the name of a step that was answered.
 pub(crate) fn name(env: &mut Env, step: &Step, answer: &Answer) -> Result<(), NoMemory>
     requires reach { SetsInReach (step_view step.now) answer.now }
-    ensures { OnOk result (held env.new ≡ named (held env.old) (step_view step.now) answer.now) }
+    ensures value { OnOk result (held env.new ≡ named (held env.old) (step_view step.now) answer.now) }
+    ensures memory { OnErr result (env.new ≡ env.old) }
 {
     match step {
         Step::Malloc { name, .. } | Step::Calloc { name, .. } | Step::Aligned { name, .. } => {

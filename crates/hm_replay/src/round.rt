@@ -2,9 +2,9 @@
 ghost use Rattle.std.specs.Prelude.{◌≡◌, ℕ, ◌+◌, ◌<◌, ◌≤◌, ◌^◌, [], length, map, slice_index_or, vec_len, vec_capacity, Some, IfOk, OnOk, OnErr};
 ghost use Rattle.hm_heap.specs.Passes.{AreOf};
 ghost use Rattle.hm_replay.specs.Names.{held};
-ghost use Rattle.hm_replay.specs.RoundOf.{LeavesRoot, ended_in};
+ghost use Rattle.hm_replay.specs.RoundOf.{BeginsRound, LeavesRoot, ended_in};
 ghost use Rattle.hm_replay.specs.Rounds.{RunsRound};
-ghost use Rattle.hm_replay.specs.Workers.{IsReady, HasRun, KeepsMade, SetsNames, HasParted, IsBegun, FinishedTo, all_settled};
+ghost use Rattle.hm_replay.specs.Workers.{IsReady, HasRun, KeepsMade, MakesFront, SetsNames, HasParted, IsBegun, FinishedTo, all_settled};
 
 use crate::env::Env;
 use crate::merge::{merge, names_set};
@@ -34,6 +34,7 @@ impl<'s> Worker<'s> {
         ensures script { self.new.script ≡ self.old.script }
         ensures run { HasRun heap.now.locks self.old.pass self.new.pass }
         ensures made { KeepsMade heap.now.config self.old self.new }
+        ensures front { MakesFront heap.now.config self.old self.new }
         ensures names { SetsNames self.new }
     {
         let results = run_script(rt, alloc, heap, &mut self.pass, self.script, &mut self.env);
@@ -62,6 +63,8 @@ fn work<R: Threads + Wait + Sync, P: Pages, G: Gate>(
         (slice_index_or workers.new.items i w).pass }
     ensures made { (i : ℕ) (w : _) → i < length workers.old.items
         → KeepsMade heap.now.config (slice_index_or workers.old.items i w) (slice_index_or workers.new.items i w) }
+    ensures fronts { (i : ℕ) (w : _) → i < length workers.old.items
+        → MakesFront heap.now.config (slice_index_or workers.old.items i w) (slice_index_or workers.new.items i w) }
     ensures names { (i : ℕ) (w : _) → i < length workers.old.items → SetsNames (slice_index_or workers.new.items i w) }
 {
     for_each_mut(
@@ -162,7 +165,8 @@ fn all_found(alloc: Global, found: Vec<Option<Results>>) -> Result<Vec<Results>,
 }
 
 /// Runs each script of a round under a pass of its own, each in a thread of its own. All passes are joined,
-/// also where there is no memory. The names that the scripts set are seen from then on.
+/// also where there is no memory: then the last scripts may not have been begun, and others not run to their ends. The
+/// names that the scripts set are seen from then on.
 pub fn run_round<R: Threads + Wait + Sync, P: Pages, G: Gate>(
     rt: &R,
     alloc: Global,
@@ -181,6 +185,7 @@ pub fn run_round<R: Threads + Wait + Sync, P: Pages, G: Gate>(
     ensures at_most { (root.old.splits ≤ root.new.splits) × (root.new.splits ≤ root.old.splits + length round.now) }
     ensures ran { IfOk result (λ results. RunsRound heap.now.config (ended_in root.new.turns) (root.old.splits + 1)
         number (held env.old) (held env.old) round.now results.items (held env.new)) }
+    ensures begun { BeginsRound heap.now.config number (held env.old) round.now root.old root.new }
     ensures memory { OnErr result (env.new ≡ env.old) }
 {
     let scripts = round.scripts();

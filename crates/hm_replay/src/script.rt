@@ -1,13 +1,13 @@
 //! One script, step by step.
-ghost use Rattle.std.specs.Prelude.{◌≡◌, ◌≤◌, ℕ, [], length, true, IfOk};
+ghost use Rattle.std.specs.Prelude.{◌≡◌, ◌≤◌, ℕ, [], length, true, IfOk, OnErr};
 ghost use Rattle.std.specs.List.{list_all};
 ghost use Rattle.hm_trace.specs.Limits.{max_steps};
 ghost use Rattle.hm_trace.specs.Traces.{is_step};
 ghost use Rattle.hm_trace.specs.Views.{step_view, steps_view};
 ghost use Rattle.hm_heap.specs.Passes.{AreOf};
-ghost use Rattle.hm_replay.specs.Gains.{GainsResult, GainsResults, AllGrew, terms_of, mine_of};
+ghost use Rattle.hm_replay.specs.Gains.{GainsResult, GainsResults, GainsBroken, GainsFrontOf, AllGrew, terms_of, mine_of};
 ghost use Rattle.hm_replay.specs.Names.{held};
-ghost use Rattle.hm_replay.specs.Scripts.{IsRun};
+ghost use Rattle.hm_replay.specs.Scripts.{IsFront, IsRun};
 ghost use Rattle.hm_replay.specs.Steps.{names_after};
 
 use crate::calls::call;
@@ -38,6 +38,9 @@ fn run_step<R: Wait, P: Pages, G: Gate>(
     ensures grew { AllGrew pass.old.turns pass.new.turns }
     ensures ran { IfOk result (GainsResult heap.now pass.old pass.new step_number (held env.old) (step_view step.now)) }
     ensures names { IfOk result (λ r. held env.new ≡ names_after (held env.old) (step_view step.now) r.answer) }
+    ensures stops { OnErr result
+        (GainsBroken heap.now pass.old pass.new step_number (held env.old) (step_view step.now)) }
+    ensures kept { OnErr result (env.new ≡ env.old) }
 {
     let Some(base) = base_of(env, step) else {
         return Ok(StepResult {
@@ -70,6 +73,8 @@ fn run_steps<R: Wait, P: Pages, G: Gate>(
     ensures grew { AllGrew pass.old.turns pass.new.turns }
     ensures ran { IfOk result (λ rs. GainsResults heap.now pass.old pass.new (held env.old) (steps_view steps.now)
         rs.items (held env.new)) }
+    ensures stops { OnErr result
+        (GainsFrontOf heap.now pass.old pass.new (held env.old) (steps_view steps.now) (held env.new)) }
 {
     let mut results = Vec::with_capacity(alloc, steps.len())?;
     for (index, step) in steps.iter().enumerate() {
@@ -79,8 +84,8 @@ fn run_steps<R: Wait, P: Pages, G: Gate>(
     Ok(results)
 }
 
-/// Runs a script under a pass that has made no call yet. For want of memory it ends at a step in the middle: the
-/// names are then as the steps before have left them, and no clause says how many those are.
+/// Runs a script under a pass that has made no call yet. For want of memory it ends at a step in the middle, of which
+/// the first parts may have been made: the names are then as the steps before have left them.
 pub fn run_script<R: Wait, P: Pages, G: Gate>(
     rt: &R,
     alloc: Global,
@@ -98,6 +103,8 @@ pub fn run_script<R: Wait, P: Pages, G: Gate>(
     ensures results { IfOk result (λ rs. (rs.round ≡ pass.old.round) × (rs.thread ≡ script.now.thread)) }
     ensures ran { IfOk result (λ rs. IsRun (terms_of heap.now pass.old) (held env.old) script.now.steps rs.items
         (held env.new) (mine_of pass.new.turns)) }
+    ensures stops { OnErr result (IsFront (terms_of heap.now pass.old) (held env.old) script.now.steps (held env.new)
+        (mine_of pass.new.turns)) }
 {
     let items = run_steps(rt, alloc, heap, pass, env, script.steps())?;
     Ok(Results {

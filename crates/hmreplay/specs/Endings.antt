@@ -1,5 +1,5 @@
 -- How a run ends, with its cause.
-use Rattle.std.specs.Prelude.{◌≡◌, ◌⊎◌, ℕ, ◌≤◌, if◌then◌else◌, List, ◌∷◌, [], ◌++◌, length, codes, String, Option, Some, None}
+use Rattle.std.specs.Prelude.{◌≡◌, ◌⊎◌, ℕ, ◌≤◌, if◌then◌else◌, List, ◌∷◌, [], ◌++◌, length, codes, String, Some, None}
 use Rattle.std.specs.Fmt.{decimal}
 use Rattle.std.specs.declared.alloc.Global.{Global}
 use Rattle.hm_outside.specs.declared.pages.Pages as pages

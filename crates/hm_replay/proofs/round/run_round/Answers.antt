@@ -1,4 +1,4 @@
-use Rattle.std.proofs.Common.{arith, ◌≡◌, ℕ, ◌+◌, List, length, map, vec_len, subst, sym, ◌∙◌, ap}
+use Rattle.std.proofs.Common.{arith, ◌≡◌, ℕ, ◌+◌, List, length, map, slice_index_or, vec_len, subst, refl, sym, ◌∙◌, ap}
 use Rattle.hm_report.specs.declared.results.Results.{Results}
 use Rattle.hm_trace.specs.Views.{ScriptView}
 use Rattle.hm_turn.specs.Known.{Lock}
@@ -8,6 +8,7 @@ use Rattle.hm_replay.specs.Names.{Names, held}
 use Rattle.hm_replay.specs.RoundOf.{ended_in}
 use Rattle.hm_replay.specs.Rounds.{RunsRound}
 use Rattle.hm_replay.specs.Workers.{all_settled}
+use Rattle.hm_replay.proofs.Begun.{begins_begun, begins_run}
 use Rattle.hm_replay.proofs.Rounding.{IsStartedBy, is_made, leaves_begun, leaves_run, runs_round, scripts_are, started_by}
 use Rattle.hm_replay.proofs.round.run_round.Goals as goal
 
@@ -108,3 +109,81 @@ returns-clause-ran g c =
     (is_made config locks c.args.number total p q z names ws.items vs.items _ started same c.work.ensures.run
     c.work.ensures.made c.work.ensures.script
     c.finish-2.ensures)))
+
+pub returns-then-is_err-clause-begun : goal.returns-then-is_err-clause-begun
+returns-then-is_err-clause-begun g c =
+    let s = c.start.ensures in
+    let ws = c.start.new.workers in
+    let locks : List Lock = c.args.heap.now.locks in
+    let total : ℕ = length c.args.round.now in
+    let p : PassView = c.args.root.now in
+    let q : PassView = c.start.new.root in
+    let names : Names = held c.args.env.now in
+    let all = c.scripts-scripts.ensures.all in
+    let started : IsStartedBy locks c.args.number total p q names ws.items =
+    started_by locks c.args.number _ total p q names ws.items (vec_len ws) ws.ok.0 c.requires.of s.root s.workers s.some
+    (ap (λ (l : List ScriptView). length l) all) in
+    begins_begun c.args.heap.now.config locks c.args.number total p q c.finish.new.root names ws.items _ started
+    c.args.round.now refl
+    (λ i w x l. s.scripts i w x (omega (arith, l, ws.ok.0)) ∙ ap (λ (y : List ScriptView). slice_index_or y i x) all)
+    c.finish.ensures
+
+pub returns-in_err-results-clause-begun : goal.returns-in_err-results-clause-begun
+returns-in_err-results-clause-begun g c =
+    let s = c.start.ensures in
+    let ws = c.start.new.workers in
+    let locks : List Lock = c.args.heap.now.locks in
+    let total : ℕ = length c.args.round.now in
+    let p : PassView = c.args.root.now in
+    let q : PassView = c.start.new.root in
+    let names : Names = held c.args.env.now in
+    let all = c.scripts-scripts.ensures.all in
+    let started : IsStartedBy locks c.args.number total p q names ws.items =
+    started_by locks c.args.number _ total p q names ws.items (vec_len ws) ws.ok.0 c.requires.of s.root s.workers s.some
+    (ap (λ (l : List ScriptView). length l) all) in
+    let vs = c.work.new.workers in
+    begins_run c.args.heap.now.config locks c.args.number total p q c.finish-2.new.root names ws.items _ started
+    c.args.round.now refl
+    (λ i w x l. s.scripts i w x (omega (arith, l, ws.ok.0)) ∙ ap (λ (y : List ScriptView). slice_index_or y i x) all)
+    vs.items (sym vs.ok.0 ∙ c.work.ensures.len ∙ ws.ok.0) c.work.ensures.run c.work.ensures.fronts c.work.ensures.script
+    c.finish-2.ensures
+
+pub returns-in_err-env-clause-begun : goal.returns-in_err-env-clause-begun
+returns-in_err-env-clause-begun g c =
+    let s = c.start.ensures in
+    let ws = c.start.new.workers in
+    let locks : List Lock = c.args.heap.now.locks in
+    let total : ℕ = length c.args.round.now in
+    let p : PassView = c.args.root.now in
+    let q : PassView = c.start.new.root in
+    let names : Names = held c.args.env.now in
+    let all = c.scripts-scripts.ensures.all in
+    let started : IsStartedBy locks c.args.number total p q names ws.items =
+    started_by locks c.args.number _ total p q names ws.items (vec_len ws) ws.ok.0 c.requires.of s.root s.workers s.some
+    (ap (λ (l : List ScriptView). length l) all) in
+    let vs = c.work.new.workers in
+    begins_run c.args.heap.now.config locks c.args.number total p q c.finish-2.new.root names ws.items _ started
+    c.args.round.now refl
+    (λ i w x l. s.scripts i w x (omega (arith, l, ws.ok.0)) ∙ ap (λ (y : List ScriptView). slice_index_or y i x) all)
+    vs.items (sym vs.ok.0 ∙ c.work.ensures.len ∙ ws.ok.0) c.work.ensures.run c.work.ensures.fronts c.work.ensures.script
+    c.finish-2.ensures
+
+pub returns-clause-begun : goal.returns-clause-begun
+returns-clause-begun g c =
+    let s = c.start.ensures in
+    let ws = c.start.new.workers in
+    let locks : List Lock = c.args.heap.now.locks in
+    let total : ℕ = length c.args.round.now in
+    let p : PassView = c.args.root.now in
+    let q : PassView = c.start.new.root in
+    let names : Names = held c.args.env.now in
+    let all = c.scripts-scripts.ensures.all in
+    let started : IsStartedBy locks c.args.number total p q names ws.items =
+    started_by locks c.args.number _ total p q names ws.items (vec_len ws) ws.ok.0 c.requires.of s.root s.workers s.some
+    (ap (λ (l : List ScriptView). length l) all) in
+    let vs = c.work.new.workers in
+    begins_run c.args.heap.now.config locks c.args.number total p q c.finish-2.new.root names ws.items _ started
+    c.args.round.now refl
+    (λ i w x l. s.scripts i w x (omega (arith, l, ws.ok.0)) ∙ ap (λ (y : List ScriptView). slice_index_or y i x) all)
+    vs.items (sym vs.ok.0 ∙ c.work.ensures.len ∙ ws.ok.0) c.work.ensures.run c.work.ensures.fronts c.work.ensures.script
+    c.finish-2.ensures

@@ -1,17 +1,17 @@
-use Rattle.std.proofs.Common.{◌≡◌, ℕ, ◌+◌, List, [], ◌∷◌, ◌++◌, take, length, refl, sym, ◌∙◌, ap, subst, arith}
-use Rattle.std.proofs.lemmas.List.{length-map, length-take-le, map-append, take_all, take_more}
+use Rattle.std.proofs.Common.{◌≡◌, ◌+◌, suc, List, [], ◌∷◌, ◌++◌, append_assoc, take, drop, refl, sym, ◌∙◌, ap, subst, arith}
+use Rattle.std.proofs.lemmas.List.{map-append, take_all, take_more}
 use mathlib.Core.Path.{transport}
 use Rattle.hm_trace.specs.declared.step.Step.{Step}
 use Rattle.hm_trace.specs.Traces.{is_step}
 use Rattle.hm_trace.specs.Views.{step_view, steps_view}
 use Rattle.hm_heap.specs.Passes.{PassView}
-use Rattle.hm_replay.specs.Gains.{Gains, GainsResults, terms_of}
+use Rattle.hm_replay.specs.Gains.{Gains, GainsFrontOf, GainsResults, terms_of}
 use Rattle.hm_replay.specs.Names.{Names, held}
 use Rattle.hm_replay.specs.Scripts.{Runs}
-use Rattle.hm_replay.specs.Steps.{Terms, Steps, base_of, names_after}
-use Rattle.hm_replay.specs.Uses.{Own}
-use Rattle.hm_replay.proofs.Gaining.{all_grew_none, all_grew_then, gains_none, gains_then}
-use Rattle.hm_replay.proofs.Running.{passes_at, pushed}
+use Rattle.hm_replay.specs.Steps.{Terms, BreaksOff, base_of, names_after}
+use Rattle.hm_replay.proofs.Fronts.{broken_front, on_err, ran_front, split_at}
+use Rattle.hm_replay.proofs.Gaining.{all_grew_none, all_grew_then, gains_none}
+use Rattle.hm_replay.proofs.Running.{passes_at, ran_more, steps_before}
 use Rattle.hm_replay.proofs.script.run_steps.Goals as goal
 
 pub run_step-requires-clause-valid : goal.run_step-requires-clause-valid
@@ -29,31 +29,15 @@ loop-index-preserved g c =
     let m = c.loop-index.pass in
     let q = c.run_step.new.pass in
     let r = c.in_ok-result.result in
-    let t = terms_of c.args.heap.now p in
     let rs = c.loop-index.results.items in
     let names : Names = held c.args.env.now in
     let last : Names = held c.loop-index.env in
-    let next : Names = names_after last (step_view s) r.answer in
-    let count : length (steps_view (take i steps)) ≡ i =
-    length-map (take i steps) step_view ∙ length-take-le i steps (omega arith) in
     let taken : steps_view (take (i + 1) steps) ≡ steps_view (take i steps) ++ step_view s ∷ [] =
     ap steps_view (take_more steps i s (omega arith)
     ∙ ap (λ (u : Step). take i steps ++ u ∷ []) (sym c.index-steps-index.is))
     ∙ map-append step_view (take i steps) (s ∷ []) in
-    let number : i + 1 ≡ 1 + length (steps_view (take i steps)) = omega (arith, count) in
-    let terms : terms_of c.args.heap.now m ≡ t = ap (λ (z : PassView). terms_of c.args.heap.now z) old.same in
-    let One : ℕ → Own → Own → Type 0 = λ k. Steps t k (step_view s) (base_of last (step_view s)) r in
-    let step : Gains m.turns q.turns (One (i + 1)) =
-    subst (λ (z : Terms). Gains m.turns q.turns (Steps z (i + 1) (step_view s) (base_of last (step_view s)) r)) terms
+    let both = ran_more c.args.heap.now p m q names last steps i s rs r (omega arith) old.same old.ran
     c.in_ok-result.ensures.ran in
-    let both : GainsResults c.args.heap.now p q names (steps_view (take i steps) ++ step_view s ∷ [])
-    (rs ++ r ∷ []) next =
-    gains_then p.turns m.turns q.turns (Runs t 1 names (steps_view (take i steps)) rs last) (One (i + 1))
-    (Runs t 1 names (steps_view (take i steps) ++ step_view s ∷ []) (rs ++ r ∷ []) next)
-    (λ xs ys zs ran one.
-    pushed t 1 names last (steps_view (take i steps)) (step_view s) rs r xs ys zs ran
-    (subst (λ (k : ℕ). One k ys zs) number one))
-    old.ran step in
     record {
       same = c.run_step.ensures.same ∙ ap (λ (z : PassView). record z { turns = q.turns }) old.same;
       of = c.run_step.ensures.of;
@@ -97,3 +81,54 @@ returns-clause-ran g c =
 
 pub returns-in_err-results-clause-grew : goal.returns-in_err-results-clause-grew
 returns-in_err-results-clause-grew g c = all_grew_none c.args.pass.now.turns c.args.pass.now.turns refl
+
+pub returns-in_err-results-clause-stops : goal.returns-in_err-results-clause-stops
+returns-in_err-results-clause-stops g c =
+    let ts = c.args.pass.now.turns in
+    let t = terms_of c.args.heap.now c.args.pass.now in
+    let names : Names = held c.args.env.now in
+    on_err c.from_residual.result
+    (ran_front ts ts t names names (steps_view c.args.steps.now) [] (steps_view c.args.steps.now) [] refl
+    (gains_none ts ts (Runs t 1 names [] [] names) refl (λ xs. (refl, refl, λ place. refl))))
+
+pub returns-in_err-result-clause-stops : goal.returns-in_err-result-clause-stops
+returns-in_err-result-clause-stops g c =
+    let i = c.loop-index.index in
+    let steps = c.args.steps.now in
+    let s = c.index-steps-index.result in
+    let old = c.loop-index.invariant in
+    let p = c.args.pass.now in
+    let m = c.loop-index.pass in
+    let q = c.run_step.new.pass in
+    let names : Names = held c.args.env.now in
+    let last : Names = held c.loop-index.env in
+    on_err c.from_residual-in_err-result.result
+    (subst (λ e. GainsFrontOf c.args.heap.now p q names (steps_view steps) (held e)) (sym c.in_err-result.ensures.kept)
+    (broken_front p.turns m.turns q.turns (terms_of c.args.heap.now p) names last (steps_view steps)
+    (steps_view (take i steps)) (steps_view (drop (suc i) steps)) (step_view s) c.loop-index.results.items (i + 1)
+    (steps_before steps i (omega arith)) (split_at steps i s (omega arith) c.index-steps-index.is) old.ran
+    (subst (λ (z : Terms). Gains m.turns q.turns (BreaksOff z (i + 1) (step_view s) (base_of last (step_view s))))
+    (ap (λ (z : PassView). terms_of c.args.heap.now z) old.same) c.in_err-result.ensures.stops)))
+
+pub returns-in_err-push-clause-stops : goal.returns-in_err-push-clause-stops
+returns-in_err-push-clause-stops g c =
+    let i = c.loop-index.index in
+    let steps = c.args.steps.now in
+    let s = c.index-steps-index.result in
+    let old = c.loop-index.invariant in
+    let p = c.args.pass.now in
+    let m = c.loop-index.pass in
+    let q = c.run_step.new.pass in
+    let r = c.in_ok-result.result in
+    let rs = c.loop-index.results.items in
+    let names : Names = held c.args.env.now in
+    let last : Names = held c.loop-index.env in
+    let next : Names = names_after last (step_view s) r.answer in
+    let before = steps_view (take i steps) in
+    let after = steps_view (drop (suc i) steps) in
+    on_err c.from_residual-in_err-push.result
+    (subst (λ (l : Names). GainsFrontOf c.args.heap.now p q names (steps_view steps) l) (sym c.in_ok-result.ensures.names)
+    (ran_front p.turns q.turns (terms_of c.args.heap.now p) names next (steps_view steps) (before ++ step_view s ∷ []) after
+    (rs ++ r ∷ [])
+    (split_at steps i s (omega arith) c.index-steps-index.is ∙ sym (append_assoc before (step_view s ∷ []) after))
+    (ran_more c.args.heap.now p m q names last steps i s rs r (omega arith) old.same old.ran c.in_ok-result.ensures.ran)))
