@@ -54,7 +54,7 @@ pub record LeavesRoot (count : ℕ) (p q : PassView) : Type 0 where
   pub seen : IsGathered p → AllSeeMore (p.splits + 1) count p.turns q.turns
 
 -- of the scripts of a round the first ones were begun, as many as passes were split off; all entries of each one's caller
--- are those of a front of the script, and no entry is of another caller
+-- are those of a front of the script, and what the first pass knew of other callers stays
 pub record BeginsRound (c : Config) (round : ℕ) (names : Names) (scripts : List ScriptView) (p q : PassView) : Type 0
   where
     pub alone : LeavesRoot (q.splits - p.splits) p q

@@ -21,9 +21,9 @@ use Rattle.hmreplay.specs.Replayed.{origin_at, AreEnds}
 
 -- of the history at a place of a closed heap, and the pages there
 module _ {P : Type 0} (meaning : pages.Ghosts P) (o : Options) (closed : Closed P) (place : ℕ) (p : P) where
-  -- the region at this place
-  abbrev pub region : Origin
-  region = origin_at meaning o place p
+  -- which region it is
+  abbrev pub origin : Origin
+  origin = origin_at meaning o place p
 
   -- these are its pages, and its history begins with these entries
   pub record Begins (entries : List Entry) : Type 0 where
@@ -37,24 +37,24 @@ module _ {P : Type 0} (meaning : pages.Ghosts P) (o : Options) (closed : Closed 
   -- it is a class region, or the large one
   pub record BeginsClass (entries : List Entry) : Type 0 where
     pub begins : Begins entries
-    pub class : region.region < large_region_number
+    pub class : origin.region < large_region_number
 
   pub record BeginsLarge (entries : List Entry) : Type 0 where
     pub begins : Begins entries
-    pub large : region.region ≡ large_region_number
+    pub large : origin.region ≡ large_region_number
 
   -- the rules of that region
   abbrev pub class_rules : class.Terms
-  class_rules = class_terms region
+  class_rules = class_terms origin
 
   abbrev pub large_rules : large.Terms
-  large_rules = large_terms region
+  large_rules = large_terms origin
 
   -- ---- live blocks never overlap
   -- two live blocks of a region that share an address are one
   abbrev pub LiveBlocksApart : Type 0
   LiveBlocksApart = (entries : List Entry) → Begins entries
-      → (a b q : ℕ) → IsOfBlock region entries a q → IsOfBlock region entries b q → a ≡ b
+      → (a b q : ℕ) → IsOfBlock origin entries a q → IsOfBlock origin entries b q → a ≡ b
 
   -- ---- what was freed comes back late
   -- between a free of a slot and its next giving stand at least ring + min(array, 1) further frees of its region
