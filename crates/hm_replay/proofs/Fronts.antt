@@ -20,7 +20,7 @@ use Rattle.hm_replay.specs.Names.{Names}
 use Rattle.hm_replay.specs.Scripts.{Runs, RunsFront, StopsAt}
 use Rattle.hm_replay.specs.Steps.{Terms, Answers, BreaksOff, Fronts, IsStepPlan, base_of, who_at}
 use Rattle.hm_replay.specs.Uses.{Own, TakesPart, Uses, UsesFront}
-use Rattle.hm_replay.proofs.Gaining.{gains_as, gains_none, gains_then, part_gains}
+use Rattle.hm_replay.proofs.Gaining.{gains_as, gains_then, part_gains}
 use Rattle.hm_replay.proofs.Trying.{Idles}
 
 pub on_err : {T E : Type 0} {X : Type 0} (r : Result T E) → X → OnErr r X
@@ -28,11 +28,6 @@ on_err (Ok a) x = tt
 on_err (Err e) x = x
 
 -- ---- a plan
--- no part was made
-pub uses_none : (who : ℕ → Who) (n : ℕ) (plan : Plan) (xs : Own) → UsesFront who n plan xs xs
-uses_none who n (Done a) xs = λ place. refl
-uses_none who n (Part place call next) xs = inl (λ place. refl)
-
 -- all parts were made
 pub uses_all : (who : ℕ → Who) (n : ℕ) (plan : Plan) (a : Answer) (xs ys : Own) → Uses who n plan a xs ys → UsesFront who n plan xs ys
 uses_all who n (Done b) a xs ys u = u.1
@@ -104,12 +99,6 @@ serves_stops IsPlan p q step r s = follows_stops IsPlan s.plan p q step r s.is s
 pub stops_is : (plan : Plan) (p q : PassView) (step : ℕ) (r : Result Answer NoMemory) → Follows p q step 1 plan r
     → OnErr r (GainsFront (λ other. other ≡ plan) p q step)
 stops_is plan p q step r f = follows_stops (λ other. other ≡ plan) plan p q step r refl f
-
--- memory was wanted before the first part
-pub front_none : (IsPlan : Plan → Type 0) (plan : Plan) (p : PassView) (step : ℕ) → IsPlan plan → GainsFront IsPlan p p step
-front_none IsPlan plan p step is =
-    gains_none p.turns p.turns (Fronts IsPlan (λ part. who_of p step part)) refl
-    (λ xs. record { plan = plan; is = is; uses = uses_none (λ part. who_of p step part) 1 plan xs })
 
 -- the call that waits, after one that found the turn not free
 pub stops_after_busy : (IsPlan : ℕ → Plan → Type 0) (p m q : PassView) (step : ℕ) (r : Result Answer NoMemory)

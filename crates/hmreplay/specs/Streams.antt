@@ -14,21 +14,19 @@ pub record Stream : Type 0 where
   pub faults_before : ℕ
   pub faults_after : ℕ
 
-abbrev pub source_of : {S : Type 0} → sources.Ghosts S → S → S → Stream
-source_of meaning old new = record {
-  before = meaning.left old;
-  after = meaning.left new;
-  faults_before = meaning.faults old;
-  faults_after = meaning.faults new;
+abbrev pub stream_of : {S : Type 0} → (S → Option (List ℕ)) → (S → ℕ) → S → S → Stream
+stream_of bytes faults old new = record {
+  before = bytes old;
+  after = bytes new;
+  faults_before = faults old;
+  faults_after = faults new;
 }
 
+abbrev pub source_of : {S : Type 0} → sources.Ghosts S → S → S → Stream
+source_of meaning = stream_of meaning.left meaning.faults
+
 abbrev pub sink_of : {K : Type 0} → sinks.Ghosts K → K → K → Stream
-sink_of meaning old new = record {
-  before = meaning.held old;
-  after = meaning.held new;
-  faults_before = meaning.faults old;
-  faults_after = meaning.faults new;
-}
+sink_of meaning = stream_of meaning.held meaning.faults
 
 -- its count of faults rose, or stands at its last value
 abbrev pub HasFailed : Stream → Type 0
