@@ -12,6 +12,7 @@ mod GoodLines
 mod Hex
 mod Kept
 mod Lengths
+mod LineEnds
 mod NameSets
 mod Numerals
 mod Parts

@@ -1,12 +1,12 @@
 -- The table of faults, and the first line at fault.
 use Rattle.std.specs.Prelude.{ℕ, ◌+◌, Bool, true, false, not, ◌&&◌, ◌==◌, nat_lt, nat_le, List, [], ◌∷◌, length, codes, Option, Some, None, if◌then◌else◌}
-use Rattle.std.specs.List.{slice_split, list_all}
+use Rattle.std.specs.List.{list_all}
 use Rattle.hm_trace.specs.declared.fault.FaultKind.{FaultKind}
 use Rattle.hm_trace.specs.declared.fault.FaultKind.TheVariants.{AfterEnd, LineTooLong, NotAscii, BadHeader, BadWord, BadName, BadNumber, TooManyThreads, TooManyRounds, TooManySteps, NameSetTwice, NoEnd}
 use Rattle.hm_trace.specs.declared.fault.TraceFault.{TraceFault}
 use Rattle.hm_trace.specs.Limits.{max_line, max_threads, max_rounds, max_steps}
 use Rattle.hm_trace.specs.Names.{is_word}
-use Rattle.hm_trace.specs.Lines.{words_at, is_formed, first_wrong, or_later}
+use Rattle.hm_trace.specs.Lines.{lines_in, words_at, is_formed, first_wrong, or_later}
 use Rattle.hm_trace.specs.Before.{Before, begins, is_step_line, is_setting_line, thread_in, before_of}
 
 -- a name is wrong
@@ -79,4 +79,4 @@ pieces_fault lines (line ∷ next ∷ more) = or_later (with_line lines (line_fa
 
 -- the first fault of a text, if it has one
 abbrev pub text_fault : List ℕ → Option TraceFault
-text_fault bytes = pieces_fault [] (slice_split (λ b. b == 10) bytes)
+text_fault bytes = pieces_fault [] (lines_in bytes)

@@ -9,6 +9,10 @@ use Rattle.hm_trace.specs.Limits.{max_length, max_offset}
 use Rattle.hm_trace.specs.Names.{is_word, is_name}
 use Rattle.hm_trace.specs.Numbers.{value, is_decimal, is_number, is_hex, is_byte}
 
+-- the lines of a text: the pieces between line feeds, of which the last has none behind it
+abbrev pub lines_in : List ℕ → List (List ℕ)
+lines_in bytes = slice_split (λ b. b == 10) bytes
+
 -- the words of a line: the pieces between single spaces
 abbrev pub words_at : List ℕ → List (List ℕ)
 words_at line = slice_split (λ b. b == 32) line

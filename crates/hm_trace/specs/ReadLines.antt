@@ -1,6 +1,6 @@
 -- How the reader goes from line to line, up to the first line at fault.
 use Rattle.std.specs.Prelude.{ℕ, ◌+◌, ◌==◌, nat_lt, nat_le, List, [], ◌∷◌, ◌++◌, length, codes, Ok, Err, if◌then◌else◌}
-use Rattle.std.specs.List.{slice_split, list_all}
+use Rattle.std.specs.List.{list_all}
 use Rattle.std.specs.declared.result.Result.{Result}
 use Rattle.hm_trace.specs.declared.fault.FaultKind.{FaultKind}
 use Rattle.hm_trace.specs.declared.fault.FaultKind.TheVariants.{AfterEnd, LineTooLong, NotAscii, BadHeader, BadWord, BadNumber, TooManyThreads, TooManyRounds, TooManySteps, NameSetTwice, NoEnd}
@@ -12,7 +12,7 @@ use Rattle.hm_trace.specs.Gives.{◌>>=◌, or_fault}
 use Rattle.hm_trace.specs.Limits.{max_line, max_threads, max_rounds, max_steps}
 use Rattle.hm_trace.specs.Names.{is_word}
 use Rattle.hm_trace.specs.Traces.{sets_again}
-use Rattle.hm_trace.specs.Lines.{words_at}
+use Rattle.hm_trace.specs.Lines.{lines_in, words_at}
 use Rattle.hm_trace.specs.Faults.{is_plain}
 use Rattle.hm_trace.specs.ReadNumbers.{thread_at}
 use Rattle.hm_trace.specs.ReadWords.{step_at}
@@ -155,4 +155,4 @@ read_pieces (line ∷ next ∷ more) = in_line 1 (header_at line) >>= λ _. read
 
 -- the trace that a text is, or its first fault
 abbrev pub read_text : List ℕ → Result (List (List ScriptView)) TraceFault
-read_text bytes = read_pieces (slice_split (λ b. b == 10) bytes)
+read_text bytes = read_pieces (lines_in bytes)

@@ -1,19 +1,29 @@
-//! The lines of a text: their bytes, and the first of them.
-ghost use Rattle.std.specs.Prelude.{◌≡◌, ◌==◌, map, IfOk};
-ghost use Rattle.std.specs.List.{slice_split, list_all};
+//! The lines of a text: where they end, their bytes, and the first of them.
+ghost use Rattle.std.specs.Prelude.{◌≡◌, ◌==◌, ◌<◌, [], ◌∷◌, length, position, IfSome, MatchOption};
+ghost use Rattle.std.specs.List.{list_all};
 ghost use Rattle.hm_trace.specs.Faults.{is_plain};
 ghost use Rattle.hm_trace.specs.Gives.{GivesBy};
+ghost use Rattle.hm_trace.specs.Lines.{lines_in};
 ghost use Rattle.hm_trace.specs.ReadLines.{plain_at, header_at};
 
 use crate::fault::FaultKind;
 use crate::limits::MAX_LINE;
-use std::alloc::{AllocError, Global};
 
-/// The pieces between line feeds; the last one has none behind it.
-pub(crate) fn lines_of(alloc: Global, bytes: &[u8]) -> Result<Vec<&[u8]>, AllocError>
-    ensures { IfOk result (λ v. map (λ w. w.now) v.items ≡ slice_split (λ b. b == 10) bytes.now) }
+// Where the first line feed stands.
+fn line_end(bytes: &[u8]) -> Option<usize>
+    ensures { result ≡ position (λ b. b == 10) bytes.now }
 {
-    bytes.split(|b| *b == b'\n').collect(alloc)
+    bytes.iter().position(|b| *b == b'\n')
+}
+
+/// The first line, and what stands behind its line feed; `None` where no line ends.
+pub(crate) fn first_line(bytes: &[u8]) -> Option<(&[u8], &[u8])>
+    ensures cut { MatchOption result (lines_in bytes.now ≡ bytes.now ∷ [])
+        (λ (line, rest). lines_in bytes.now ≡ line.now ∷ lines_in rest.now) }
+    ensures shorter { IfSome result (λ (line, rest). length rest.now < length bytes.now) }
+{
+    let end = line_end(bytes)?;
+    Some((&bytes[..end], &bytes[end + 1..]))
 }
 
 fn are_plain(line: &[u8]) -> bool

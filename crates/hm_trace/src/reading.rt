@@ -1,15 +1,16 @@
 //! Reading a trace from its text.
-ghost use Rattle.std.specs.Prelude.{◌≡◌, List, map, IfOk, IfErr};
+ghost use Rattle.std.specs.Prelude.{◌≡◌, List, IfOk, IfErr};
 ghost use Rattle.hm_trace.specs.Answers.{IsReadAs, AnswersFault};
 ghost use Rattle.hm_trace.specs.Faults.{text_fault};
-ghost use Rattle.hm_trace.specs.ReadLines.{start, ended_at, read_lines, read_pieces, read_text, rounds_of};
+ghost use Rattle.hm_trace.specs.Lines.{lines_in};
+ghost use Rattle.hm_trace.specs.ReadLines.{start, ended_at, read_lines, read_text, rounds_of};
 ghost use Rattle.hm_trace.specs.ReadState.{IsReady, GivesText, progress_of};
 ghost use Rattle.hm_trace.specs.Spelling.{spelling};
 ghost use Rattle.hm_trace.specs.Traces.{IsTrace};
 ghost use Rattle.hm_trace.specs.Views.{ScriptView};
 
 use crate::fault::{FaultKind, LineRefusal, ReadRefusal, TraceFault};
-use crate::lines::{check_header, lines_of};
+use crate::lines::{check_header, first_line};
 use crate::progress::Progress;
 use crate::trace::Trace;
 use std::alloc::Global;
@@ -27,11 +28,17 @@ pub fn read_trace(alloc: Global, bytes: &[u8]) -> Result<Trace, ReadRefusal>
     read_exact(alloc, bytes)
 }
 
+#[tactic(auto, unfolding(crate::specs::ReadLines::read_pieces))]
 fn read_exact(alloc: Global, bytes: &[u8]) -> Result<Trace, ReadRefusal>
     ensures { GivesText result (read_text bytes.now) }
 {
-    let lines = lines_of(alloc, bytes)?;
-    read_lines_of(alloc, &lines)
+    let Some((header, rest)) = first_line(bytes) else {
+        return Err(fault(1, FaultKind::NoEnd));
+    };
+    match check_header(header) {
+        Ok(()) => read_body(alloc, rest),
+        Err(kind) => Err(fault(1, kind)),
+    }
 }
 
 fn fault(line: u64, kind: FaultKind) -> ReadRefusal
@@ -40,32 +47,16 @@ fn fault(line: u64, kind: FaultKind) -> ReadRefusal
     ReadRefusal::Fault(TraceFault { line, kind })
 }
 
-#[tactic(auto, unfolding(crate::specs::ReadLines::read_pieces))]
-fn read_lines_of(alloc: Global, lines: &[&[u8]]) -> Result<Trace, ReadRefusal>
-    ensures { GivesText result (read_pieces (map (λ w. w.now) lines.now)) }
-{
-    match lines {
-        [] | [_] => Err(fault(1, FaultKind::NoEnd)),
-        [header, rest @ ..] => match check_header(header) {
-            Ok(()) => read_body(alloc, rest),
-            Err(kind) => Err(fault(1, kind)),
-        },
-    }
-}
-
 // The lines after the header.
 #[tactic(auto, unfolding(crate::specs::ReadLines::read_lines))]
-fn read_body(alloc: Global, lines: &[&[u8]]) -> Result<Trace, ReadRefusal>
-    ensures { GivesText result (read_lines 2 start (map (λ w. w.now) lines.now)) }
+fn read_body(alloc: Global, bytes: &[u8]) -> Result<Trace, ReadRefusal>
+    ensures { GivesText result (read_lines 2 start (lines_in bytes.now)) }
 {
     let mut progress = Progress::new(alloc);
     let mut number = 2u64;
-    let mut rest = lines;
-    'lines: while let [line, after @ ..] = rest {
-        if after.is_empty() {
-            return Err(fault(number, FaultKind::NoEnd));
-        }
-        if *line == b"end".as_slice() {
+    let mut rest = bytes;
+    'lines: while let Some((line, after)) = first_line(rest) {
+        if line == b"end".as_slice() {
             return finish(alloc, progress, number + 1, after);
         }
         match progress.line(alloc, line) {
@@ -84,15 +75,15 @@ fn finish(
     alloc: Global,
     progress: Progress,
     number: u64,
-    rest: &[&[u8]],
+    rest: &[u8],
 ) -> Result<Trace, ReadRefusal>
     requires { IsReady progress }
-    ensures { GivesText result (ended_at number (rounds_of (progress_of progress)) (map (λ w. w.now) rest.now)) }
+    ensures { GivesText result (ended_at number (rounds_of (progress_of progress)) (lines_in rest.now)) }
 {
-    match rest {
-        [] => close(alloc, progress),
-        [last] if last.is_empty() => close(alloc, progress),
-        _ => Err(fault(number, FaultKind::AfterEnd)),
+    if rest.is_empty() {
+        close(alloc, progress)
+    } else {
+        Err(fault(number, FaultKind::AfterEnd))
     }
 }
 
