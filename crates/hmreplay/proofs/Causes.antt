@@ -21,7 +21,7 @@ use Rattle.hm_class_rules.specs.Steps.{opened}
 use Rattle.hm_large.specs.Blocks as blocks
 use Rattle.hm_heap.specs.LargeRules as large
 use Rattle.hm_large.specs.State as large_state
-use Rattle.hmreplay.specs.Refusals.{RefusesFree, RefusesMeasure, RefusesAllot, Traps, RefusesClass, RefusesLargeAllot, RefusesLargeFree, TrapsLarge, RefusesLarge}
+use Rattle.hmreplay.specs.Refusals.{RefusesFree, RefusesMeasure, RefusesAllot, found_in, Traps, RefusesClass, RefusesLargeAllot, RefusesLargeFree, TrapsLarge, RefusesLarge}
 
 -- ---- equations
 not_both : (b : Bool) → b ≡ true → b ≡ false → ⊥
@@ -36,16 +36,17 @@ canary_by x y e = ap (λ (p : ℕ × ℕ). Canary p.0 p.1) (same_Some x y e)
 trap_by : (x y : ℕ) → Some x ≡ Some y → Trap x ≡ Trap y
 trap_by x y e = ap (λ (q : ℕ). Trap q) (same_Some x y e)
 
+overwritten_by : (b a : ℕ) (x y : ℕ × ℕ) → Some b ≡ Some a → Some x ≡ Some y
+    → Overwritten b x.0 x.1 ≡ Overwritten a y.0 y.1
+overwritten_by b a x y at e =
+    ap (λ (q : ℕ). Overwritten q x.0 x.1) (same_Some b a at)
+    ∙ ap (λ (p : ℕ × ℕ). Overwritten a p.0 p.1) (same_Some x y e)
+
 abbrev sizes_of : Reply → Option (ℕ × ℕ)
 sizes_of (WrongSize block other) = Some (block, other)
 sizes_of (Canary kept found) = Some (kept, found)
 sizes_of (Overwritten a offset byte) = Some (offset, byte)
 sizes_of reply = None
-
-abbrev place_of : Reply → ℕ
-place_of (Overwritten a offset byte) = a
-place_of (Given a usable) = a
-place_of reply = 0
 
 abbrev trap_of : Reply → Option ℕ
 trap_of (Trap q) = Some q
@@ -142,29 +143,37 @@ module _ (t : class.Terms) (s : class_state.State) where
 
   allot_refused : (before now : ℕ) (c : Choices) (asked align : ℕ) (reply : Reply) → class.Allows t s before now c (Allot asked align) reply
       → RefusesAllot t s c before now reply
-  allot_refused before now c asked align (Given b size) h = record {
-    exhausted = (λ e. absurd cc, λ none. absurd (served c.opened c.canary _ h.0.source h.0.open_slab none));
-    overwritten = λ told a offset byte e. absurd cc;
-    given = λ told a usable e. subst (λ (q : ℕ). class.reuse_finds t.config t.shape (opened t.shape c.opened c.canary s) q ≡ None) (ap place_of e) (h.2 told);
-    pages_failed = λ e. absurd cc;
-  }
-  allot_refused before now c asked align (Overwritten b x y) h = record {
-    exhausted = (λ e. absurd cc, λ none. absurd (served c.opened c.canary _ h.0.source h.0.open_slab none));
-    overwritten = λ told a offset byte e. subst (λ (q : ℕ). class.reuse_finds t.config t.shape (opened t.shape c.opened c.canary s) q ≡ Some (offset, byte)) (ap place_of e) (h.2 told ∙ ap sizes_of e);
-    given = λ told a usable e. absurd cc;
-    pages_failed = λ e. absurd cc;
-  }
+  allot_refused before now c asked align (Given b size) h =
+      let found : IsTrue t.told → (a : ℕ) → Some b ≡ Some a → found_in t s c a ≡ None =
+          λ told a at. subst (λ (q : ℕ). found_in t s c q ≡ None) (same_Some b a at) (h.2 told) in
+      record {
+        exhausted = (λ e. absurd cc, λ none. absurd (served c.opened c.canary _ h.0.source h.0.open_slab none));
+        overwritten = λ told a offset byte at.
+            (λ e. absurd cc, λ is. absurd (none-some (offset, byte) (sym (found told a at) ∙ is)));
+        given = λ told a at. (λ e. found told a at, λ is. (size, ap (λ (q : ℕ). Given q size) (same_Some b a at)));
+        pages_failed = λ e. absurd cc;
+      }
+  allot_refused before now c asked align (Overwritten b x y) h =
+      let found : IsTrue t.told → (a : ℕ) → Some b ≡ Some a → found_in t s c a ≡ Some (x, y) =
+          λ told a at. subst (λ (q : ℕ). found_in t s c q ≡ Some (x, y)) (same_Some b a at) (h.2 told) in
+      record {
+        exhausted = (λ e. absurd cc, λ none. absurd (served c.opened c.canary _ h.0.source h.0.open_slab none));
+        overwritten = λ told a offset byte at. (λ e. found told a at ∙ ap sizes_of e,
+            λ is. overwritten_by b a (x, y) (offset, byte) at (sym (found told a at) ∙ is));
+        given = λ told a at. (λ e. let is = e.1 in absurd cc, λ is. absurd (none-some (x, y) (sym is ∙ found told a at)));
+        pages_failed = λ e. absurd cc;
+      }
   allot_refused before now c asked align Exhausted h = record {
     exhausted = (λ e. (h.0, h.1), λ none. refl);
-    overwritten = λ told a offset byte e. absurd cc;
-    given = λ told a usable e. absurd cc;
+    overwritten = λ told a offset byte at. absurd (none-some a at);
+    given = λ told a at. absurd (none-some a at);
     pages_failed = λ e. absurd cc;
   }
   allot_refused before now c asked align PagesFailed h = record {
     exhausted = (λ e. absurd cc, λ none. absurd (not_both _ h.1 (ap (λ (o : Option ℕ). is_some o) none.1)));
-    overwritten = λ told a offset byte e. absurd cc;
-    given = λ told a usable e. absurd cc;
-    pages_failed = λ e. h.3;
+    overwritten = λ told a offset byte at. absurd (none-some a at);
+    given = λ told a at. absurd (none-some a at);
+    pages_failed = λ e. (h.0, h.1, h.2, h.3);
   }
   allot_refused before now c asked align reply h = absurd h
 
@@ -200,7 +209,7 @@ module _ (t : large.Terms) (s : large_state.State) where
   large_allot_refused e asked align NoSpace h = record { no_space = (λ e. h.0, λ none. refl); pages_failed = λ e. absurd cc }
   large_allot_refused e asked align PagesFailed h = record {
     no_space = (λ e. absurd cc, λ none. absurd (none h.0.0.0 h.0.0.1));
-    pages_failed = λ e. h.0.1;
+    pages_failed = λ e. h.0;
   }
   large_allot_refused e asked align reply h = absurd h
 
@@ -224,7 +233,7 @@ module _ (t : large.Terms) (s : large_state.State) where
   large_free_refused e a stated PagesFailed h = record {
     not_live = (λ e. absurd cc, λ is. absurd (not_both _ h.0 is));
     wrong_size = λ block other. (λ e. absurd cc, λ is. absurd (none-some (block, other) (sym h.1 ∙ is)));
-    pages_failed = λ e. h.2;
+    pages_failed = λ e. (h.0, h.1, h.2);
   }
   large_free_refused e a stated Freed h = record {
     not_live = (λ e. absurd cc, λ is. absurd (not_both _ h.live is));

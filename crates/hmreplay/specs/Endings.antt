@@ -90,6 +90,7 @@ module _ {P : Type 0} (meaning : pages.Ghosts P) (run : Run P) (sink : Stream) w
     pub left : Closed P
     pub closed_is : run.closed ≡ Some left
     pub results : List Results
+    pub results_are : run.results ≡ Some results
     pub replayed : IsReplayed meaning o left trace results
     pub written : IsWritten run.status (status_after results) sink (text_of left results)
 

@@ -1,5 +1,5 @@
 -- Each refusal of a region exactly where its cause holds.
-use Rattle.std.specs.Prelude.{◌≡◌, ◌<◌, ◌↔◌, ℕ, IsTrue, false, Option, Some, None, unwrap_or, length}
+use Rattle.std.specs.Prelude.{◌≡◌, ◌<◌, ◌↔◌, ℕ, IsTrue, true, false, Option, Some, None, is_some, unwrap_or, length}
 use Rattle.hm_model.specs.declared.entry.Call.{Call}
 use Rattle.hm_model.specs.declared.entry.Call.TheVariants.{Allot, GiveBack, Measure, Fetch, Fill}
 use Rattle.hm_model.specs.declared.entry.Choices.{Choices}
@@ -8,6 +8,7 @@ use Rattle.hm_model.specs.declared.entry.Reply.{Reply}
 use Rattle.hm_model.specs.declared.entry.Reply.TheVariants.{Given, Overwritten, Exhausted, NoSpace, PagesFailed, NoSlot, Unused, DoubleFree, WrongSize, Canary, Trap, NotLive}
 use Rattle.hm_model.specs.Maps.{at, has}
 use Rattle.hm_model.specs.Runs.{expand}
+use Rattle.hm_sizes.specs.Shapes.{has_bytes}
 use Rattle.hm_class_rules.specs.Bytes as slabs
 use Rattle.hm_heap.specs.ClassRules as class
 use Rattle.hm_class_rules.specs.State as class_state
@@ -39,15 +40,23 @@ module _ (t : class.Terms) (s : class_state.State) where
   abbrev pub found_in : Choices → ℕ → Option (ℕ × ℕ)
   found_in c a = class.reuse_finds t.config t.shape (opened t.shape c.opened c.canary s) a
 
-  -- a place is told as overwritten where one of its usable bytes is not zero, and given where none is; a page fails
-  -- only where the count of faults rose
+  -- the place that was picked, which is given or told as overwritten
+  abbrev pub picked : Reply → Option ℕ
+  picked (Given a size) = Some a
+  picked (Overwritten a offset byte) = Some a
+  picked reply = None
+
+  -- a place that was picked is told as overwritten exactly where one of its usable bytes is not zero; a page fails only
+  -- where a slab with bytes was to be opened and the count of faults rose
   pub record RefusesAllot (c : Choices) (before now : ℕ) (reply : Reply) : Type 0 where
     pub exhausted : (reply ≡ Exhausted)
         ↔ (class.NoneServes t.shape s × (class_state.unopened t.shape s.shut s.next ≡ None))
-    pub overwritten : IsTrue t.told → (a offset byte : ℕ) → reply ≡ Overwritten a offset byte
-        → found_in c a ≡ Some (offset, byte)
-    pub given : IsTrue t.told → (a usable : ℕ) → reply ≡ Given a usable → found_in c a ≡ None
-    pub pages_failed : reply ≡ PagesFailed → before < now
+    pub overwritten : IsTrue t.told → (a offset byte : ℕ) → picked reply ≡ Some a
+        → (reply ≡ Overwritten a offset byte) ↔ (found_in c a ≡ Some (offset, byte))
+    pub given : IsTrue t.told → (a : ℕ) → picked reply ≡ Some a
+        → ((size : ℕ) × (reply ≡ Given a size)) ↔ (found_in c a ≡ None)
+    pub pages_failed : reply ≡ PagesFailed → class.NoneServes t.shape s
+        × (is_some (class_state.unopened t.shape s.shut s.next) ≡ true) × (has_bytes t.shape ≡ true) × (before < now)
 
   -- a trap is at the first address that is not accessible
   abbrev pub Traps : Reply → ℕ → ℕ → Type 0
@@ -63,18 +72,21 @@ module _ (t : class.Terms) (s : class_state.State) where
 
 -- ---- the large region in state s
 module _ (t : large.Terms) (s : large_state.State) where
-  -- there is no room exactly where no address of the space serves the block with its guard; a page fails only where the
-  -- count of faults rose
+  -- there is no room exactly where no address of the space serves the block with its guard; a page fails only where one
+  -- does and the count of faults rose
   pub record RefusesLargeAllot (guard before now : ℕ) (reply : Reply) (asked align : ℕ) : Type 0 where
     pub no_space : (reply ≡ NoSpace)
         ↔ ((a : ℕ) → large.IsCandidate t.config s align (blocks.size_for asked) guard a → ⊥)
-    pub pages_failed : reply ≡ PagesFailed → before < now
+    pub pages_failed : reply ≡ PagesFailed
+        → ((a : ℕ) × large.IsCandidate t.config s align (blocks.size_for asked) guard a) × (before < now)
 
+  -- a page fails only where a live block of the right size was to be taken back and the count of faults rose
   pub record RefusesLargeFree (before now : ℕ) (reply : Reply) (a : ℕ) (stated : Option ℕ) : Type 0 where
     pub not_live : (reply ≡ NotLive) ↔ (has a s.live ≡ false)
     pub wrong_size : (block other : ℕ) → (reply ≡ WrongSize block other)
         ↔ (large.wrong_size (at a s.live) stated ≡ Some (block, other))
-    pub pages_failed : reply ≡ PagesFailed → before < now
+    pub pages_failed : reply ≡ PagesFailed
+        → (has a s.live ≡ true) × (large.wrong_size (at a s.live) stated ≡ None) × (before < now)
 
   -- a trap is at the first address that is not accessible
   abbrev pub TrapsLarge : Reply → ℕ → ℕ → Type 0

@@ -74,7 +74,8 @@ pub fn given_blocks_are_zero<P: Pages>()
     condemned_slots();
 }
 
-/// Each refusal comes exactly where its cause holds; a page fails only where its count of faults rose.
+/// Each refusal comes exactly where its cause holds; a page fails only where one was asked for, or had to go, and the
+/// count of faults rose.
 pub fn refusals_have_causes<P: Pages>()
     ensures class { (o : Options) (closed : Closed P) (place : ℕ) (p : P) → ClassRefusals P.Pages o closed place p }
     ensures large { (o : Options) (closed : Closed P) (place : ℕ) (p : P) → LargeRefusals P.Pages o closed place p }
