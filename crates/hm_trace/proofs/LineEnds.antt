@@ -25,7 +25,7 @@ pub cut_at : (bytes : List ℕ) (end : ℕ) → position (λ b. eqb b 10) bytes 
 cut_at bytes end e =
     let found = position-Some feeds bytes end 0 e in
     let same : position_or_len feeds bytes ≡ end =
-        position_or_len_is feeds bytes end 0 (omega (arith, found.0)) found.2 (λ l. found.1) in
+    position_or_len_is feeds bytes end 0 (omega (arith, found.0)) found.2 (λ l. found.1) in
     subst (λ n. lines_in bytes ≡ take n bytes ∷ lines_in (drop (n + 1) bytes)) same
     (slice_split_first feeds bytes 0 (omega (arith, same, found.0)))
 

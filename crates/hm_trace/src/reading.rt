@@ -71,12 +71,7 @@ fn read_body(alloc: Global, bytes: &[u8]) -> Result<Trace, ReadRefusal>
 }
 
 // Behind the last line stands nothing.
-fn finish(
-    alloc: Global,
-    progress: Progress,
-    number: u64,
-    rest: &[u8],
-) -> Result<Trace, ReadRefusal>
+fn finish(alloc: Global, progress: Progress, number: u64, rest: &[u8]) -> Result<Trace, ReadRefusal>
     requires { IsReady progress }
     ensures { GivesText result (ended_at number (rounds_of (progress_of progress)) (lines_in rest.now)) }
 {

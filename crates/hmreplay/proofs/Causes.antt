@@ -145,7 +145,7 @@ module _ (t : class.Terms) (s : class_state.State) where
       → RefusesAllot t s c before now reply
   allot_refused before now c asked align (Given b size) h =
       let found : IsTrue t.told → (a : ℕ) → Some b ≡ Some a → found_in t s c a ≡ None =
-          λ told a at. subst (λ (q : ℕ). found_in t s c q ≡ None) (same_Some b a at) (h.2 told) in
+      λ told a at. subst (λ (q : ℕ). found_in t s c q ≡ None) (same_Some b a at) (h.2 told) in
       record {
         exhausted = (λ e. absurd cc, λ none. absurd (served c.opened c.canary _ h.0.source h.0.open_slab none));
         overwritten = λ told a offset byte at.
@@ -155,11 +155,13 @@ module _ (t : class.Terms) (s : class_state.State) where
       }
   allot_refused before now c asked align (Overwritten b x y) h =
       let found : IsTrue t.told → (a : ℕ) → Some b ≡ Some a → found_in t s c a ≡ Some (x, y) =
-          λ told a at. subst (λ (q : ℕ). found_in t s c q ≡ Some (x, y)) (same_Some b a at) (h.2 told) in
+      λ told a at. subst (λ (q : ℕ). found_in t s c q ≡ Some (x, y)) (same_Some b a at) (h.2 told) in
       record {
         exhausted = (λ e. absurd cc, λ none. absurd (served c.opened c.canary _ h.0.source h.0.open_slab none));
-        overwritten = λ told a offset byte at. (λ e. found told a at ∙ ap sizes_of e,
-            λ is. overwritten_by b a (x, y) (offset, byte) at (sym (found told a at) ∙ is));
+        overwritten = λ told a offset byte at. (
+          λ e. found told a at ∙ ap sizes_of e,
+          λ is. overwritten_by b a (x, y) (offset, byte) at (sym (found told a at) ∙ is),
+        );
         given = λ told a at. (λ e. let is = e.1 in absurd cc, λ is. absurd (none-some (x, y) (sym is ∙ found told a at)));
         pages_failed = λ e. absurd cc;
       }

@@ -15,7 +15,7 @@ lines-init c =
 pub lines-preserved : goal.lines-preserved
 lines-preserved c =
     let read = reads_on c.lines.number (progress_of c.lines.progress) c.lines.rest.now c.in-Some.line.now
-        c.in-Some.after.now c.in-Some.ensures.cut in
+    c.in-Some.after.now c.in-Some.ensures.cut in
     record {
       ready = c.in-Ok.ensures.valid;
       number = omega (arith, c.lines.invariant.number, c.in-Some.ensures.shorter);
@@ -25,11 +25,11 @@ lines-preserved c =
 pub returns-then-eq : goal.returns-then-eq
 returns-then-eq c =
     let read = reads_end c.lines.number (progress_of c.lines.progress) c.lines.rest.now c.in-Some.line.now
-        c.in-Some.after.now c.in-Some.ensures.cut (search (rules, tests)) in
+    c.in-Some.after.now c.in-Some.ensures.cut (search (rules, tests)) in
     subst (GivesText c.finish.result) (sym read ∙ c.lines.invariant.rest) c.finish.ensures
 
 pub returns-in-Err-Kind : goal.returns-in-Err-Kind
 returns-in-Err-Kind c =
     let read = reads_fault c.lines.number (progress_of c.lines.progress) c.lines.rest.now c.in-Some.line.now
-        c.in-Some.after.now c.in-Some.ensures.cut c.in-Err-Kind.kind (search (rules, tests)) (search (rules, tests)) in
+    c.in-Some.after.now c.in-Some.ensures.cut c.in-Err-Kind.kind (search (rules, tests)) (search (rules, tests)) in
     rw (c.fault.ensures, c.in-Err-Kind.kind-is) (sym c.lines.invariant.rest ∙ read)
