@@ -95,8 +95,8 @@ fn failed_free_of_a_large_block(rt: HostRuntime) -> Result<(), Fail> {
     Ok(())
 }
 
-/// Addresses at the ends of regions, and sizes at the end of their type.
-const ENDS: [Steps; 2] = [
+/// Addresses at the ends of regions and of a slab, and sizes at the end of their type.
+const ENDS: [Steps; 3] = [
     Steps {
         steps: "free @ffffffffff\nfree @10000000000\nread @10000000000 1\nsize @d3fffffffff\nread @d3fffffffff 2\n\
             free @d4000000000\nfree @400000000000\nfree @40ffffffffff\nfree @410000000000\n\
@@ -112,10 +112,16 @@ const ENDS: [Steps; 2] = [
             1.1.5 wrong size 112 18446744073709551615\n",
         status: 1,
     },
+    // The block is slot 24, 2,688 bytes behind the beginning of a slab of 4,096, and the next slab is a guard.
+    Steps {
+        steps: "malloc x 100\nread x+1300 108\nread x+1300 109\nwrite x+1407 2 41\nread x+1407 1\n",
+        output: "1.1.1 given 104\n1.1.2 bytes 00*108\n1.1.3 trap at +108\n1.1.4 trap at +1\n1.1.5 bytes 00*1\n",
+        status: 1,
+    },
 ];
 
 #[test]
-fn ends_of_regions_and_of_sizes(rt: HostRuntime) -> Result<(), Fail> {
+fn ends_of_regions_of_slabs_and_of_sizes(rt: HostRuntime) -> Result<(), Fail> {
     let alloc = rt.alloc();
     for steps in &ENDS {
         let mut maker = failing_maker(alloc, 0, 0)?;
