@@ -87,6 +87,12 @@ region_of meaning r p k stream quarantine parking class kept room =
       room = subst (λ (t : Terms). length (state t r.entries).live ≤ r.spare) same (omega (arith, kept.follows.live_all, room));
     }
 
+-- so is the region as callers see it
+pub region_seen : {P : Type 0} (meaning : pages.Ghosts P) (r old : Region P) (p : Shape) (k : Slabs) (stream : Words) (quarantine : Kept) (parking : List (Option ℕ)) → r ≡ old → r.class ≡ p.class
+    → IsKept (meaning.told r.pages) (meaning.runs r.pages) (meaning.faults r.pages) (identity r.config r.number r.arena p) r.entries (store k stream quarantine parking) → live_count k.slabs ≤ r.spare → IsRegion meaning old
+region_seen meaning r old p k stream quarantine parking view class kept room =
+    subst (λ (q : Region _). IsRegion meaning q) view (region_of meaning r p k stream quarantine parking class kept room)
+
 -- the entries with one more, once room was made
 pub appended : (new room old : List Entry) (x e : Entry) → new ≡ room ++ x ∷ [] → room ≡ old → x ≡ e → new ≡ old ++ e ∷ []
 appended new room old x e pushed same is = pushed ∙ ap (λ (l : List Entry). l ++ x ∷ []) same ∙ ap (λ (y : Entry). old ++ y ∷ []) is

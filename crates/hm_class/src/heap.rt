@@ -143,7 +143,8 @@ impl<P: Pages> ClassHeap<P> {
 
     /// Where its slabs and slots lie.
     pub fn shape(&self) -> &Shape
-        ensures { result.now ≡ region_shape self.now }
+        ensures value { result.now ≡ region_shape self.now }
+        ensures region { IsRegion P.Pages self.now }
     {
         &self.shape
     }
@@ -207,6 +208,7 @@ impl<P: Pages> ClassHeap<P> {
         ensures replies { IfOk result (IsClassReply (usable (region_shape self.old)) (Call.Allot asked 1)) }
         ensures memory { OnErr result (self.new.entries ≡ self.old.entries) }
         ensures origin { origin P.told self.new ≡ origin P.told self.old }
+        ensures before { IsRegion P.Pages self.old }
         ensures region { IsRegion P.Pages self.new }
     {
         self.entries.reserve(self.slabs.live() + 2)?;
@@ -239,6 +241,7 @@ impl<P: Pages> ClassHeap<P> {
         ensures memory { OnErr result (self.new.entries ≡ self.old.entries) }
         ensures accepted { IsTakenBack P.told self.old addr stated → IsOk result }
         ensures origin { origin P.told self.new ≡ origin P.told self.old }
+        ensures before { IsRegion P.Pages self.old }
         ensures region { IsRegion P.Pages self.new }
     {
         let before = self.pages.faults();
@@ -285,6 +288,7 @@ impl<P: Pages> ClassHeap<P> {
         ensures replies { IfOk result (IsClassReply (usable (region_shape self.old)) (Call.Measure addr)) }
         ensures memory { OnErr result (self.new.entries ≡ self.old.entries) }
         ensures origin { origin P.told self.new ≡ origin P.told self.old }
+        ensures before { IsRegion P.Pages self.old }
         ensures region { IsRegion P.Pages self.new }
     {
         self.entries.reserve(self.slabs.live() + 1)?;
@@ -307,6 +311,7 @@ impl<P: Pages> ClassHeap<P> {
         ensures trap { IfOk result (TrapsIn P.told self.old addr len) }
         ensures memory { OnErr result (self.new.entries ≡ self.old.entries) }
         ensures origin { origin P.told self.new ≡ origin P.told self.old }
+        ensures before { IsRegion P.Pages self.old }
         ensures region { IsRegion P.Pages self.new }
     {
         self.entries.reserve(self.slabs.live() + 1)?;
@@ -330,6 +335,7 @@ impl<P: Pages> ClassHeap<P> {
         ensures trap { IfOk result (TrapsIn P.told self.old addr (length (expand runs.now))) }
         ensures memory { OnErr result (self.new.entries ≡ self.old.entries) }
         ensures origin { origin P.told self.new ≡ origin P.told self.old }
+        ensures before { IsRegion P.Pages self.old }
         ensures region { IsRegion P.Pages self.new }
     {
         self.entries.reserve(self.slabs.live() + 1)?;

@@ -12,7 +12,7 @@ use Rattle.hm_sizes.specs.Shapes.{class_size_of}
 use Rattle.hm_sizes.specs.Sizes.{raised}
 use Rattle.hm_choice.specs.Stream.{Words}
 use Rattle.hm_class.proofs.Allots.{kept_allotted, same_slabs}
-use Rattle.hm_class.proofs.Entries.{kept_moved, asks_of, added_of, appended, region_of, reply_of_region}
+use Rattle.hm_class.proofs.Entries.{kept_moved, asks_of, added_of, appended, region_of, region_seen, reply_of_region}
 use Rattle.hm_class.proofs.LiveCounts.{found_live, served_live, found_parking, served_parking}
 use Rattle.hm_class.proofs.Served.{can_open, new_apart, can_serve}
 use Rattle.hm_class.proofs.heap.ClassHeap.allot.Goals as goal
@@ -118,3 +118,12 @@ pub returns-clause-replies : goal.returns-clause-replies
 returns-clause-replies g c =
     let h = c.self.inside in
     reply_of_region g.P.Pages _ c.args.self.now h.shape h.slabs h.stream h.quarantine h.slabs.parking (call.Allot c.args.asked 1) (reply_of c.serve-event.result.outcome) c.reply.result c.self.view_is refl c.self.invariant.0 c.reply.ensures c.serve-event.ensures.replies
+
+pub returns-clause-before : goal.returns-clause-before
+returns-clause-before g c = region_seen g.P.Pages _ _ c.self.inside.shape _ _ _ _ c.self.view_is refl c.self.invariant.0 c.self.invariant.1
+
+pub returns-in_err-reserve-clause-before : goal.returns-in_err-reserve-clause-before
+returns-in_err-reserve-clause-before g c = region_seen g.P.Pages _ _ c.self.inside.shape _ _ _ _ c.self.view_is refl c.self.invariant.0 c.self.invariant.1
+
+pub returns-in_err-next-clause-before : goal.returns-in_err-next-clause-before
+returns-in_err-next-clause-before g c = region_seen g.P.Pages _ _ c.self.inside.shape _ _ _ _ c.self.view_is refl c.self.invariant.0 c.self.invariant.1

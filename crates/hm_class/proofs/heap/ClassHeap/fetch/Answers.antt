@@ -7,7 +7,7 @@ use Rattle.hm_model.specs.Replies.{IsFetchReply}
 use Rattle.hm_class.specs.Access.{trap_in}
 use Rattle.hm_class.specs.Calls.{ReplyTraps, TrapsIn}
 use Rattle.hm_class.specs.Kept.{IsKept, identity, store}
-use Rattle.hm_class.proofs.Entries.{kept_fetched, added_of, appended, region_of, fetch_reply, fetch_traps, trap_of_region}
+use Rattle.hm_class.proofs.Entries.{kept_fetched, added_of, appended, region_of, region_seen, fetch_reply, fetch_traps, trap_of_region}
 use Rattle.hm_class.proofs.heap.ClassHeap.fetch.Goals as goal
 
 pub invariant_of-self-2 : goal.invariant_of-self-2
@@ -63,3 +63,15 @@ returns-clause-trap g c =
     (subst (λ (o : Option ℕ). ReplyTraps o c.args.addr c.in_ok-reply.reply)
     (trap_of_region g.P.Pages _ c.args.self.now h.shape h.slabs h.stream h.quarantine h.slabs.parking c.args.addr c.args.len c.self.view_is refl c.self.invariant.0)
     (fetch_traps (trap_in h.shape h.slabs.slabs c.args.addr c.args.len) c.args.addr c.in_ok-fetched.fetched c.in_ok-reply.reply c.in_ok-fetched.ensures.trap c.in_ok-reply.ensures.1))
+
+pub returns-clause-before : goal.returns-clause-before
+returns-clause-before g c = region_seen g.P.Pages _ _ c.self.inside.shape _ _ _ _ c.self.view_is refl c.self.invariant.0 c.self.invariant.1
+
+pub returns-in_err-reserve-clause-before : goal.returns-in_err-reserve-clause-before
+returns-in_err-reserve-clause-before g c = region_seen g.P.Pages _ _ c.self.inside.shape _ _ _ _ c.self.view_is refl c.self.invariant.0 c.self.invariant.1
+
+pub returns-in_err-fetched-clause-before : goal.returns-in_err-fetched-clause-before
+returns-in_err-fetched-clause-before g c = region_seen g.P.Pages _ _ c.self.inside.shape _ _ _ _ c.self.view_is refl c.self.invariant.0 c.self.invariant.1
+
+pub returns-in_err-reply-clause-before : goal.returns-in_err-reply-clause-before
+returns-in_err-reply-clause-before g c = region_seen g.P.Pages _ _ c.self.inside.shape _ _ _ _ c.self.view_is refl c.self.invariant.0 c.self.invariant.1

@@ -8,7 +8,7 @@ use Rattle.hm_class.specs.Calls.{ReplyTraps, TrapsIn}
 use Rattle.hm_class.specs.Kept.{IsKept, identity, store}
 use Rattle.hm_class.specs.Outcomes.{reply_of}
 use Rattle.hm_model.specs.Runs.{expand}
-use Rattle.hm_class.proofs.Entries.{kept_filled, added_of, appended, region_of, fill_traps, trap_of_region}
+use Rattle.hm_class.proofs.Entries.{kept_filled, added_of, appended, region_of, region_seen, fill_traps, trap_of_region}
 use Rattle.hm_class.proofs.heap.ClassHeap.fill.Goals as goal
 
 pub invariant_of-self-2 : goal.invariant_of-self-2
@@ -74,3 +74,15 @@ returns-clause-trap g c =
     (ap (λ (l : List ℕ). trap_in h.shape h.slabs.slabs c.args.addr (length l)) bytes
     ∙ trap_of_region g.P.Pages _ c.args.self.now h.shape h.slabs h.stream h.quarantine h.slabs.parking c.args.addr (length (expand rs)) c.self.view_is refl c.self.invariant.0)
     (fill_traps (trap_in h.shape h.slabs.slabs c.args.addr (length c.deref.result.now)) c.args.addr c.fill-outcome.result c.fill-outcome.ensures.trap))
+
+pub returns-clause-before : goal.returns-clause-before
+returns-clause-before g c = region_seen g.P.Pages _ _ c.self.inside.shape _ _ _ _ c.self.view_is refl c.self.invariant.0 c.self.invariant.1
+
+pub returns-in_err-reserve-clause-before : goal.returns-in_err-reserve-clause-before
+returns-in_err-reserve-clause-before g c = region_seen g.P.Pages _ _ c.self.inside.shape _ _ _ _ c.self.view_is refl c.self.invariant.0 c.self.invariant.1
+
+pub returns-in_err-runs-clause-before : goal.returns-in_err-runs-clause-before
+returns-in_err-runs-clause-before g c = region_seen g.P.Pages _ _ c.self.inside.shape _ _ _ _ c.self.view_is refl c.self.invariant.0 c.self.invariant.1
+
+pub returns-in_err-bytes-clause-before : goal.returns-in_err-bytes-clause-before
+returns-in_err-bytes-clause-before g c = region_seen g.P.Pages _ _ c.self.inside.shape _ _ _ _ c.self.view_is refl c.self.invariant.0 c.self.invariant.1

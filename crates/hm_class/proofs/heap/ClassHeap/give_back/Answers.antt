@@ -16,7 +16,7 @@ use Rattle.hm_class.specs.Outcomes.{freed_choices, freed_draws}
 use Rattle.hm_class.proofs.Used.{live_held}
 use Rattle.hm_class.specs.Uses.{live_count}
 use Rattle.hm_class.proofs.Settled.{kept_ended, live_ended, settled_later, entry_freed}
-use Rattle.hm_class.proofs.Entries.{kept_now, kept_refused, never_refused, added_of, appended, region_of}
+use Rattle.hm_class.proofs.Entries.{kept_now, kept_refused, never_refused, added_of, appended, region_of, region_seen}
 use Rattle.hm_class.proofs.heap.ClassHeap.give_back.Goals as goal
 
 pub returns-in_err-reserve-in-Refused-clause-accepted :
@@ -124,3 +124,12 @@ returns-in_err-reserve-in-Refused-clause-region g c =
     region_of g.P.Pages _ c.self.inside.shape _ _ _ _ refl
     (let h = c.self.inside in subst (λ (l : List Entry). IsKept (g.P.Pages.told h.pages) (g.P.Pages.runs h.pages) (g.P.Pages.faults h.pages) (identity h.config h.number h.arena h.shape) l (store h.slabs h.stream h.quarantine h.slabs.parking)) (sym c.reserve.ensures.items) c.self.invariant.0)
     (omega (arith, c.self.invariant.1, c.reserve.ensures.len, c.reserve.ensures.capacity))
+
+pub returns-in_ok-reserve-in-Refused-clause-before : goal.returns-in_ok-reserve-in-Refused-clause-before
+returns-in_ok-reserve-in-Refused-clause-before g c = region_seen g.P.Pages _ _ c.self.inside.shape _ _ _ _ c.self.view_is refl c.self.invariant.0 c.self.invariant.1
+
+pub returns-in_err-reserve-in-Refused-clause-before : goal.returns-in_err-reserve-in-Refused-clause-before
+returns-in_err-reserve-in-Refused-clause-before g c = region_seen g.P.Pages _ _ c.self.inside.shape _ _ _ _ c.self.view_is refl c.self.invariant.0 c.self.invariant.1
+
+pub returns-in-Accepted-clause-before : goal.returns-in-Accepted-clause-before
+returns-in-Accepted-clause-before g c = region_seen g.P.Pages _ _ c.self.inside.shape _ _ _ _ c.self.view_is refl c.self.invariant.0 c.self.invariant.1

@@ -5,7 +5,7 @@ use Rattle.hm_model.specs.declared.entry.Reply.{Reply}
 use Rattle.hm_model.specs.Calls.{no_choices, entry_of, no_words}
 use Rattle.hm_class.specs.Kept.{IsKept, identity, store}
 use Rattle.hm_class.specs.Outcomes.{reply_of}
-use Rattle.hm_class.proofs.Entries.{kept_measured, added_of, appended, region_of, reply_of_region}
+use Rattle.hm_class.proofs.Entries.{kept_measured, added_of, appended, region_of, region_seen, reply_of_region}
 use Rattle.hm_class.proofs.heap.ClassHeap.measure.Goals as goal
 
 pub invariant_of-self-2 : goal.invariant_of-self-2
@@ -47,3 +47,9 @@ pub returns-clause-replies : goal.returns-clause-replies
 returns-clause-replies g c =
     let h = c.self.inside in
     reply_of_region g.P.Pages _ c.args.self.now h.shape h.slabs h.stream h.quarantine h.slabs.parking (call.Measure c.args.addr) (reply_of c.measure-outcome.result) c.reply.result c.self.view_is refl c.self.invariant.0 c.reply.ensures c.measure-outcome.ensures.replies
+
+pub returns-clause-before : goal.returns-clause-before
+returns-clause-before g c = region_seen g.P.Pages _ _ c.self.inside.shape _ _ _ _ c.self.view_is refl c.self.invariant.0 c.self.invariant.1
+
+pub returns-in_err-reserve-clause-before : goal.returns-in_err-reserve-clause-before
+returns-in_err-reserve-clause-before g c = region_seen g.P.Pages _ _ c.self.inside.shape _ _ _ _ c.self.view_is refl c.self.invariant.0 c.self.invariant.1
