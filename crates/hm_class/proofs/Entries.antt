@@ -129,7 +129,7 @@ trap_of_region meaning r old p k stream quarantine parking a len view class kept
     ∙ ap (λ (q : Region _). first_trap (region_shape q) (region_state meaning.told q) a len) view
 
 pub fetch_traps : (found : Option ℕ) (a : ℕ) (fetched : Fetched) (r : Reply) → FetchTraps found a fetched → RepliesTo fetched r → ReplyTraps found a r
-fetch_traps found a (Bytes read) r is replies = subst (λ (x : Reply). ReplyTraps found a x) (sym replies.1) tt
+fetch_traps found a (Bytes read) r is replies = subst (λ (x : Reply). ReplyTraps found a x) (sym replies.1) is
 fetch_traps found a (Trap q) r is replies = subst (λ (x : Reply). ReplyTraps found a x) (sym replies) is
 
 pub fill_traps : (found : Option ℕ) (a : ℕ) (o : Outcome) → FillTraps found a o → ReplyTraps found a (reply_of o)
@@ -145,7 +145,7 @@ fill_traps found a outcome.DoubleFree is = tt
 fill_traps found a (outcome.WrongSize block stated) is = tt
 fill_traps found a (outcome.Canary kept_one other) is = tt
 fill_traps found a (outcome.Usable size) is = tt
-fill_traps found a outcome.Filled is = tt
+fill_traps found a outcome.Filled is = is
 
 -- the reply to a fetch
 pub fetch_reply : (a len : ℕ) (fetched : Fetched) (r : Reply) → IsFetched a len fetched → RepliesTo fetched r → IsFetchReply a len r

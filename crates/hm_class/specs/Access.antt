@@ -40,13 +40,14 @@ abbrev pub IsFetched : ℕ → ℕ → Fetched → Type 0
 IsFetched a len (Bytes read) = length read.items ≡ len
 IsFetched a len (Trap q) = IsWithin a len q
 
--- a trap is at the address that was found, or at the range's own where none was
+-- a trap is at the address that was found, or at the range's own where none was; without a trap none was found
 abbrev pub FetchTraps : Option ℕ → ℕ → Fetched → Type 0
 FetchTraps found a (Trap q) = q ≡ unwrap_or found a
-FetchTraps found a (Bytes read) = ⊤
+FetchTraps found a (Bytes read) = found ≡ None
 
 abbrev pub FillTraps : Option ℕ → ℕ → Outcome → Type 0
 FillTraps found a (outcome.Trap q) = q ≡ unwrap_or found a
+FillTraps found a outcome.Filled = found ≡ None
 FillTraps found a other = ⊤
 
 -- writing changes the bytes of the state, or nothing and names the first address that is not accessible

@@ -1,19 +1,21 @@
 -- What the calls of a class region change.
-use Rattle.std.specs.Prelude.{◌≡◌, ℕ, Bool, [], Option, unwrap_or, ⊤}
+use Rattle.std.specs.Prelude.{◌≡◌, ℕ, Bool, [], Option, None, unwrap_or, ⊤}
 use Rattle.hm_outside.specs.declared.pages.Pages as pages
 use Rattle.hm_model.specs.Calls.{Adds}
 use Rattle.hm_model.specs.declared.entry.Who.{Who}
 use Rattle.hm_model.specs.declared.entry.Call.{Call}
 use Rattle.hm_model.specs.declared.entry.Reply.{Reply}
-use Rattle.hm_model.specs.declared.entry.Reply.TheVariants.{Trap}
+use Rattle.hm_model.specs.declared.entry.Reply.TheVariants.{Bytes, Filled, Trap}
 use Rattle.hm_sizes.specs.declared.class.ClassId.{ClassId}
 use Rattle.hm_sizes.specs.declared.config.Config.{Config}
 use Rattle.hm_class_rules.specs.Bytes.{first_trap}
 use Rattle.hm_class.specs.Region.{Region, region_shape, region_state}
 
--- a trap is at the address that was found, or else at this one
+-- a trap is at the address that was found, or else at this one; what was read or written is none where one was found
 abbrev pub ReplyTraps : Option ℕ → ℕ → Reply → Type 0
 ReplyTraps found addr (Trap q) = q ≡ unwrap_or found addr
+ReplyTraps found addr (Bytes runs) = found ≡ None
+ReplyTraps found addr Filled = found ≡ None
 ReplyTraps found addr reply = ⊤
 
 module _ {P : Type 0} where
@@ -22,8 +24,8 @@ module _ {P : Type 0} where
   Added meaning old new who call reply =
       Adds who call reply (meaning.faults old.pages) (meaning.faults new.pages) old.entries new.entries
 
-  -- a trap is at the first address of the range that is not accessible, or at its own where all are and the pages
-  -- do not lend them
+  -- a range is read or written only where all its addresses are accessible; a trap is at the first that is not, or at
+  -- the range's own where all are and the pages do not lend them
   abbrev pub TrapsIn : (P → Bool) → Region P → ℕ → ℕ → Reply → Type 0
   TrapsIn told r addr len reply = ReplyTraps (first_trap (region_shape r) (region_state told r) addr len) addr reply
 

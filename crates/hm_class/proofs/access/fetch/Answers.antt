@@ -23,3 +23,6 @@ returns-in-None-clause-fetched g c = λ told s shows h.
 
 pub returns-in-Some-clause-within : goal.returns-in-Some-clause-within
 returns-in-Some-clause-within g c = trap_within c.args.shape.now c.args.slabs.now.slabs c.args.addr c.args.len _ (sym c.in-Some.ensures)
+
+pub returns-in-Some-2-clause-trap : goal.returns-in-Some-2-clause-trap
+returns-in-Some-2-clause-trap g c = sym c.in_default.ensures

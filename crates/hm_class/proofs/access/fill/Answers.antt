@@ -26,3 +26,6 @@ returns-clause-filled g c = λ told s shows h.
 
 pub returns-in-Some-clause-within : goal.returns-in-Some-clause-within
 returns-in-Some-clause-within g c = trap_within c.args.shape.now c.args.slabs.now.slabs c.args.addr (length c.args.bytes.now) _ (sym c.in-Some.ensures)
+
+pub returns-clause-trap : goal.returns-clause-trap
+returns-clause-trap g c = sym c.in_default.ensures
