@@ -33,6 +33,10 @@ no_slabs numbers park_length = record {
 abbrev pub with_spare : ℕ → Slabs → Slabs
 with_spare spare k = record k { spare = spare }
 
+-- there is room for the slab that is opened next: a fresh one takes some, one that was shut has its own
+abbrev pub HasRoom : Slabs → Type 0
+HasRoom k = k.lists.retired ≡ [] → 1 ≤ k.spare
+
 -- the slabs, once the next one comes from those that are shut, or is a fresh one
 abbrev pub taken_of : Slabs → Uses
 taken_of k = taken_uses k.numbers k.lists.retired k.slabs

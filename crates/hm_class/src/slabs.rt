@@ -1,11 +1,11 @@
 //! The slabs of a region by number, the lists in which they stand, and how many of their slots are live; and
 //! what stands at an address.
-ghost use Rattle.std.specs.Prelude.{◌≡◌, ◌+◌, ◌<◌, ◌≤◌, ◌^◌, Some, None, true, is_some, length, slice_index_or, IfOk, IsOk, OnOk, OnErr};
+ghost use Rattle.std.specs.Prelude.{◌≡◌, ℕ, ◌+◌, ◌<◌, ◌≤◌, ◌^◌, Some, None, true, is_some, length, slice_index_or, IfOk, IsOk, OnOk, OnErr};
 ghost use Rattle.hm_sizes.specs.Shapes.{IsShape, place, slab_of, slot_of};
 ghost use Rattle.hm_class_rules.specs.Kinds.{Empty, same_kind};
 ghost use Rattle.hm_slab_lists.specs.Lists.{placed};
 ghost use Rattle.hm_slab_meta.specs.Uses.{Live, Held, Free};
-ghost use Rattle.hm_class.specs.Slabs.{no_slabs, with_spare, taken_of, list_of, opened_lists, SameLists, SameSlots, Parks};
+ghost use Rattle.hm_class.specs.Slabs.{HasRoom, no_slabs, with_spare, taken_of, list_of, opened_lists, SameLists, SameSlots, Parks};
 ghost use Rattle.hm_class.specs.Sources.{IsAvailable, IsWithin, AreWhole, Sources, Judges};
 ghost use Rattle.hm_class.specs.Uses.{numbers_of, slab_in, open_at, kind_at, use_at, passes_at, lives, was_given, canary_at, first_at, with_use, with_condemned, with_open, with_canary_at, live_count};
 
@@ -216,15 +216,22 @@ impl Slabs {
         }
     }
 
-    /// Makes room for one more slab.
+    /// Makes room for the slab that comes next: a fresh one takes some, a retired one has its own.
     pub fn reserve(&mut self) -> Result<(), NoMemory>
+        requires { (n : ℕ) × Sources self.old (Source.New n) }
         ensures rest { self.new ≡ with_spare self.new.spare self.old }
-        ensures room { OnOk result (1 ≤ self.new.spare) }
+        ensures room { OnOk result (HasRoom self.new) }
         ensures more { self.old.spare ≤ self.new.spare }
         ensures err { OnErr result (self.new ≡ self.old) }
-        ensures enough { 1 ≤ self.old.spare → IsOk result }
+        ensures enough { HasRoom self.old → IsOk result }
     {
-        self.lists.reserve_one()
+        match self.lists.next_source() {
+            Place::Retired(_) => Ok(()),
+            Place::Fresh(_) => self.lists.reserve_one(),
+            Place::Partial(_) => unreachable!(),
+            Place::Empty(_) => unreachable!(),
+            Place::Exhausted => unreachable!(),
+        }
     }
 
     // Sets the canary of a slab that was opened once.
@@ -241,7 +248,7 @@ impl Slabs {
     fn take_new(&mut self, slab: u64)
         requires source { Sources self.old (Source.New slab) }
         requires there { is_some (slab_in (taken_of self.old) slab) ≡ true }
-        requires room { 1 ≤ self.old.spare }
+        requires room { HasRoom self.old }
         ensures slabs { self.new.slabs ≡ with_open (taken_of self.old) slab (canary_at self.old.slabs slab) }
         ensures lists { self.new.lists ≡ opened_lists slab self.old.lists }
         ensures parking { self.new.parking ≡ self.old.parking }
@@ -260,7 +267,7 @@ impl Slabs {
     pub fn open(&mut self, slab: u64, canary: u64)
         requires source { Sources self.old (Source.New slab) }
         requires there { is_some (slab_in (taken_of self.old) slab) ≡ true }
-        requires room { 1 ≤ self.old.spare }
+        requires room { HasRoom self.old }
         ensures slabs { self.new.slabs ≡ with_open (taken_of self.old) slab canary }
         ensures lists { self.new.lists ≡ opened_lists slab self.old.lists }
         ensures parking { self.new.parking ≡ self.old.parking }
