@@ -11,7 +11,7 @@ use Rattle.hm_sizes.specs.declared.config.Config.{Config}
 use Rattle.hm_class_rules.specs.Bytes.{first_trap}
 use Rattle.hm_class.specs.Region.{Region, region_shape, region_state}
 
--- a trap is at the address that was found, or else at this one; what was read or written is none where one was found
+-- nothing is read or written where an address was found; a trap is at that address, or else at this one
 abbrev pub ReplyTraps : Option ℕ → ℕ → Reply → Type 0
 ReplyTraps found addr (Trap q) = q ≡ unwrap_or found addr
 ReplyTraps found addr (Bytes runs) = found ≡ None

@@ -1,6 +1,7 @@
 //! The bytes of open slabs: which addresses are accessible, reading and writing. Neither looks at slots.
-ghost use Rattle.std.specs.Prelude.{◌≡◌, ◌+◌, ◌<◌, ◌≤◌, ◌^◌, Some, None, IsTrue, IfOk, IfSome, MatchOption, length};
+ghost use Rattle.std.specs.Prelude.{◌≡◌, ◌+◌, ◌<◌, ◌≤◌, ◌^◌, Some, None, IsTrue, IsOk, IsSome, IfOk, IfSome, OnErr, MatchOption, length};
 ghost use Rattle.hm_model.specs.Replies.{IsFillReply};
+ghost use Rattle.hm_model.specs.Runs.{expand};
 ghost use Rattle.hm_sizes.specs.Shapes.{IsShape, slab_at, slab_of};
 ghost use Rattle.hm_class_rules.specs.State.{State};
 ghost use Rattle.hm_class_rules.specs.Bytes.{first_trap, bytes_read, write};
@@ -159,33 +160,38 @@ fn write<P: Pages>(pages: &mut P, shape: &Shape, addr: u64, bytes: &[u8])
     }
 }
 
-/// Writes bytes from an address on, where all of them are accessible.
+/// Writes the bytes of runs from an address on, where all of them are accessible. The addresses are looked at first, so
+/// a trap takes no memory.
 pub fn fill<P: Pages>(
     slabs: &Slabs,
     pages: &mut P,
+    alloc: Global,
     shape: &Shape,
     addr: u64,
-    bytes: &[u8],
-) -> Outcome
+    runs: &Runs,
+) -> Result<Outcome, NoMemory>
     requires shape { IsShape shape.now }
-    requires some { 1 ≤ length bytes.now }
-    requires range { addr + length bytes.now < 2 ^ 48 }
+    requires some { 1 ≤ length (expand runs.now) }
+    requires range { addr + length (expand runs.now) < 2 ^ 48 }
     ensures told { P.told pages.new ≡ P.told pages.old }
     ensures count { P.faults pages.new ≡ P.faults pages.old }
-    ensures filled { Fills (P.told pages.old) (P.runs pages.old) (P.runs pages.new) shape.now slabs.now.slabs addr
-        bytes.now result }
-    ensures trap { FillTraps (trap_in shape.now slabs.now.slabs addr (length bytes.now)) addr result }
-    ensures within { IsFillReply addr (length bytes.now) (reply_of result) }
+    ensures filled { IfOk result (Fills (P.told pages.old) (P.runs pages.old) (P.runs pages.new) shape.now
+        slabs.now.slabs addr (expand runs.now)) }
+    ensures trap { IfOk result (FillTraps (trap_in shape.now slabs.now.slabs addr (length (expand runs.now))) addr) }
+    ensures within { IfOk result (λ outcome. IsFillReply addr (length (expand runs.now)) (reply_of outcome)) }
+    ensures memory { OnErr result (pages.new ≡ pages.old) }
+    ensures enough { IsSome (trap_in shape.now slabs.now.slabs addr (length (expand runs.now))) → IsOk result }
 {
-    let len = bytes.len() as u64;
+    let len = runs.len();
     if let Some(trap) = first_trap(slabs, shape, addr, len) {
-        return Outcome::Trap { addr: trap };
+        return Ok(Outcome::Trap { addr: trap });
     }
     if !lends(pages, shape, addr, len) {
-        return Outcome::Trap { addr };
+        return Ok(Outcome::Trap { addr });
     }
-    write(pages, shape, addr, bytes);
-    Outcome::Filled
+    let bytes = runs.to_vec(alloc)?;
+    write(pages, shape, addr, &bytes);
+    Ok(Outcome::Filled)
 }
 
 /// The reply to a fetch, twice.

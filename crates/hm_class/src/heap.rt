@@ -340,9 +340,15 @@ impl<P: Pages> ClassHeap<P> {
     {
         self.entries.reserve(self.slabs.live() + 1)?;
         let runs = runs.copy()?;
-        let bytes = runs.to_vec(self.alloc)?;
         let faults = self.pages.faults();
-        let outcome = fill(&self.slabs, &mut self.pages, &self.shape, addr, &bytes);
+        let outcome = fill(
+            &self.slabs,
+            &mut self.pages,
+            self.alloc,
+            &self.shape,
+            addr,
+            &runs,
+        )?;
         let call = Call::Fill { addr, runs };
         let reply = outcome.reply();
         self.entries

@@ -1,31 +1,53 @@
-use Rattle.std.proofs.Common.{◌≡◌, ◌∙◌, None, length, sym, refl, true≢false}
-use Rattle.hm_class_rules.specs.Bytes.{first_trap}
+use Rattle.std.proofs.Common.{◌≡◌, ◌∙◌, ℕ, List, Option, None, length, sym, ap, subst, refl, true≢false}
+use Rattle.hm_model.specs.Runs.{expand}
+use Rattle.hm_sizes.specs.declared.shape.Shape.{Shape}
+use Rattle.hm_class_rules.specs.Bytes.{first_trap, write}
+use Rattle.hm_class.specs.Access.{trap_in}
+use Rattle.hm_class.specs.Region.{HoldsSlabs}
+use Rattle.hm_class.specs.Uses.{Uses}
 use Rattle.hm_class.proofs.Accessed.{trap_told, trap_within, begins_inside}
 use Rattle.hm_class.proofs.access.fill.Goals as goal
 
+-- what was found over a range is found over as many bytes
+found : (p : Shape) (uses : Uses) (a n m : ℕ) (trap : Option ℕ) → n ≡ m → trap ≡ trap_in p uses a n → trap_in p uses a m ≡ trap
+found p uses a n m trap same is = ap (λ (x : ℕ). trap_in p uses a x) (sym same) ∙ sym is
+
 pub returns-in-Some-clause-filled : goal.returns-in-Some-clause-filled
-returns-in-Some-clause-filled g c = λ told. (refl, λ s shows h. trap_told c.args.shape.now c.args.slabs.now.slabs s _ c.args.addr (length c.args.bytes.now) c.requires.shape shows h ∙ sym c.in-Some.ensures)
+returns-in-Some-clause-filled g c = λ told. (
+  refl,
+  λ s shows h. trap_told c.args.shape.now c.args.slabs.now.slabs s _ c.args.addr (length (expand c.args.runs.now)) c.requires.shape shows h
+      ∙ found c.args.shape.now c.args.slabs.now.slabs c.args.addr c.len-len.result (length (expand c.args.runs.now)) _ c.len-len.ensures.bytes c.in-Some.ensures,
+)
+
+pub returns-in-Some-clause-within : goal.returns-in-Some-clause-within
+returns-in-Some-clause-within g c =
+    trap_within c.args.shape.now c.args.slabs.now.slabs c.args.addr (length (expand c.args.runs.now)) _
+    (found c.args.shape.now c.args.slabs.now.slabs c.args.addr c.len-len.result (length (expand c.args.runs.now)) _ c.len-len.ensures.bytes c.in-Some.ensures)
 
 pub lends-requires-clause-from : goal.lends-requires-clause-from
-lends-requires-clause-from g c κs within = (begins_inside c.args.shape.now c.args.slabs.now.slabs c.args.addr (length c.args.bytes.now) c.requires.some (sym c.in_default.ensures)).from
+lends-requires-clause-from g c κs within =
+    (begins_inside c.args.shape.now c.args.slabs.now.slabs c.args.addr (length (expand c.args.runs.now)) c.requires.some
+    (found c.args.shape.now c.args.slabs.now.slabs c.args.addr c.len-len.result (length (expand c.args.runs.now)) _ c.len-len.ensures.bytes c.in_default.ensures)).from
 
 pub returns-then-not-lends-clause-filled : goal.returns-then-not-lends-clause-filled
 returns-then-not-lends-clause-filled g c = λ told. (
   refl,
-  λ s shows h. (let none : first_trap c.args.shape.now s c.args.addr (length c.args.bytes.now) ≡ None = trap_told c.args.shape.now c.args.slabs.now.slabs s _ c.args.addr (length c.args.bytes.now) c.requires.shape shows h ∙ sym c.in_default.ensures in
-      absurd (true≢false (sym (c.lends.ensures told s h none) ∙ c.if-not-lends.true))),
+  λ s shows h. (let none : first_trap c.args.shape.now s c.args.addr (length (expand c.args.runs.now)) ≡ None = trap_told c.args.shape.now c.args.slabs.now.slabs s _ c.args.addr (length (expand c.args.runs.now)) c.requires.shape shows h
+      ∙ found c.args.shape.now c.args.slabs.now.slabs c.args.addr c.len-len.result (length (expand c.args.runs.now)) _ c.len-len.ensures.bytes c.in_default.ensures in
+      absurd (true≢false (sym (c.lends.ensures told s h (ap (λ (n : ℕ). first_trap c.args.shape.now s c.args.addr n) c.len-len.ensures.bytes ∙ none)) ∙ c.if-not-lends.true))),
 )
 
 pub write-requires-clause-from : goal.write-requires-clause-from
-write-requires-clause-from g c κs within = (begins_inside c.args.shape.now c.args.slabs.now.slabs c.args.addr (length c.args.bytes.now) c.requires.some (sym c.in_default.ensures)).from
+write-requires-clause-from g c κs within =
+    (begins_inside c.args.shape.now c.args.slabs.now.slabs c.args.addr (length (expand c.args.runs.now)) c.requires.some
+    (found c.args.shape.now c.args.slabs.now.slabs c.args.addr c.len-len.result (length (expand c.args.runs.now)) _ c.len-len.ensures.bytes c.in_default.ensures)).from
 
 pub returns-clause-filled : goal.returns-clause-filled
 returns-clause-filled g c = λ told s shows h.
-    (let none : first_trap c.args.shape.now s c.args.addr (length c.args.bytes.now) ≡ None = trap_told c.args.shape.now c.args.slabs.now.slabs s _ c.args.addr (length c.args.bytes.now) c.requires.shape shows h ∙ sym c.in_default.ensures in
-    (none, c.write.ensures.written told s h none))
-
-pub returns-in-Some-clause-within : goal.returns-in-Some-clause-within
-returns-in-Some-clause-within g c = trap_within c.args.shape.now c.args.slabs.now.slabs c.args.addr (length c.args.bytes.now) _ (sym c.in-Some.ensures)
-
-pub returns-clause-trap : goal.returns-clause-trap
-returns-clause-trap g c = sym c.in_default.ensures
+    (let bytes : c.deref.result.now ≡ expand c.args.runs.now = c.deref.ensures.value ∙ c.in_ok-bytes.ensures in
+    let none : first_trap c.args.shape.now s c.args.addr (length (expand c.args.runs.now)) ≡ None = trap_told c.args.shape.now c.args.slabs.now.slabs s _ c.args.addr (length (expand c.args.runs.now)) c.requires.shape shows h
+    ∙ found c.args.shape.now c.args.slabs.now.slabs c.args.addr c.len-len.result (length (expand c.args.runs.now)) _ c.len-len.ensures.bytes c.in_default.ensures in (
+      none,
+      subst (λ (l : List ℕ). HoldsSlabs c.args.shape.now (write c.args.shape.now c.args.addr l s).opens (g.P.Pages.runs c.write.new.pages)) bytes
+          (c.write.ensures.written told s h (ap (λ (l : List ℕ). first_trap c.args.shape.now s c.args.addr (length l)) bytes ∙ none)),
+    ))
