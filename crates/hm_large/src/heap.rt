@@ -241,6 +241,7 @@ impl<P: Pages> LargeHeap<P> {
         ensures replies { IfOk result (IsLargeReply (Call.Allot asked align)) }
         ensures memory { OnErr result (self.new.entries ≡ self.old.entries) }
         ensures origin { origin P.told self.new ≡ origin P.told self.old }
+        ensures before { IsRegion P.Pages self.old }
         ensures region { IsRegion P.Pages self.new }
     {
         self.entries.reserve(self.store.owed + 2)?;
@@ -261,6 +262,7 @@ impl<P: Pages> LargeHeap<P> {
         ensures accepted { (b : Block) → at addr (region_state P.told self.old).live ≡ Some b → b.failed ≡ false
             → wrong_size (Some b) stated ≡ None → IsOk result }
         ensures origin { origin P.told self.new ≡ origin P.told self.old }
+        ensures before { IsRegion P.Pages self.old }
         ensures region { IsRegion P.Pages self.new }
     {
         let before = self.pages.faults();
@@ -302,6 +304,7 @@ impl<P: Pages> LargeHeap<P> {
         ensures replies { IfOk result (IsLargeReply (Call.Measure addr)) }
         ensures memory { OnErr result (self.new.entries ≡ self.old.entries) }
         ensures origin { origin P.told self.new ≡ origin P.told self.old }
+        ensures before { IsRegion P.Pages self.old }
         ensures region { IsRegion P.Pages self.new }
     {
         self.entries.reserve(self.store.owed + 1)?;
@@ -324,6 +327,7 @@ impl<P: Pages> LargeHeap<P> {
         ensures trap { IfOk result (TrapsIn (region_state P.told self.old).live addr len) }
         ensures memory { OnErr result (self.new.entries ≡ self.old.entries) }
         ensures origin { origin P.told self.new ≡ origin P.told self.old }
+        ensures before { IsRegion P.Pages self.old }
         ensures region { IsRegion P.Pages self.new }
     {
         self.entries.reserve(self.store.owed + 1)?;
@@ -358,6 +362,7 @@ impl<P: Pages> LargeHeap<P> {
         ensures trap { IfOk result (TrapsIn (region_state P.told self.old).live addr (length (expand runs.now))) }
         ensures memory { OnErr result (self.new.entries ≡ self.old.entries) }
         ensures origin { origin P.told self.new ≡ origin P.told self.old }
+        ensures before { IsRegion P.Pages self.old }
         ensures region { IsRegion P.Pages self.new }
     {
         self.entries.reserve(self.store.owed + 1)?;
