@@ -1,5 +1,6 @@
 -- What is kept once bytes are read or written.
 use Rattle.std.proofs.Common.{◌≡◌, ◌⊎◌, inl, inr, ⊎_elim, ℕ, ◌+◌, ◌-◌, ◌<◌, ◌≤◌, ◌==◌, Bool, true, false, cond, not, IsTrue, List, [], ◌∷◌, ◌++◌, map, length, take, drop, Option, Some, None, is_some, option_map, unwrap_or, sym, ◌∙◌, ap, subst, refl, arith}
+use Rattle.std.specs.Option.{IfSome, IsSome}
 use Rattle.std.specs.FinMap as finite
 use Rattle.std.specs.FinMap.{get-insert}
 use Rattle.std.proofs.lemmas.Bool.{cases_eq, cases_lt}
@@ -12,6 +13,7 @@ use Rattle.hm_model.specs.declared.entry.Call.TheVariants as call
 use Rattle.hm_model.specs.declared.entry.Reply.{Reply}
 use Rattle.hm_model.specs.declared.entry.Reply.TheVariants as reply
 use Rattle.hm_model.specs.Calls.{IsRange, no_choices, no_words, entry_of}
+use Rattle.hm_model.specs.Replies.{IsWithin, IsFetchReply, IsFillReply}
 use Rattle.hm_model.specs.Machine.{run_keeps}
 use Rattle.hm_model.specs.Maps.{at, removed}
 use Rattle.hm_model.specs.Overlaid.{overlaid}
@@ -22,6 +24,9 @@ use Rattle.hm_outside.specs.declared.pages.Pages as pages
 use Rattle.hm_outside.specs.PageRuns.{PageRuns, Reads, Writes, InNone, IsHeld, written}
 use Rattle.hm_sizes.specs.declared.config.Config.{Config}
 use Rattle.hm_large.specs.declared.store.Store.{Store}
+use Rattle.hm_large.specs.declared.access.Reading.{Reading}
+use Rattle.hm_large.specs.declared.access.Reading.TheVariants as reading
+use Rattle.hm_large.specs.Access.{fetch_reply, fill_reply, IsRead}
 use Rattle.hm_large.specs.Blocks.{Block, Blocks, covers, covered, is_quarantined, is_owed, first_trap, bytes_read, overlay, written_over, mark}
 use Rattle.hm_large.specs.State.{State, start, step, moved, takes_back, releases, free_of}
 use Rattle.hm_large.specs.Rules.{Allowed, state}
@@ -180,27 +185,22 @@ shows_written c n s k a w h = record {
 
 -- ---- entries
 module _ {P : Type 0} (meaning : pages.Ghosts P) (p : P) (c : Config) (n : ℕ) (es : List Entry) (k : Store) (who : Who) (a : ℕ) where
-  -- the bytes that the pages told
-  pub kept_fetched : (len : ℕ) (found : List (ℕ × ℕ)) → IsRange a len → IsKept meaning p c n es k → length (expand found) ≡ len → (IsTrue (meaning.told p) → Reads (meaning.runs p) a len (expand found))
-      → IsKept meaning p c n (es ++ entry_of who (call.Fetch a len) (reply.Bytes found) no_choices no_words (meaning.faults p) (meaning.faults p) ∷ []) k
-  kept_fetched len found asks h count reads =
-      kept_plain meaning p p c n es k (entry_of who (call.Fetch a len) (reply.Bytes found) no_choices no_words (meaning.faults p) (meaning.faults p)) h (all_same meaning p) refl refl refl
-      (asks, (count, (λ tells. reads_blocks c (state (terms_of c (meaning.told p)) es) (meaning.runs p) a len (expand found) (kept_sound meaning p c n es k h) (h.held tells) (reads tells)), refl), refl, refl)
-
-  -- the pages told no bytes
-  pub kept_untold : (len : ℕ) (trap : ℕ) → IsRange a len → IsKept meaning p c n es k → (IsTrue (meaning.told p) → first_trap (state (terms_of c (meaning.told p)) es).live a len ≡ Some trap)
-      → IsKept meaning p c n (es ++ entry_of who (call.Fetch a len) (reply.Trap trap) no_choices no_words (meaning.faults p) (meaning.faults p) ∷ []) k
-  kept_untold len trap asks h is =
+  -- what reading found
+  pub kept_read : (len : ℕ) (found : Reading) → IsRange a len → IsKept meaning p c n es k → IsFetchReply a len (fetch_reply found) → (IsTrue (meaning.told p) → IsRead (state (terms_of c (meaning.told p)) es).live a len found)
+      → IsKept meaning p c n (es ++ entry_of who (call.Fetch a len) (fetch_reply found) no_choices no_words (meaning.faults p) (meaning.faults p) ∷ []) k
+  kept_read len (reading.Bytes runs) asks h count is =
+      kept_plain meaning p p c n es k (entry_of who (call.Fetch a len) (reply.Bytes runs) no_choices no_words (meaning.faults p) (meaning.faults p)) h (all_same meaning p) refl refl refl (asks, (count, is, refl), refl, refl)
+  kept_read len (reading.Trap trap) asks h within is =
       kept_plain meaning p p c n es k (entry_of who (call.Fetch a len) (reply.Trap trap) no_choices no_words (meaning.faults p) (meaning.faults p)) h (all_same meaning p) refl refl refl (asks, (is, refl), refl, refl)
 
   -- nothing was written
-  pub kept_trapped : (now : P) (found : List (ℕ × ℕ)) (trap : ℕ) → IsRange a (length (expand found)) → IsKept meaning p c n es k → AreSame meaning p now
+  kept_trapped : (now : P) (found : List (ℕ × ℕ)) (trap : ℕ) → IsRange a (length (expand found)) → IsKept meaning p c n es k → AreSame meaning p now
       → (IsTrue (meaning.told p) → first_trap (state (terms_of c (meaning.told p)) es).live a (length (expand found)) ≡ Some trap)
       → IsKept meaning now c n (es ++ entry_of who (call.Fill a found) (reply.Trap trap) no_choices no_words (meaning.faults p) (meaning.faults p) ∷ []) k
   kept_trapped now found trap asks h same is =
       kept_plain meaning p now c n es k (entry_of who (call.Fill a found) (reply.Trap trap) no_choices no_words (meaning.faults p) (meaning.faults p)) h same refl refl refl (asks, (is, refl), refl, refl)
 
-  pub kept_filled : (now : P) (found : List (ℕ × ℕ)) → IsRange a (length (expand found)) → IsKept meaning p c n es k → meaning.told now ≡ meaning.told p → meaning.faults now ≡ meaning.faults p
+  kept_filled : (now : P) (found : List (ℕ × ℕ)) → IsRange a (length (expand found)) → IsKept meaning p c n es k → meaning.told now ≡ meaning.told p → meaning.faults now ≡ meaning.faults p
       → (IsTrue (meaning.told p) → Writes (meaning.runs p) a (length (expand found)) (expand found) (meaning.runs now))
       → IsKept meaning now c n (es ++ entry_of who (call.Fill a found) reply.Filled no_choices no_words (meaning.faults p) (meaning.faults p) ∷ []) k
   kept_filled now found asks h telling count writes =
@@ -224,3 +224,16 @@ module _ {P : Type 0} (meaning : pages.Ghosts P) (p : P) (c : Config) (n : ℕ) 
         shows_step c n (record s { live = written_over a (expand found) s.live }) k (0 + s.words) (meaning.faults p) (shows_written c n s k a (expand found) h.shows) (omega arith),
       )
       count
+
+  -- what writing left
+  pub kept_written : (now : P) (found : List (ℕ × ℕ)) (trap : Option ℕ) → IsRange a (length (expand found)) → IsKept meaning p c n es k → meaning.told now ≡ meaning.told p → meaning.faults now ≡ meaning.faults p
+      → (IsTrue (meaning.told p) → trap ≡ first_trap (state (terms_of c (meaning.told p)) es).live a (length (expand found)))
+      → (trap ≡ None → IsTrue (meaning.told p) → Writes (meaning.runs p) a (length (expand found)) (expand found) (meaning.runs now)) → (IsSome trap → meaning.runs now ≡ meaning.runs p)
+      → IsKept meaning now c n (es ++ entry_of who (call.Fill a found) (fill_reply trap) no_choices no_words (meaning.faults p) (meaning.faults p) ∷ []) k
+  kept_written now found None asks h telling count first written unchanged = kept_filled now found asks h telling count (written refl)
+  kept_written now found (Some trap) asks h telling count first written unchanged = kept_trapped now found trap asks h (record { telling = telling; runs = λ tells. unchanged refl; faults = count }) (λ tells. sym (first tells))
+
+-- the replies that a fill may have
+pub fill_replies : (a len : ℕ) (trap : Option ℕ) → IfSome trap (IsWithin a len) → IsFillReply a len (fill_reply trap)
+fill_replies a len None within = tt
+fill_replies a len (Some q) within = within

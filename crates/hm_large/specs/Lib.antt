@@ -5,6 +5,7 @@ pub mod Draws
 pub mod Laws
 pub mod Region
 pub mod Calls
+pub mod Access
 pub mod BlockTable
 pub mod Kept
 pub mod Stored

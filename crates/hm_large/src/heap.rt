@@ -11,10 +11,11 @@ ghost use Rattle.hm_sizes.specs.Configs.{IsValid};
 ghost use Rattle.hm_large.specs.Blocks.{Block};
 ghost use Rattle.hm_large.specs.Rules.{chose, chose_guard, wrong_size};
 ghost use Rattle.hm_large.specs.Region.{region_state, origin, IsRegion};
+ghost use Rattle.hm_large.specs.Access.{fill_reply};
 ghost use Rattle.hm_large.specs.Calls.{Added, IsBuilt, TrapsIn};
 ghost use Rattle.hm_large.specs.Stored.{attempt_reply, free_draws, measured_reply};
 
-use crate::access::{read, trap_from, write};
+use crate::access::{Reading, read, write};
 use crate::allot::{Attempt, Outcome, allot, size_of_block};
 use crate::judge::{Verdict, judge, live_block};
 use crate::release::{Freeing, mark_failed, release};
@@ -142,6 +143,16 @@ fn measured(block: Option<KeptBlock>) -> Reply
     match block {
         Some(block) => Reply::Usable(block.size),
         None => Reply::NotLive,
+    }
+}
+
+// The reply to a fill, by the address at which it traps.
+fn filled(trap: Option<u64>) -> Reply
+    ensures { result ≡ fill_reply trap }
+{
+    match trap {
+        Some(addr) => Reply::Trap { addr },
+        None => Reply::Filled,
     }
 }
 
@@ -332,16 +343,15 @@ impl<P: Pages> LargeHeap<P> {
     {
         self.entries.reserve(self.store.owed + 1)?;
         let faults = self.pages.faults();
-        match read(&self.pages, self.alloc, addr, len)? {
-            Some(runs) => {
+        match read(&self.store, &self.pages, self.alloc, addr, len)? {
+            Reading::Bytes(runs) => {
                 let reply = Reply::Bytes(runs.copy()?);
                 let call = Call::Fetch { addr, len };
                 self.entries
                     .push_reserved(Entry::plain(who, call, reply, faults, faults));
                 Ok(Reply::Bytes(runs))
             }
-            None => {
-                let trap = trap_from(&self.store, addr, len);
+            Reading::Trap(trap) => {
                 let reply = Reply::Trap { addr: trap };
                 let call = Call::Fetch { addr, len };
                 self.entries
@@ -371,16 +381,9 @@ impl<P: Pages> LargeHeap<P> {
             runs: runs.copy()?,
         };
         let faults = self.pages.faults();
-        if write(&mut self.pages, addr, runs) {
-            self.entries
-                .push_reserved(Entry::plain(who, call, Reply::Filled, faults, faults));
-            Ok(Reply::Filled)
-        } else {
-            let trap = trap_from(&self.store, addr, runs.len());
-            let reply = Reply::Trap { addr: trap };
-            self.entries
-                .push_reserved(Entry::plain(who, call, reply, faults, faults));
-            Ok(Reply::Trap { addr: trap })
-        }
+        let trap = write(&self.store, &mut self.pages, addr, runs);
+        self.entries
+            .push_reserved(Entry::plain(who, call, filled(trap), faults, faults));
+        Ok(filled(trap))
     }
 }

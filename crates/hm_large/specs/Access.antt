@@ -1,0 +1,23 @@
+-- What reading and writing a range find.
+use Rattle.std.specs.Prelude.{◌≡◌, ℕ, Option, Some, None}
+use Rattle.hm_model.specs.declared.entry.Reply.{Reply}
+use Rattle.hm_model.specs.declared.entry.Reply.TheVariants as reply
+use Rattle.hm_model.specs.Runs.{expand}
+use Rattle.hm_large.specs.declared.access.Reading.{Reading}
+use Rattle.hm_large.specs.declared.access.Reading.TheVariants as reading
+use Rattle.hm_large.specs.Blocks.{Blocks, first_trap, bytes_read}
+
+-- the reply to a fetch
+abbrev pub fetch_reply : Reading → Reply
+fetch_reply (reading.Bytes runs) = reply.Bytes runs
+fetch_reply (reading.Trap q) = reply.Trap q
+
+-- the reply to a fill, by the address at which it traps
+abbrev pub fill_reply : Option ℕ → Reply
+fill_reply None = reply.Filled
+fill_reply (Some q) = reply.Trap q
+
+-- the bytes that the blocks have, or the first address at which they have none
+abbrev pub IsRead : Blocks → ℕ → ℕ → Reading → Type 0
+IsRead live addr len (reading.Bytes runs) = (first_trap live addr len ≡ None) × (expand runs ≡ bytes_read live addr len)
+IsRead live addr len (reading.Trap q) = first_trap live addr len ≡ Some q
