@@ -108,11 +108,7 @@ impl<P: Pages> Region<P> {
         ensures { result ≡ first_address (origin_of P.told self.now) }
     {
         match self {
-            Region::Class(heap) => {
-                // The region's rules hold, so its number is that of a class region.
-                let _ = heap.entries();
-                heap.shape().first
-            }
+            Region::Class(heap) => heap.shape().first,
             Region::Large(_heap) => LARGE_START,
         }
     }
