@@ -4,6 +4,7 @@ ghost use Rattle.std.specs.FinMap as map;
 ghost use Rattle.hm_model.specs.Runs.{expand};
 
 use crate::LargeHeap;
+use crate::lending_pages::LendingPages;
 use hm_model::{Reply, Runs, Who};
 use hm_outside::{FailingPages, NoMemory, Pages, PlainPages, SilentPages};
 use hm_sizes::{Config, LARGE_START};
@@ -233,5 +234,21 @@ fn pages_that_lend_nothing(rt: HostRuntime) -> Result<(), Fail> {
         matches!(fill_at(&mut region, block, &runs)?, Reply::Trap { addr } if addr == block)
     );
     assert!(rt; matches!(free(&mut region, block)?, Reply::Freed));
+    Ok(())
+}
+
+#[test]
+fn freed_block_that_pages_lend(rt: HostRuntime) -> Result<(), Fail> {
+    let alloc = rt.alloc();
+    let mut region = standard(alloc, LendingPages::build(alloc)?)?;
+    let (block, _) = given(&mut region, 200_000)?;
+    let runs = Runs::same(alloc, 7, 100)?;
+    assert!(rt; matches!(fill_at(&mut region, block, &runs)?, Reply::Filled));
+    assert!(rt; matches!(fetch_one(&mut region, block)?, Reply::Bytes(_)));
+    assert!(rt; matches!(free(&mut region, block)?, Reply::Freed));
+    assert!(rt; matches!(fetch_one(&mut region, block)?, Reply::Trap { addr } if addr == block));
+    assert!(rt;
+        matches!(fill_at(&mut region, block, &runs)?, Reply::Trap { addr } if addr == block)
+    );
     Ok(())
 }

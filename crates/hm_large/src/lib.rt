@@ -11,6 +11,8 @@ mod heap;
 mod heap_tests;
 mod judge;
 mod laws;
+#[cfg(test)]
+mod lending_pages;
 mod release;
 mod store;
 
