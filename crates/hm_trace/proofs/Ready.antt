@@ -20,9 +20,10 @@ stays_ready (Err x) p q line h e i = tt
 pub starts_ready : (p : code.Progress) → progress_of p ≡ start → IsIndex p.names.keys p.scripts.items → IsReady p
 starts_ready p e i = record { valid = subst IsProgress (sym e) starts; indexed = i }
 
-pub script_ready : (p : code.Progress) (t : ℕ) → p.stage ≡ InScript t → IsReady p
+pub script_ready : (p : code.Progress) (t : ℕ) → p.stage ≡ InScript t → IsProgress (progress_of p)
     → is_script (record { thread = t; steps = steps_view p.steps.items }) ≡ true
-script_ready p t e h = open_script (progress_of p) t e h.valid
+script_ready p t e h = open_script (progress_of p) t e h
 
-pub script_few : (p : code.Progress) (t : ℕ) → p.stage ≡ InScript t → IsReady p → length p.steps.items ≤ 200000
-script_few p t e h = omega (arith, length-map p.steps.items step_view, open_few (progress_of p) t e h.valid)
+pub script_few : (p : code.Progress) (t : ℕ) → p.stage ≡ InScript t → IsProgress (progress_of p)
+    → length p.steps.items ≤ 200000
+script_few p t e h = omega (arith, length-map p.steps.items step_view, open_few (progress_of p) t e h)

@@ -3,7 +3,7 @@ ghost use Rattle.std.specs.Prelude.{◌≡◌, ◌<◌, map, OnOk};
 ghost use Rattle.hm_trace.specs.Gives.{GivesBy};
 ghost use Rattle.hm_trace.specs.Limits.{max_steps};
 ghost use Rattle.hm_trace.specs.ReadLines.{start, scripts_after, rounds_of, former_thread, round_at, thread_line_at, next_step_at, step_line_at, words_line_at, line_at};
-ghost use Rattle.hm_trace.specs.ReadState.{IsIndex, IsReady, progress_of, GivesLine};
+ghost use Rattle.hm_trace.specs.ReadState.{IsIndex, IsProgress, IsReady, progress_of, GivesLine};
 ghost use Rattle.hm_trace.specs.Views.{step_view, steps_view};
 
 use crate::fault::{FaultKind, LineRefusal};
@@ -42,7 +42,7 @@ pub(crate) struct Progress {
     pub(crate) stage: Open,
     /// How many steps were read in all.
     pub(crate) count: usize,
-    /// The names that the closed scripts of the open round set.
+    /// The names that the closed scripts of the open round set, as its open one must not set them too.
     pub(crate) names: BTreeSet<Name>,
 }
 
@@ -61,19 +61,31 @@ impl Progress {
         }
     }
 
+    // The names that the open script sets join those of the closed ones, as another script follows.
+    fn take_open_names(&mut self) -> Result<(), AllocError>
+        requires { IsIndex self.old.names.keys self.old.scripts.items }
+        ensures indexed { OnOk result (IsIndex self.new.names.keys
+            (scripts_after self.old.stage self.old.scripts.items (steps_view self.old.steps.items))) }
+        ensures same { self.new ≡ record self.old { names = self.new.names } }
+    {
+        if let Open::InScript(_) = self.stage {
+            take_names(&mut self.names, &self.steps)?;
+        }
+        Ok(())
+    }
+
     // The open script joins the scripts.
     fn close_script(&mut self, alloc: Global) -> Result<(), AllocError>
-        requires { IsReady self.old }
-        ensures indexed { OnOk result (IsIndex self.new.names.keys self.new.scripts.items) }
+        requires { IsProgress (progress_of self.old) }
         ensures scripts { OnOk result (self.new.scripts.items
             ≡ scripts_after self.old.stage self.old.scripts.items (steps_view self.old.steps.items)) }
         ensures rounds { self.new.rounds.items ≡ self.old.rounds.items }
         ensures stage { self.new.stage ≡ self.old.stage }
         ensures count { self.new.count ≡ self.old.count }
+        ensures names { self.new.names ≡ self.old.names }
     {
         if let Open::InScript(thread) = self.stage {
             let steps = mem::replace(&mut self.steps, Vec::new(alloc));
-            take_names(&mut self.names, &steps)?;
             self.scripts.push(Script::of(thread, steps))?;
         }
         Ok(())
@@ -141,6 +153,7 @@ impl Progress {
         if thread > MAX_THREADS {
             return Err(LineRefusal::Kind(FaultKind::TooManyThreads));
         }
+        self.take_open_names()?;
         self.close_script(alloc)?;
         self.steps = Vec::new(alloc);
         self.stage = Open::InScript(thread);
