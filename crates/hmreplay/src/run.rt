@@ -120,22 +120,25 @@ fn write_results<K: Sink, P>(sink: &mut K, ran: Ran<P>, found: bool, text: &[u8]
     }
 }
 
-// Runs a text that was read.
+// Runs a text that was read. Its memory goes back before the trace is run, and that of the trace before the report is
+// made.
 fn run_text<R: Threads + Wait + Sync, K: Sink, M: PageMaker, G: Gate>(
     rt: &R,
     alloc: Global,
     options: &Options,
     output: Output,
-    bytes: &[u8],
+    bytes: Vec<u8>,
     sink: &mut K,
     maker: &mut M,
     gate: &G,
 ) -> Run<M::P>
     requires valid { IsValid (config_of options.now) }
-    ensures ends { TextEnds M.P.Pages result (sink_of K.Sink sink.old sink.new) options.now output bytes.now }
-    ensures handed { HandsOut M.P.Pages (IsSpelled bytes.now) options.now result.closed result.results }
+    ensures ends { TextEnds M.P.Pages result (sink_of K.Sink sink.old sink.new) options.now output bytes.items }
+    ensures handed { HandsOut M.P.Pages (IsSpelled bytes.items) options.now result.closed result.results }
 {
-    let trace = match read_trace(alloc, bytes) {
+    let read = read_trace(alloc, &bytes);
+    drop(bytes);
+    let trace = match read {
         Ok(trace) => trace,
         Err(ReadRefusal::Fault(fault)) => return refuse_text(alloc, sink, &fault),
         Err(ReadRefusal::NoMemory) => return give_up(),
@@ -144,6 +147,7 @@ fn run_text<R: Threads + Wait + Sync, K: Sink, M: PageMaker, G: Gate>(
         Ok(ran) => ran,
         Err(_) => return give_up(),
     };
+    drop(trace);
     match text_of(alloc, options, output, &ran) {
         Ok(text) => {
             let found = has_finding(&ran.results);
@@ -172,7 +176,7 @@ fn run_source<R: Threads + Wait + Sync, S: Source, K: Sink, M: PageMaker, G: Gat
         result.closed result.results }
 {
     match read_all(alloc, source) {
-        Ok(bytes) => run_text(rt, alloc, options, output, &bytes, sink, maker, gate),
+        Ok(bytes) => run_text(rt, alloc, options, output, bytes, sink, maker, gate),
         Err(ReadStop::NoMemory) => give_up(),
         Err(ReadStop::Fault) => refuse(sink, Refusal::ReadFault),
         Err(ReadStop::TooLong) => refuse(sink, Refusal::TooLong),

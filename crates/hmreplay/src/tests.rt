@@ -528,6 +528,8 @@ fn threads_of_a_round_run_at_once(rt: HostRuntime) -> Result<(), Fail> {
         &gate,
     )?;
     assert_eq!(rt; run.status, 0);
+    assert_eq!(rt; gate.small.load(Ordering::SeqCst), 1);
+    assert_eq!(rt; gate.great.load(Ordering::SeqCst), 1);
     assert_eq!(rt; gate.missed.load(Ordering::SeqCst), 0);
     assert_eq!(rt;
         sink.held.as_slice(),
@@ -603,15 +605,15 @@ fn run_numbered<R: Threads + Wait + Sync>(
 #[test]
 fn the_number_moves_blocks(rt: HostRuntime) -> Result<(), Fail> {
     let alloc = rt.alloc();
+    let expected = b"1.1.1 given 104\n1.1.2 freed\n1.1.3 given 104\n1.1.4 size 104\n".as_slice();
     let (plain, first) = run_numbered(&rt, alloc, "run")?;
     let (zero, at_zero) = run_numbered(&rt, alloc, "run --seed 0")?;
     let (seven, at_seven) = run_numbered(&rt, alloc, "run --seed 7")?;
     let (last, at_last) = run_numbered(&rt, alloc, "run --seed 18446744073709551615")?;
-    assert!(rt;
-        first == at_zero && at_zero != at_seven && at_seven != at_last && at_last != at_zero
-    );
-    assert!(rt; plain.as_slice() == zero.as_slice() && zero.as_slice() == seven.as_slice());
-    assert!(rt; seven.as_slice() == last.as_slice());
+    assert!(rt; plain.as_slice() == expected && zero.as_slice() == expected);
+    assert!(rt; seven.as_slice() == expected && last.as_slice() == expected);
+    assert_eq!(rt; (first, at_zero), (1_592_101_122_048, 1_592_101_122_048));
+    assert!(rt; at_zero != at_seven && at_seven != at_last && at_last != at_zero);
     Ok(())
 }
 

@@ -20,7 +20,7 @@ const WORDS: [(&str, u8); 31] = [
     ("run --seed=7", 2),
     ("run --seed +7", 2),
     ("run --seed -7", 2),
-    ("run --seed 7 --seed 7", 2),
+    ("run --seed 1 --seed 1", 2),
     ("run --seed 7 --class-region 1048576 --seed 7", 2),
     ("run --seed", 2),
     ("run --class-region 1048577", 2),

@@ -1,5 +1,3 @@
-use Rattle.std.proofs.Common.{ℕ, List, subst}
-use Rattle.hmreplay.specs.Handed.{HandsOut, IsSpelled}
 use Rattle.hmreplay.specs.Streams.{source_of}
 use Rattle.hmreplay.proofs.Handing.{of_source}
 use Rattle.hmreplay.proofs.run.run_source.Goals as goal
@@ -7,5 +5,4 @@ use Rattle.hmreplay.proofs.run.run_source.Goals as goal
 pub returns-in-Ok-clause-handed : goal.returns-in-Ok-clause-handed
 returns-in-Ok-clause-handed g c =
     of_source g.M.P.Pages c.args.options.now (source_of g.S.Source c.args.source.now c.read_all.new.source) c.in-Ok.bytes.items c.in-Ok.ensures.whole
-    c.run_text.result.closed c.run_text.result.results
-    (subst (λ (l : List ℕ). HandsOut g.M.P.Pages (IsSpelled l) c.args.options.now c.run_text.result.closed c.run_text.result.results) c.deref.ensures.value c.run_text.ensures.handed)
+    c.run_text.result.closed c.run_text.result.results c.run_text.ensures.handed
