@@ -434,6 +434,7 @@ fn waiting_calls_meet(rt: HostRuntime) -> Result<(), Fail> {
     let (small, great) = both_wait(&rt, &heap, first, second);
     assert_eq!(rt; told_by(&small?), Told::Given(8));
     assert_eq!(rt; told_by(&great?), Told::Given(4088));
+    assert_eq!(rt; gate.inside.load(Ordering::SeqCst), 2);
     assert_eq!(rt; gate.missed.load(Ordering::SeqCst), 0);
     Ok(())
 }
@@ -503,23 +504,20 @@ fn passes_are_joined_and_closed(rt: HostRuntime) -> Result<(), Fail> {
     Ok(())
 }
 
-/// Where memory is wanted for a split, the root goes on as before.
+/// The root makes calls before a pass is split off and after it was joined.
 #[test]
-fn a_root_goes_on_without_a_split(rt: HostRuntime) -> Result<(), Fail> {
+fn a_root_goes_on_round_a_split(rt: HostRuntime) -> Result<(), Fail> {
     let config = Config::standard();
     let (heap, mut root) = Heap::build(rt.alloc(), config, 1, &mut PlainMaker, &NoGate)?;
     let given = heap.malloc(&rt, &mut root, 1, 100)?;
     assert_eq!(rt; told_by(&given), Told::Given(104));
-    let split = heap.split(rt.alloc(), &mut root, 1, 1);
-    let lacking = split.is_err();
-    assert_eq!(rt; root.out(), if lacking { 0 } else { 1 });
-    if let Ok(pass) = split {
-        heap.join(&mut root, pass);
-    }
+    let pass = heap.split(rt.alloc(), &mut root, 1, 1)?;
+    assert_eq!(rt; (root.caller(), root.out(), pass.caller()), (0, 1, 1));
+    heap.join(&mut root, pass);
     let freed = heap.free(&rt, &mut root, 2, block_of(&given).unwrap_or(0))?;
     assert_eq!(rt; told_by(&freed), Told::Freed);
     let again = heap.split(rt.alloc(), &mut root, 1, 2)?;
-    assert_eq!(rt; again.caller(), if lacking { 1 } else { 2 });
+    assert_eq!(rt; again.caller(), 2);
     heap.join(&mut root, again);
     assert_eq!(rt; (root.caller(), root.out()), (0, 0));
     Ok(())
