@@ -10,7 +10,7 @@ use Rattle.hm_turn.specs.Known.{Lock}
 use Rattle.hm_heap.specs.Passes.{PassView}
 use Rattle.hm_replay.specs.declared.round.Worker.{Worker}
 use Rattle.hm_replay.specs.Gains.{mine_of}
-use Rattle.hm_replay.specs.Names.{Names, held}
+use Rattle.hm_replay.specs.Names.{Names, seen_in}
 use Rattle.hm_replay.specs.RoundOf.{BeginsRound, LeavesRoot, ended_in}
 use Rattle.hm_replay.specs.Rounds.{AreFronts}
 use Rattle.hm_replay.specs.Scripts.{IsFront, IsRun}
@@ -131,11 +131,11 @@ module _ (c : Config) (locks : List Lock) (round total : ℕ) (p q z : PassView)
         ended_is locks p q z vs found i w (parted_run locks round total p q names ws s vs n)
         (worked locks round total p q names ws s vs n ran) f l in
         record {
-          last = held v.env;
+          last = seen_in v.scope;
           front =
               transport
               (λ j. IsFront (record { config = c; caller = begun.caller_is j; round = begun.round_is j; thread = thread j })
-              (begun.names_are j) (script j).steps (held v.env) (own j)) (fronts i w l');
+              (begun.names_are j) (script j).steps (seen_in v.scope) (own j)) (fronts i w l');
         }))
 
     pub begins_run : (vs : List Worker) → length vs ≡ length ws → AllRan locks ws vs → AllFronts c ws vs → AllSame ws vs

@@ -1,4 +1,4 @@
-pub mod Addresses
+pub mod Held
 pub mod Gaining
 pub mod Trying
 pub mod Fronts

@@ -19,7 +19,7 @@ use Rattle.hm_turn.proofs.Histories.{starts_itself}
 use Rattle.hm_heap.specs.Passes.{PassView, AreOf, AllKnow}
 use Rattle.hm_replay.specs.declared.round.Worker.{Worker}
 use Rattle.hm_replay.specs.Gains.{mine_of}
-use Rattle.hm_replay.specs.Names.{Names, held, settled}
+use Rattle.hm_replay.specs.Names.{Names, seen_in, settled}
 use Rattle.hm_replay.specs.RoundOf.{calls_in, ended_in, IsGathered, Stays, SeesMore, AllSeeMore, LeavesRoot}
 use Rattle.hm_replay.specs.Rounds.{AreOfCallers, RunsRound}
 use Rattle.hm_replay.specs.Scripts.{IsRun}
@@ -323,7 +323,7 @@ pub record IsMade (c : Config) (round : ℕ) (names : Names) (caller : ℕ) (own
   pub round_is : rs.round ≡ round
   pub thread_is : rs.thread ≡ w.script.now.thread
   pub run : IsRun (record { config = c; caller = caller; round = round; thread = w.script.now.thread }) names
-      w.script.now.steps rs.items (held w.env) own
+      w.script.now.steps rs.items (seen_in w.scope) own
 
 pub runs_round : (c : Config) (own : ℕ → Own) (caller round : ℕ) (names now : Names) (ws : List Worker) (rs : List Results)
     → map (λ (r : Results). Some r) rs ≡ map (λ (w : Worker). w.results) ws
@@ -345,9 +345,9 @@ runs_round c own caller round names now (w ∷ ws) (r ∷ rs) e all =
       results_are = refl;
       round_is = m.round_is;
       thread_is = m.thread_is;
-      last = held w.env;
+      last = seen_in w.scope;
       run = m.run;
-      rest = runs_round c own (caller + 1) round names (settled now w.script.now.steps (held w.env)) ws rs others
+      rest = runs_round c own (caller + 1) round names (settled now w.script.now.steps (seen_in w.scope)) ws rs others
           (λ i v x l is.
           let next : caller + suc i ≡ caller + 1 + i = omega arith in
           subst (λ (k : ℕ). IsMade c round names k (own k) (slice_index_or ws i v) x) next
@@ -393,8 +393,8 @@ is_made c locks round total p q z names ws vs found s n ran h same f i w r l is 
     let own : mine_of v.pass.turns ≡ ended_in z.turns (p.splits + 1 + i) =
     ended_is locks p q z vs found i w (parted_run locks round total p q names ws s vs n)
     (worked locks round total p q names ws s vs n ran) f l in
-    let m : HasMade c u.pass v.pass u.script.now (held u.env) r (held v.env) =
-    subst (λ (x : Option Results). IfSome x (λ rs. HasMade c u.pass v.pass u.script.now (held u.env) rs (held v.env)))
+    let m : HasMade c u.pass v.pass u.script.now (seen_in u.scope) r (seen_in v.scope) =
+    subst (λ (x : Option Results). IfSome x (λ rs. HasMade c u.pass v.pass u.script.now (seen_in u.scope) rs (seen_in v.scope)))
     is (h i w l') in
     record {
       round_is = m.round_is ∙ begun.round_is;
@@ -402,7 +402,7 @@ is_made c locks round total p q z names ws vs found s n ran h same f i w r l is 
       run =
           transport
           (λ j. IsRun (record { config = c; caller = begun.caller_is j; round = begun.round_is j; thread = thread j })
-          (begun.names_are j) (script j).steps r.items (held v.env) (own j)) m.run;
+          (begun.names_are j) (script j).steps r.items (seen_in v.scope) (own j)) m.run;
     }
 
 -- what a run answered, as a worker keeps it

@@ -10,7 +10,7 @@ use Rattle.hm_turn.specs.Callers.{is_among}
 use Rattle.hm_heap.specs.Passes.{PassView, AreOf, cut, born, with_split_off, split_off}
 use Rattle.hm_heap.proofs.Splitting.{map_long, of_cut, of_born}
 use Rattle.hm_trace.specs.Views.{ScriptView}
-use Rattle.hm_replay.specs.Names.{Names, held}
+use Rattle.hm_replay.specs.Names.{Names, seen_in}
 use Rattle.hm_replay.specs.Gains.{mine_of}
 use Rattle.hm_replay.specs.declared.round.Worker.{Worker}
 use Rattle.hm_replay.specs.Workers.{IsReady, HasParted, IsBegun, HasCut}
@@ -87,7 +87,7 @@ each_pushed {X} P xs x each last i d b = elim (cases_lt i (length xs)) [
 pub started_more : (locks : List Lock) (round : ℕ) (p q q' : PassView) (scripts : List ScriptView) (names : Names)
     (workers : List Worker) (w : Worker) → StartedTo locks round p q scripts names workers
     → q' ≡ with_split_off q → w.pass ≡ split_off q round w.script.now.thread
-    → ((s : ScriptView) → w.script.now ≡ slice_index_or scripts (length workers) s) → held w.env ≡ names
+    → ((s : ScriptView) → w.script.now ≡ slice_index_or scripts (length workers) s) → seen_in w.scope ≡ names
     → StartedTo locks round p q' scripts names (workers ++ w ∷ [])
 started_more locks round p q q' scripts names workers w i e k here agree =
     let m : length (workers ++ w ∷ []) ≡ length workers + 1 = length-append workers (w ∷ []) in

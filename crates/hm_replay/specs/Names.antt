@@ -1,11 +1,14 @@
 -- Names, and the addresses that they hold.
-use Rattle.std.specs.Prelude.{◌≡◌, ℕ, Bool, if◌then◌else◌, List, [], ◌∷◌, Option, Some, None, IfSome}
+use Rattle.std.specs.Prelude.{◌≡◌, ℕ, if◌then◌else◌, List, [], ◌∷◌, Option, Some, None, IfSome, Vec}
 use Rattle.std.specs.List.{list_any}
+use Rattle.std.specs.Option.{option_map_or}
+use Rattle.std.specs.declared.alloc.Global.{Global}
 use Rattle.hm_trace.specs.declared.names.Name.{Name}
 use Rattle.hm_trace.specs.Names.{is_word}
 use Rattle.hm_trace.specs.Traces.{sets_name}
 use Rattle.hm_trace.specs.Views.{name_view, StepView}
 use Rattle.hm_heap.specs.Requests.{IsInReach}
+use Rattle.hm_replay.specs.declared.left.NameLeft.{NameLeft}
 
 -- what each name holds: an address, or nothing
 abbrev pub Names : Type 0
@@ -23,25 +26,41 @@ with_name names name given other = if is_word name other then given else names o
 abbrev pub settled : Names → List StepView → Names → Names
 settled names steps last name = if list_any (sets_name name) steps then last name else names name
 
--- ---- names that are merged
--- one of these names
-abbrev pub is_one_of : List ℕ → List Name → Bool
-is_one_of name these = list_any (λ (n : Name). is_word (name_view n) name) these
-
--- each of these names holds what it holds in these last names
-abbrev pub merged : Names → List Name → Names → Names
-merged names these last name = if is_one_of name these then last name else names name
-
--- these are the names that the steps set
-pub record AreSetBy (steps : List StepView) (these : List Name) : Type 0 where
-  pub each : (name : List ℕ) → is_one_of name these ≡ list_any (sets_name name) steps
-
 -- ---- addresses by names, as they are kept
--- what the names hold
-abbrev pub held : List (Name × ℕ) → Names
+-- what is kept for each name
+abbrev pub held : {X : Type 0} → List (Name × X) → List ℕ → Option X
 held [] name = None
 held (e ∷ entries) name = if is_word name (name_view e.0) then Some e.1 else held entries name
 
 -- blocks lie there
 abbrev pub AllInReach : List (Name × ℕ) → Type 0
 AllInReach entries = (name : List ℕ) → IfSome (held entries name) IsInReach
+
+-- ---- the names as one script of a round sees them
+-- those of the round, and what the script has set or unset
+abbrev pub ScopeView : Type 0
+ScopeView = List (Name × ℕ) × List (Name × Option ℕ)
+
+-- what the script has set or unset comes first
+abbrev pub seen_in : ScopeView → Names
+seen_in s name = option_map_or (λ given. given) (held s.1 name) (held s.0 name)
+
+-- blocks lie where names are set
+abbrev pub GivenInReach : List (Name × Option ℕ) → Type 0
+GivenInReach entries = (name : List ℕ) → IfSome (held entries name) (λ given. IfSome given IsInReach)
+
+-- ---- the names that a script leaves
+-- each of these names in turn is set to its address, or unset
+abbrev pub with_all : Names → List NameLeft → Names
+with_all names [] = names
+with_all names (n ∷ left) = with_all (with_name names (name_view n.name) n.address) left
+
+-- among any names, these make each name that one of the steps sets hold what it holds in the last ones
+pub record AreLeft (steps : List StepView) (last : Names) (left : List NameLeft) : Type 0 where
+  pub settle : (names : Names) → with_all names left ≡ settled names steps last
+
+-- the names that each script left are set in turn: these are the last names
+abbrev pub Settles : Names → List (Option (Vec NameLeft Global)) → Names → Type 0
+Settles names [] last = last ≡ names
+Settles names (None ∷ lefts) last = ⊥
+Settles names (Some left ∷ lefts) last = Settles (with_all names left.items) lefts last

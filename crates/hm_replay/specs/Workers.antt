@@ -8,7 +8,7 @@ use Rattle.hm_turn.specs.Known.{Lock, Known}
 use Rattle.hm_heap.specs.Passes.{PassView, AreOf, AllKnow, all_met}
 use Rattle.hm_replay.specs.declared.round.Worker.{Worker}
 use Rattle.hm_replay.specs.Gains.{mine_of, AllGrew}
-use Rattle.hm_replay.specs.Names.{Names, held, settled, AreSetBy}
+use Rattle.hm_replay.specs.Names.{Names, seen_in, settled, AreLeft}
 use Rattle.hm_replay.specs.Scripts.{IsFront, IsRun}
 
 -- ---- one worker
@@ -38,13 +38,13 @@ pub record HasMade (c : Config) (p q : PassView) (s : ScriptView) (names : Names
         names s.steps rs.items last (mine_of q.turns)
 
 abbrev pub KeepsMade : Config → Worker → Worker → Type 0
-KeepsMade c w v = IfSome v.results (λ rs. HasMade c w.pass v.pass w.script.now (held w.env) rs (held v.env))
+KeepsMade c w v = IfSome v.results (λ rs. HasMade c w.pass v.pass w.script.now (seen_in w.scope) rs (seen_in v.scope))
 
 -- whether or not it was found, they are those of a front of the script
 abbrev pub MakesFront : Config → Worker → Worker → Type 0
 MakesFront c w v =
-    IsFront (record { config = c; caller = w.pass.caller; round = w.pass.round; thread = w.pass.thread }) (held w.env)
-    w.script.now.steps (held v.env) (mine_of v.pass.turns)
+    IsFront (record { config = c; caller = w.pass.caller; round = w.pass.round; thread = w.pass.thread }) (seen_in w.scope)
+    w.script.now.steps (seen_in v.scope) (mine_of v.pass.turns)
 
 -- ---- passes are split off
 -- a turn that has split off so many callers, from the first on
@@ -69,7 +69,7 @@ pub record IsStarted (locks : List Lock) (caller round : ℕ) (root p : PassView
   pub names_are : now ≡ names
 
 abbrev pub IsBegun : List Lock → ℕ → ℕ → PassView → Names → Worker → Type 0
-IsBegun locks caller round root names w = IsStarted locks caller round root w.pass w.script.now names (held w.env)
+IsBegun locks caller round root names w = IsStarted locks caller round root w.pass w.script.now names (seen_in w.scope)
 
 -- ---- passes are joined
 -- the turns after the passes are joined, in order
@@ -84,12 +84,12 @@ pub record FinishedTo (locks : List Lock) (p q : PassView) (workers : List Worke
   pub results_are : results ≡ map (λ (w : Worker). w.results) workers
   pub knows : 0 < length workers → AllKnow q.turns
 
--- ---- names are merged
--- where memory was found, the worker knows which names its script sets
-abbrev pub SetsNames : Worker → Type 0
-SetsNames w = IfSome w.names (λ names. AreSetBy w.script.now.steps names.keys)
+-- ---- names are set
+-- where memory was found, the worker has listed what its script leaves of its names
+abbrev pub LeavesNames : Worker → Type 0
+LeavesNames w = IfSome w.left (λ left. AreLeft w.script.now.steps (seen_in w.scope) left.items)
 
 -- the names that each worker's script sets, among others
 abbrev pub all_settled : Names → List Worker → Names
 all_settled names [] = names
-all_settled names (w ∷ ws) = all_settled (settled names w.script.now.steps (held w.env)) ws
+all_settled names (w ∷ ws) = all_settled (settled names w.script.now.steps (seen_in w.scope)) ws

@@ -1,9 +1,8 @@
-//! The addresses that the names of a script hold.
-ghost use Rattle.std.specs.Prelude.{◌≡◌, IfSome, IfNone, IsOk, IfOk, OnOk, OnErr};
-ghost use Rattle.hm_trace.specs.Views.{name_view};
-ghost use Rattle.hm_heap.specs.Requests.{IsInReach};
-ghost use Rattle.hm_replay.specs.Names.{no_names, held, with_name};
+//! The addresses that names hold from round to round.
+ghost use Rattle.std.specs.Prelude.{◌≡◌, IfOk};
+ghost use Rattle.hm_replay.specs.Names.{no_names, held};
 
+use crate::addresses::Addresses;
 use hm_outside::NoMemory;
 use hm_trace::Name;
 use std::alloc::Global;
@@ -38,21 +37,23 @@ impl Env {
         }
     }
 
-    /// The address that a name holds.
-    pub(crate) fn get(&self, name: &Name) -> Option<u64>
-        ensures value { result ≡ held self.now (name_view name.now) }
-        ensures reach { IfSome result IsInReach }
+    /// The same names again.
+    pub(crate) fn copy(&self) -> Result<Env, NoMemory>
+        ensures { IfOk result (λ env. held env ≡ held self.now) }
     {
+        let addresses = self.addresses.clone()?;
+        Ok(Env { addresses })
+    }
+}
+
+impl Addresses for Env {
+    ghost names = { λ e. held e };
+
+    fn get(&self, name: &Name) -> Option<u64> {
         self.addresses.get(name).copied()
     }
 
-    /// Sets a name to an address, or unsets it, which takes no memory.
-    pub(crate) fn set(&mut self, name: Name, given: Option<u64>) -> Result<(), NoMemory>
-        requires reach { IfSome given IsInReach }
-        ensures value { OnOk result (held self.new ≡ with_name (held self.old) (name_view name) given) }
-        ensures memory { OnErr result (self.new ≡ self.old) }
-        ensures unset { IfNone given (IsOk result) }
-    {
+    fn set(&mut self, name: Name, given: Option<u64>) -> Result<(), NoMemory> {
         match given {
             Some(addr) => {
                 let _ = self.addresses.insert(name, addr)?;
@@ -62,13 +63,5 @@ impl Env {
             }
         }
         Ok(())
-    }
-
-    /// The same names again.
-    pub(crate) fn copy(&self) -> Result<Env, NoMemory>
-        ensures { IfOk result (λ env. held env ≡ held self.now) }
-    {
-        let addresses = self.addresses.clone()?;
-        Ok(Env { addresses })
     }
 }

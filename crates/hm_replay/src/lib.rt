@@ -1,13 +1,16 @@
 //! Scripts on a heap, each in a thread of its own, round by round.
 #![tactic(auto)]
 
+mod addresses;
 mod calls;
 mod env;
 mod laws;
+mod left;
 mod merge;
 mod naming;
 mod places;
 mod round;
+mod scope;
 mod script;
 
 pub use env::Env;

@@ -3,10 +3,9 @@ ghost use Rattle.std.specs.Prelude.{◌≡◌, IfSome, OnOk, OnErr};
 ghost use Rattle.hm_trace.specs.Views.{step_view};
 ghost use Rattle.hm_heap.specs.Requests.{IsInReach};
 ghost use Rattle.hm_heap.specs.Calls.{AnswerInReach};
-ghost use Rattle.hm_replay.specs.Names.{held};
 ghost use Rattle.hm_replay.specs.Steps.{given_by, moved_by, named, SetsInReach};
 
-use crate::env::Env;
+use crate::addresses::Addresses;
 use hm_model::{Answer, Reply};
 use hm_outside::NoMemory;
 use hm_trace::Step;
@@ -36,9 +35,9 @@ fn moved(answer: &Answer) -> Option<u64>
 }
 
 /// Sets the name of a step that was answered.
-pub(crate) fn name(env: &mut Env, step: &Step, answer: &Answer) -> Result<(), NoMemory>
+pub(crate) fn name<E: Addresses>(env: &mut E, step: &Step, answer: &Answer) -> Result<(), NoMemory>
     requires reach { SetsInReach (step_view step.now) answer.now }
-    ensures value { OnOk result (held env.new ≡ named (held env.old) (step_view step.now) answer.now) }
+    ensures value { OnOk result (E.names env.new ≡ named (E.names env.old) (step_view step.now) answer.now) }
     ensures memory { OnErr result (env.new ≡ env.old) }
 {
     match step {

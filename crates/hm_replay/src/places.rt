@@ -3,10 +3,9 @@ ghost use Rattle.std.specs.Prelude.{◌≡◌, true};
 ghost use Rattle.hm_trace.specs.Traces.{is_offset, is_place, is_step};
 ghost use Rattle.hm_trace.specs.Views.{place_view, step_view};
 ghost use Rattle.hm_heap.specs.Requests.{IsInReach};
-ghost use Rattle.hm_replay.specs.Names.{held};
 ghost use Rattle.hm_replay.specs.Steps.{moved, referred, base_of};
 
-use crate::env::Env;
+use crate::addresses::Addresses;
 use hm_trace::{Place, Step};
 
 // The address so many bytes up or down.
@@ -23,9 +22,9 @@ fn moved(addr: u64, offset: i64) -> u64
 }
 
 // The address of a place: none where its name is not set.
-fn referred(env: &Env, place: &Place) -> Option<u64>
+fn referred<E: Addresses>(env: &E, place: &Place) -> Option<u64>
     requires valid { is_place (place_view place.now) ≡ true }
-    ensures { result ≡ referred (held env.now) (place_view place.now) }
+    ensures { result ≡ referred (E.names env.now) (place_view place.now) }
 {
     match place {
         Place::Null => Some(0),
@@ -38,9 +37,9 @@ fn referred(env: &Env, place: &Place) -> Option<u64>
 }
 
 /// The address that a step refers to, and 0 where it refers to none. None is for a name that is not set.
-pub(crate) fn base_of(env: &Env, step: &Step) -> Option<u64>
+pub(crate) fn base_of<E: Addresses>(env: &E, step: &Step) -> Option<u64>
     requires valid { is_step (step_view step.now) ≡ true }
-    ensures { result ≡ base_of (held env.now) (step_view step.now) }
+    ensures { result ≡ base_of (E.names env.now) (step_view step.now) }
 {
     match step {
         Step::Malloc { .. } | Step::Calloc { .. } | Step::Aligned { .. } => Some(0),

@@ -4,42 +4,50 @@ ghost use Rattle.hm_heap.specs.Passes.{AreOf};
 ghost use Rattle.hm_replay.specs.Names.{held};
 ghost use Rattle.hm_replay.specs.RoundOf.{BeginsRound, LeavesRoot, ended_in};
 ghost use Rattle.hm_replay.specs.Rounds.{RunsRound};
-ghost use Rattle.hm_replay.specs.Workers.{IsReady, HasRun, KeepsMade, MakesFront, SetsNames, HasParted, IsBegun, FinishedTo, all_settled};
+ghost use Rattle.hm_replay.specs.Workers.{IsReady, HasRun, KeepsMade, MakesFront, LeavesNames, HasParted, IsBegun, FinishedTo};
 
 use crate::env::Env;
-use crate::merge::{merge, names_set};
-use crate::script::run_script;
+use crate::left::NameLeft;
+use crate::merge::{names_left, settle};
+use crate::scope::Scope;
+use crate::script::run_with;
 use hm_heap::{Heap, Pass};
 use hm_outside::{Gate, NoMemory, Pages};
 use hm_report::Results;
-use hm_trace::{Name, Round, Script};
+use hm_trace::{Round, Script};
 use std::alloc::Global;
-use std::collections::BTreeSet;
 use std::sync::Wait;
 use std::thread::{Threads, for_each_mut};
 
-/// A script with its pass, its names, its results and which names it sets.
+/// A script with its pass, the names as it sees them, its results and what it leaves of its names.
 #[derive(Drop)]
-struct Worker<'s> {
+struct Worker<'s, 'e> {
     script: &'s Script,
     pass: Pass,
-    env: Env,
+    scope: Scope<'e>,
     results: Option<Results>,
-    names: Option<BTreeSet<Name>>,
+    left: Option<Vec<NameLeft>>,
 }
 
-impl<'s> Worker<'s> {
+impl<'s, 'e> Worker<'s, 'e> {
     fn run<R: Wait, P: Pages, G: Gate>(&mut self, rt: &R, alloc: Global, heap: &Heap<'_, P, G>)
         requires { IsReady heap.now.locks self.old.pass self.old.script.now }
         ensures script { self.new.script ≡ self.old.script }
         ensures run { HasRun heap.now.locks self.old.pass self.new.pass }
         ensures made { KeepsMade heap.now.config self.old self.new }
         ensures front { MakesFront heap.now.config self.old self.new }
-        ensures names { SetsNames self.new }
+        ensures names { LeavesNames self.new }
     {
-        let results = run_script(rt, alloc, heap, &mut self.pass, self.script, &mut self.env);
+        let results = run_with(
+            rt,
+            alloc,
+            heap,
+            &mut self.pass,
+            self.script,
+            &mut self.scope,
+        );
         self.results = results.ok();
-        self.names = names_set(alloc, self.script.steps()).ok();
+        self.left = names_left(alloc, self.script.steps(), &self.scope).ok();
     }
 }
 
@@ -48,7 +56,7 @@ fn work<R: Threads + Wait + Sync, P: Pages, G: Gate>(
     rt: &R,
     alloc: Global,
     heap: &Heap<'_, P, G>,
-    workers: &mut Vec<Worker<'_>>,
+    workers: &mut Vec<Worker<'_, '_>>,
     threads: usize,
 )
     requires threads { 0 < threads }
@@ -65,27 +73,27 @@ fn work<R: Threads + Wait + Sync, P: Pages, G: Gate>(
         → KeepsMade heap.now.config (slice_index_or workers.old.items i w) (slice_index_or workers.new.items i w) }
     ensures fronts { (i : ℕ) (w : _) → i < length workers.old.items
         → MakesFront heap.now.config (slice_index_or workers.old.items i w) (slice_index_or workers.new.items i w) }
-    ensures names { (i : ℕ) (w : _) → i < length workers.old.items → SetsNames (slice_index_or workers.new.items i w) }
+    ensures names { (i : ℕ) (w : _) → i < length workers.old.items → LeavesNames (slice_index_or workers.new.items i w) }
 {
     for_each_mut(
         rt,
         workers,
         threads,
-        &|_, w: &mut Worker<'_>|
+        &|_, w: &mut Worker<'_, '_>|
             requires { IsReady heap.now.locks w.old.pass w.old.script.now }
         { w.run(rt, alloc, heap) },
     );
 }
 
 // Splits a pass off for each script, until memory runs out.
-fn start<'s, P: Pages, G: Gate>(
+fn start<'s, 'e, P: Pages, G: Gate>(
     alloc: Global,
     heap: &Heap<'_, P, G>,
     root: &mut Pass,
     round_number: u32,
     scripts: &'s [Script],
-    env: &Env,
-    workers: &mut Vec<Worker<'s>>,
+    env: &'e Env,
+    workers: &mut Vec<Worker<'s, 'e>>,
 ) -> Result<(), NoMemory>
     requires of { AreOf heap.now.locks root.old.turns }
     requires root { root.old.caller ≡ 0 }
@@ -101,53 +109,46 @@ fn start<'s, P: Pages, G: Gate>(
     ensures some { vec_len workers.new ≤ length scripts.now }
 {
     for script in scripts {
-        let env = env.copy()?;
         let pass = heap.split(alloc, root, round_number, script.thread())?;
         workers.push_reserved(Worker {
             script,
             pass,
-            env,
+            scope: Scope::build(alloc, env),
             results: None,
-            names: None,
+            left: None,
         });
     }
     Ok(())
 }
 
-// Joins each pass, and gives the results in order.
+// Joins each pass, and gives in order the results and what is left of the names.
 fn finish<P: Pages, G: Gate>(
     heap: &Heap<'_, P, G>,
     root: &mut Pass,
-    workers: Vec<Worker<'_>>,
+    workers: Vec<Worker<'_, '_>>,
     found: &mut Vec<Option<Results>>,
+    lefts: &mut Vec<Option<Vec<NameLeft>>>,
 )
     requires of { AreOf heap.now.locks root.old.turns }
     requires root { root.old.caller ≡ 0 }
     requires passes { (i : ℕ) (w : _) → i < vec_len workers
         → AreOf heap.now.locks (slice_index_or workers.items i w).pass.turns }
     requires room { (found.old.items ≡ []) × (vec_len workers ≤ vec_capacity found.old) }
-    ensures { FinishedTo heap.now.locks root.old root.new workers.entry.items found.new.items }
+    requires space { (lefts.old.items ≡ []) × (vec_len workers ≤ vec_capacity lefts.old) }
+    ensures passes { FinishedTo heap.now.locks root.old root.new workers.entry.items found.new.items }
+    ensures lefts { lefts.new.items ≡ map (λ w. w.left) workers.entry.items }
 {
     for worker in workers {
-        let Worker { pass, results, .. } = worker;
+        let Worker {
+            pass,
+            results,
+            left,
+            ..
+        } = worker;
         heap.join(root, pass);
         found.push_reserved(results);
+        lefts.push_reserved(left);
     }
-}
-
-// The names after a round: the former ones, with what each script sets.
-fn merge_all(env: &Env, workers: &[Worker<'_>]) -> Result<Env, NoMemory>
-    requires { (i : ℕ) (w : _) → i < length workers.now → SetsNames (slice_index_or workers.now i w) }
-    ensures { IfOk result (λ merged. held merged ≡ all_settled (held env.now) workers.now) }
-{
-    let mut merged = env.copy()?;
-    for worker in workers {
-        let Some(names) = &worker.names else {
-            return Err(NoMemory);
-        };
-        merge(&mut merged, &worker.env, names)?;
-    }
-    Ok(merged)
 }
 
 // The results of all scripts, unless one found no memory.
@@ -191,15 +192,15 @@ pub fn run_round<R: Threads + Wait + Sync, P: Pages, G: Gate>(
     let scripts = round.scripts();
     let mut workers = Vec::with_capacity(alloc, scripts.len())?;
     let mut found = Vec::with_capacity(alloc, scripts.len())?;
+    let mut lefts = Vec::with_capacity(alloc, scripts.len())?;
     if start(alloc, heap, root, number, scripts, env, &mut workers).is_err() {
-        finish(heap, root, workers, &mut found);
+        finish(heap, root, workers, &mut found, &mut lefts);
         return Err(NoMemory);
     }
     let threads = workers.len().max(1);
     work(rt, alloc, heap, &mut workers, threads);
-    let merged = merge_all(env, &workers);
-    finish(heap, root, workers, &mut found);
+    finish(heap, root, workers, &mut found, &mut lefts);
     let results = all_found(alloc, found)?;
-    *env = merged?;
+    settle(env, &lefts)?;
     Ok(results)
 }

@@ -10,6 +10,7 @@ ghost use Rattle.hm_replay.specs.Names.{held};
 ghost use Rattle.hm_replay.specs.Scripts.{IsFront, IsRun};
 ghost use Rattle.hm_replay.specs.Steps.{names_after};
 
+use crate::addresses::Addresses;
 use crate::calls::call;
 use crate::env::Env;
 use crate::naming::name;
@@ -22,12 +23,12 @@ use std::alloc::Global;
 use std::sync::Wait;
 
 // Runs one step.
-fn run_step<R: Wait, P: Pages, G: Gate>(
+fn run_step<R: Wait, P: Pages, G: Gate, E: Addresses>(
     rt: &R,
     alloc: Global,
     heap: &Heap<'_, P, G>,
     pass: &mut Pass,
-    env: &mut Env,
+    env: &mut E,
     step_number: u32,
     step: &Step,
 ) -> Result<StepResult, NoMemory>
@@ -36,10 +37,10 @@ fn run_step<R: Wait, P: Pages, G: Gate>(
     ensures same { pass.new ≡ record pass.old { turns = pass.new.turns } }
     ensures of { AreOf heap.now.locks pass.new.turns }
     ensures grew { AllGrew pass.old.turns pass.new.turns }
-    ensures ran { IfOk result (GainsResult heap.now pass.old pass.new step_number (held env.old) (step_view step.now)) }
-    ensures names { IfOk result (λ r. held env.new ≡ names_after (held env.old) (step_view step.now) r.answer) }
+    ensures ran { IfOk result (GainsResult heap.now pass.old pass.new step_number (E.names env.old) (step_view step.now)) }
+    ensures names { IfOk result (λ r. E.names env.new ≡ names_after (E.names env.old) (step_view step.now) r.answer) }
     ensures stops { OnErr result
-        (GainsBroken heap.now pass.old pass.new step_number (held env.old) (step_view step.now)) }
+        (GainsBroken heap.now pass.old pass.new step_number (E.names env.old) (step_view step.now)) }
     ensures kept { OnErr result (env.new ≡ env.old) }
 {
     let Some(base) = base_of(env, step) else {
@@ -57,12 +58,12 @@ fn run_step<R: Wait, P: Pages, G: Gate>(
 }
 
 // Runs the steps, one after another.
-fn run_steps<R: Wait, P: Pages, G: Gate>(
+fn run_steps<R: Wait, P: Pages, G: Gate, E: Addresses>(
     rt: &R,
     alloc: Global,
     heap: &Heap<'_, P, G>,
     pass: &mut Pass,
-    env: &mut Env,
+    env: &mut E,
     steps: &[Step],
 ) -> Result<Vec<StepResult>, NoMemory>
     requires of { AreOf heap.now.locks pass.old.turns }
@@ -71,10 +72,10 @@ fn run_steps<R: Wait, P: Pages, G: Gate>(
     ensures same { pass.new ≡ record pass.old { turns = pass.new.turns } }
     ensures of { AreOf heap.now.locks pass.new.turns }
     ensures grew { AllGrew pass.old.turns pass.new.turns }
-    ensures ran { IfOk result (λ rs. GainsResults heap.now pass.old pass.new (held env.old) (steps_view steps.now)
-        rs.items (held env.new)) }
+    ensures ran { IfOk result (λ rs. GainsResults heap.now pass.old pass.new (E.names env.old) (steps_view steps.now)
+        rs.items (E.names env.new)) }
     ensures stops { OnErr result
-        (GainsFrontOf heap.now pass.old pass.new (held env.old) (steps_view steps.now) (held env.new)) }
+        (GainsFrontOf heap.now pass.old pass.new (E.names env.old) (steps_view steps.now) (E.names env.new)) }
 {
     let mut results = Vec::with_capacity(alloc, steps.len())?;
     for (index, step) in steps.iter().enumerate() {
@@ -82,6 +83,35 @@ fn run_steps<R: Wait, P: Pages, G: Gate>(
         results.push(result)?;
     }
     Ok(results)
+}
+
+/// Runs a script with any kind of names, as `run_script` does.
+pub(crate) fn run_with<R: Wait, P: Pages, G: Gate, E: Addresses>(
+    rt: &R,
+    alloc: Global,
+    heap: &Heap<'_, P, G>,
+    pass: &mut Pass,
+    script: &Script,
+    env: &mut E,
+) -> Result<Results, NoMemory>
+    requires of { AreOf heap.now.locks pass.old.turns }
+    requires thread { pass.old.thread ≡ script.now.thread }
+    requires fresh { (place : ℕ) → mine_of pass.old.turns place ≡ [] }
+    ensures same { pass.new ≡ record pass.old { turns = pass.new.turns } }
+    ensures of { AreOf heap.now.locks pass.new.turns }
+    ensures grew { AllGrew pass.old.turns pass.new.turns }
+    ensures results { IfOk result (λ rs. (rs.round ≡ pass.old.round) × (rs.thread ≡ script.now.thread)) }
+    ensures ran { IfOk result (λ rs. IsRun (terms_of heap.now pass.old) (E.names env.old) script.now.steps rs.items
+        (E.names env.new) (mine_of pass.new.turns)) }
+    ensures stops { OnErr result (IsFront (terms_of heap.now pass.old) (E.names env.old) script.now.steps (E.names env.new)
+        (mine_of pass.new.turns)) }
+{
+    let items = run_steps(rt, alloc, heap, pass, env, script.steps())?;
+    Ok(Results {
+        round: pass.round(),
+        thread: script.thread(),
+        items: List::of(items),
+    })
 }
 
 /// Runs a script under a pass that has made no call yet. For want of memory it ends at a step in the middle, of which
@@ -106,10 +136,5 @@ pub fn run_script<R: Wait, P: Pages, G: Gate>(
     ensures stops { OnErr result (IsFront (terms_of heap.now pass.old) (held env.old) script.now.steps (held env.new)
         (mine_of pass.new.turns)) }
 {
-    let items = run_steps(rt, alloc, heap, pass, env, script.steps())?;
-    Ok(Results {
-        round: pass.round(),
-        thread: script.thread(),
-        items: List::of(items),
-    })
+    run_with(rt, alloc, heap, pass, script, env)
 }

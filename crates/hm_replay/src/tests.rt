@@ -60,21 +60,33 @@ fn report_of<R: Threads + Wait + Sync>(
     Ok(told)
 }
 
-/// A trace, and two reports of which one is its.
-const TABLE: [(&[u8], &[u8], &[u8]); 5] = [
-    (b"hmtrace 1\nend\n", b"", b""),
+/// A trace and its report.
+const TABLE: [(&[u8], &[u8]); 5] = [
+    (b"hmtrace 1\nend\n", b""),
     (
         b"hmtrace 1\nround\nthread 1\nmalloc x 100\nwrite x 3 41\nrealloc y x 104\nrealloc z y 105\nread z 105\n\
           aligned p 64 100\naligned r 3 10\ncalloc s 9223372036854775808 2\nfree s\nsfree z 106\nsize x-8\nend\n",
         b"1.1.1 given 104\n1.1.2 written\n1.1.3 kept 104\n1.1.4 given 120\n1.1.5 bytes 41*3 00*102\n\
           1.1.6 given 120\n1.1.7 bad alignment\n1.1.8 overflow\n1.1.9 skipped\n1.1.10 freed\n1.1.11 no slot\n",
-        b"",
     ),
     (
         b"hmtrace 1\nround\nthread 1\nfree null\nfree @1000\nfree q\nsize null\nend\n",
         b"1.1.1 nothing\n1.1.2 outside\n1.1.3 skipped\n1.1.4 size 0\n",
-        b"",
     ),
+    (
+        b"hmtrace 1\nround\nthread 1\nmalloc a 100\nround\nthread 1\nmalloc b 100\nsize a\nthread 2\nsize a\nround\n\
+          thread 1\nfree a\nsize b\nend\n",
+        b"1.1.1 given 104\n2.1.1 given 104\n2.1.2 size 104\n2.2.1 size 104\n3.1.1 freed\n3.1.2 size 104\n",
+    ),
+    (
+        b"hmtrace 1\nround\nthread 1\nmalloc a 100\nround\nthread 1\naligned a 3 10\nsize a\nthread 2\nsize a\nround\n\
+          thread 1\nsize a\nend\n",
+        b"1.1.1 given 104\n2.1.1 bad alignment\n2.1.2 skipped\n2.2.1 size 104\n3.1.1 skipped\n",
+    ),
+];
+
+/// A trace, and two reports of which one is its, as the scripts of its second round come to run.
+const EITHER: [(&[u8], &[u8], &[u8]); 2] = [
     (
         b"hmtrace 1\nround\nthread 1\nmalloc x 100\nround\nthread 1\nfree x\nthread 2\nfree x\nend\n",
         b"1.1.1 given 104\n2.1.1 freed\n2.2.1 double free\n",
@@ -95,7 +107,11 @@ const TABLE: [(&[u8], &[u8], &[u8]); 5] = [
 
 #[test]
 fn reports_of_rounds(rt: HostRuntime) -> Result<(), Fail> {
-    for (text, one, other) in &TABLE {
+    for (text, report) in &TABLE {
+        let told = report_of(&rt, rt.alloc(), text)?;
+        assert!(rt; told.as_slice() == *report);
+    }
+    for (text, one, other) in &EITHER {
         let told = report_of(&rt, rt.alloc(), text)?;
         assert!(rt; told.as_slice() == *one || told.as_slice() == *other);
     }

@@ -1,14 +1,17 @@
-use Rattle.std.proofs.Common.{arith, ◌≡◌, ℕ, ◌+◌, List, length, map, slice_index_or, vec_len, subst, refl, sym, ◌∙◌, ap}
+use Rattle.std.proofs.Common.{arith, ◌≡◌, ℕ, ◌+◌, List, length, map, slice_index_or, vec_len, Vec, Option, subst, refl, sym, ◌∙◌, ap}
 use Rattle.hm_report.specs.declared.results.Results.{Results}
+use Rattle.std.specs.declared.alloc.Global.{Global}
 use Rattle.hm_trace.specs.Views.{ScriptView}
 use Rattle.hm_turn.specs.Known.{Lock}
 use Rattle.hm_heap.specs.Passes.{PassView}
 use Rattle.hm_replay.specs.declared.round.Worker.{Worker}
-use Rattle.hm_replay.specs.Names.{Names, held}
+use Rattle.hm_replay.specs.Names.{Names, held, Settles}
+use Rattle.hm_replay.specs.declared.left.NameLeft.{NameLeft}
 use Rattle.hm_replay.specs.RoundOf.{ended_in}
 use Rattle.hm_replay.specs.Rounds.{RunsRound}
 use Rattle.hm_replay.specs.Workers.{all_settled}
 use Rattle.hm_replay.proofs.Begun.{begins_begun, begins_run}
+use Rattle.hm_replay.proofs.Merging.{settles_all}
 use Rattle.hm_replay.proofs.Rounding.{IsStartedBy, is_made, leaves_begun, leaves_run, runs_round, scripts_are, started_by}
 use Rattle.hm_replay.proofs.round.run_round.Goals as goal
 
@@ -24,7 +27,7 @@ returns-then-is_err-clause-root g c =
     let started : IsStartedBy locks c.args.number total p q names ws.items =
     started_by locks c.args.number _ total p q names ws.items (vec_len ws) ws.ok.0 c.requires.of s.root s.workers s.some
     (ap (λ (l : List ScriptView). length l) c.scripts-scripts.ensures.all) in
-    leaves_begun locks c.args.number total p q names ws.items started c.finish.new.root _ c.finish.ensures
+    leaves_begun locks c.args.number total p q names ws.items started c.finish.new.root _ c.finish.ensures.passes
 
 pub returns-in_err-results-clause-root : goal.returns-in_err-results-clause-root
 returns-in_err-results-clause-root g c =
@@ -41,10 +44,10 @@ returns-in_err-results-clause-root g c =
     let vs = c.work.new.workers in
     leaves_run locks c.args.number total p q names ws.items started vs.items
     (sym vs.ok.0 ∙ c.work.ensures.len ∙ ws.ok.0) c.work.ensures.run
-    c.finish-2.new.root _ c.finish-2.ensures
+    c.finish-2.new.root _ c.finish-2.ensures.passes
 
-pub returns-in_err-env-clause-root : goal.returns-in_err-env-clause-root
-returns-in_err-env-clause-root g c =
+pub returns-in_err-settle-clause-root : goal.returns-in_err-settle-clause-root
+returns-in_err-settle-clause-root g c =
     let s = c.start.ensures in
     let ws = c.start.new.workers in
     let locks : List Lock = c.args.heap.now.locks in
@@ -58,7 +61,7 @@ returns-in_err-env-clause-root g c =
     let vs = c.work.new.workers in
     leaves_run locks c.args.number total p q names ws.items started vs.items
     (sym vs.ok.0 ∙ c.work.ensures.len ∙ ws.ok.0) c.work.ensures.run
-    c.finish-2.new.root _ c.finish-2.ensures
+    c.finish-2.new.root _ c.finish-2.ensures.passes
 
 pub returns-clause-root : goal.returns-clause-root
 returns-clause-root g c =
@@ -75,7 +78,7 @@ returns-clause-root g c =
     let vs = c.work.new.workers in
     leaves_run locks c.args.number total p q names ws.items started vs.items
     (sym vs.ok.0 ∙ c.work.ensures.len ∙ ws.ok.0) c.work.ensures.run
-    c.finish-2.new.root _ c.finish-2.ensures
+    c.finish-2.new.root _ c.finish-2.ensures.passes
 
 pub returns-clause-ran : goal.returns-clause-ran
 returns-clause-ran g c =
@@ -98,17 +101,20 @@ returns-clause-ran g c =
     let of_round : map (λ (w : Worker). w.script.now) vs.items ≡ c.args.round.now =
     scripts_are ws.items vs.items c.scripts-scripts.result.now same (sym ws.ok.0 ∙ all) c.work.ensures.script
     (λ i w x l. s.scripts i w x (omega (arith, l, ws.ok.0))) ∙ c.scripts-scripts.ensures.all in
-    let last : held c.in_ok-env.field-0 ≡ all_settled names vs.items =
-    c.in_ok-env.ensures ∙ ap (λ (l : List Worker). all_settled names l) c.deref.ensures.value in
+    let now : Names = held c.settle.new.env in
+    let last : now ≡ all_settled names vs.items =
+    settles_all names now vs.items (λ i w l. c.work.ensures.names i w (omega (arith, l, same)))
+    (subst (λ (l : List (Option (Vec NameLeft Global))). Settles names l now)
+    (c.deref.ensures.value ∙ c.finish-2.ensures.lefts) c.in_ok-settle.ensures.value) in
     subst (λ (l : Names). RunsRound config (ended_in z.turns)
     (p.splits + 1) c.args.number names names c.args.round.now rs l) (sym last)
     (subst (λ (l : List ScriptView). RunsRound config (ended_in z.turns) (p.splits + 1) c.args.number names names l rs
     (all_settled names vs.items)) of_round
     (runs_round config (ended_in z.turns) (p.splits + 1) c.args.number names names vs.items rs
-    (c.in_ok-results.ensures ∙ c.finish-2.ensures.results_are)
+    (c.in_ok-results.ensures ∙ c.finish-2.ensures.passes.results_are)
     (is_made config locks c.args.number total p q z names ws.items vs.items _ started same c.work.ensures.run
     c.work.ensures.made c.work.ensures.script
-    c.finish-2.ensures)))
+    c.finish-2.ensures.passes)))
 
 pub returns-then-is_err-clause-begun : goal.returns-then-is_err-clause-begun
 returns-then-is_err-clause-begun g c =
@@ -126,7 +132,7 @@ returns-then-is_err-clause-begun g c =
     begins_begun c.args.heap.now.config locks c.args.number total p q c.finish.new.root names ws.items _ started
     c.args.round.now refl
     (λ i w x l. s.scripts i w x (omega (arith, l, ws.ok.0)) ∙ ap (λ (y : List ScriptView). slice_index_or y i x) all)
-    c.finish.ensures
+    c.finish.ensures.passes
 
 pub returns-in_err-results-clause-begun : goal.returns-in_err-results-clause-begun
 returns-in_err-results-clause-begun g c =
@@ -146,10 +152,10 @@ returns-in_err-results-clause-begun g c =
     c.args.round.now refl
     (λ i w x l. s.scripts i w x (omega (arith, l, ws.ok.0)) ∙ ap (λ (y : List ScriptView). slice_index_or y i x) all)
     vs.items (sym vs.ok.0 ∙ c.work.ensures.len ∙ ws.ok.0) c.work.ensures.run c.work.ensures.fronts c.work.ensures.script
-    c.finish-2.ensures
+    c.finish-2.ensures.passes
 
-pub returns-in_err-env-clause-begun : goal.returns-in_err-env-clause-begun
-returns-in_err-env-clause-begun g c =
+pub returns-in_err-settle-clause-begun : goal.returns-in_err-settle-clause-begun
+returns-in_err-settle-clause-begun g c =
     let s = c.start.ensures in
     let ws = c.start.new.workers in
     let locks : List Lock = c.args.heap.now.locks in
@@ -166,7 +172,7 @@ returns-in_err-env-clause-begun g c =
     c.args.round.now refl
     (λ i w x l. s.scripts i w x (omega (arith, l, ws.ok.0)) ∙ ap (λ (y : List ScriptView). slice_index_or y i x) all)
     vs.items (sym vs.ok.0 ∙ c.work.ensures.len ∙ ws.ok.0) c.work.ensures.run c.work.ensures.fronts c.work.ensures.script
-    c.finish-2.ensures
+    c.finish-2.ensures.passes
 
 pub returns-clause-begun : goal.returns-clause-begun
 returns-clause-begun g c =
@@ -186,4 +192,4 @@ returns-clause-begun g c =
     c.args.round.now refl
     (λ i w x l. s.scripts i w x (omega (arith, l, ws.ok.0)) ∙ ap (λ (y : List ScriptView). slice_index_or y i x) all)
     vs.items (sym vs.ok.0 ∙ c.work.ensures.len ∙ ws.ok.0) c.work.ensures.run c.work.ensures.fronts c.work.ensures.script
-    c.finish-2.ensures
+    c.finish-2.ensures.passes

@@ -1,7 +1,6 @@
 use Rattle.std.proofs.Common.{sym, ◌∙◌}
 use Rattle.hm_trace.specs.Views.{step_view}
 use Rattle.hm_replay.specs.Gains.{terms_of}
-use Rattle.hm_replay.specs.Names.{held}
 use Rattle.hm_replay.specs.Steps.{base_of}
 use Rattle.hm_replay.proofs.Fronts.{gains_broken, gains_unnamed, on_err}
 use Rattle.hm_replay.proofs.Running.{gains_called, gains_skipped}
@@ -10,14 +9,14 @@ use Rattle.hm_replay.proofs.script.run_step.Goals as goal
 pub returns-in_default-clause-ran : goal.returns-in_default-clause-ran
 returns-in_default-clause-ran g c =
     gains_skipped c.args.pass.now.turns (terms_of c.args.heap.now c.args.pass.now) c.args.step_number
-    (step_view c.args.step.now) (base_of (held c.args.env.now) (step_view c.args.step.now))
+    (step_view c.args.step.now) (base_of (g.E.Addresses.names c.args.env.now) (step_view c.args.step.now))
     (sym c.in_default.is ∙ c.base_of.ensures)
 
 pub returns-clause-ran : goal.returns-clause-ran
 returns-clause-ran g c =
     gains_called c.args.pass.now.turns c.call.new.pass.turns
     (terms_of c.args.heap.now c.args.pass.now) c.args.step_number c.in-Some.base (step_view c.args.step.now)
-    (base_of (held c.args.env.now) (step_view c.args.step.now)) c.in_ok-answer.answer
+    (base_of (g.E.Addresses.names c.args.env.now) (step_view c.args.step.now)) c.in_ok-answer.answer
     (sym c.in-Some.is ∙ c.base_of.ensures) c.in_ok-answer.ensures.gains
 
 pub returns-in_err-answer-clause-stops : goal.returns-in_err-answer-clause-stops
@@ -25,7 +24,7 @@ returns-in_err-answer-clause-stops g c =
     on_err c.from_residual.result
     (gains_broken c.args.pass.now.turns c.call.new.pass.turns
     (terms_of c.args.heap.now c.args.pass.now) c.args.step_number c.in-Some.base (step_view c.args.step.now)
-    (base_of (held c.args.env.now) (step_view c.args.step.now))
+    (base_of (g.E.Addresses.names c.args.env.now) (step_view c.args.step.now))
     (sym c.in-Some.is ∙ c.base_of.ensures) c.in_err-answer.ensures.stops)
 
 pub returns-in_err-name-clause-stops : goal.returns-in_err-name-clause-stops
@@ -33,5 +32,5 @@ returns-in_err-name-clause-stops g c =
     on_err c.from_residual-in_err-name.result
     (gains_unnamed c.args.pass.now.turns c.call.new.pass.turns
     (terms_of c.args.heap.now c.args.pass.now) c.args.step_number c.in-Some.base (step_view c.args.step.now)
-    (base_of (held c.args.env.now) (step_view c.args.step.now)) c.in_ok-answer.answer
+    (base_of (g.E.Addresses.names c.args.env.now) (step_view c.args.step.now)) c.in_ok-answer.answer
     (sym c.in-Some.is ∙ c.base_of.ensures) c.in_ok-answer.ensures.gains)

@@ -6,7 +6,7 @@ use Rattle.hm_trace.specs.Traces.{is_step}
 use Rattle.hm_trace.specs.Views.{step_view, steps_view}
 use Rattle.hm_heap.specs.Passes.{PassView}
 use Rattle.hm_replay.specs.Gains.{Gains, GainsFrontOf, GainsResults, terms_of}
-use Rattle.hm_replay.specs.Names.{Names, held}
+use Rattle.hm_replay.specs.Names.{Names}
 use Rattle.hm_replay.specs.Scripts.{Runs}
 use Rattle.hm_replay.specs.Steps.{Terms, BreaksOff, base_of, names_after}
 use Rattle.hm_replay.proofs.Fronts.{broken_front, on_err, ran_front, split_at}
@@ -30,8 +30,8 @@ loop-index-preserved g c =
     let q = c.run_step.new.pass in
     let r = c.in_ok-result.result in
     let rs = c.loop-index.results.items in
-    let names : Names = held c.args.env.now in
-    let last : Names = held c.loop-index.env in
+    let names : Names = g.E.Addresses.names c.args.env.now in
+    let last : Names = g.E.Addresses.names c.loop-index.env in
     let taken : steps_view (take (i + 1) steps) ≡ steps_view (take i steps) ++ step_view s ∷ [] =
     ap steps_view (take_more steps i s (omega arith)
     ∙ ap (λ (u : Step). take i steps ++ u ∷ []) (sym c.index-steps-index.is))
@@ -51,7 +51,7 @@ pub loop-index-init : goal.loop-index-init
 loop-index-init g c =
     let p = c.args.pass.now in
     let t = terms_of c.args.heap.now p in
-    let names : Names = held c.args.env.now in
+    let names : Names = g.E.Addresses.names c.args.env.now in
     record {
       same = refl;
       of = c.requires.of;
@@ -74,9 +74,9 @@ returns-in_err-push-clause-grew g c =
 pub returns-clause-ran : goal.returns-clause-ran
 returns-clause-ran g c =
     let rs = c.loop-index.results.items in
-    let names : Names = held c.args.env.now in
+    let names : Names = g.E.Addresses.names c.args.env.now in
     subst (λ (l : List Step). GainsResults c.args.heap.now c.args.pass.now c.loop-index.pass names (steps_view l) rs
-    (held c.loop-index.env))
+    (g.E.Addresses.names c.loop-index.env))
     (take_all c.loop-index.index c.args.steps.now (omega arith)) c.loop-index.invariant.ran
 
 pub returns-in_err-results-clause-grew : goal.returns-in_err-results-clause-grew
@@ -86,7 +86,7 @@ pub returns-in_err-results-clause-stops : goal.returns-in_err-results-clause-sto
 returns-in_err-results-clause-stops g c =
     let ts = c.args.pass.now.turns in
     let t = terms_of c.args.heap.now c.args.pass.now in
-    let names : Names = held c.args.env.now in
+    let names : Names = g.E.Addresses.names c.args.env.now in
     on_err c.from_residual.result
     (ran_front ts ts t names names (steps_view c.args.steps.now) [] (steps_view c.args.steps.now) [] refl
     (gains_none ts ts (Runs t 1 names [] [] names) refl (λ xs. (refl, refl, λ place. refl))))
@@ -100,10 +100,10 @@ returns-in_err-result-clause-stops g c =
     let p = c.args.pass.now in
     let m = c.loop-index.pass in
     let q = c.run_step.new.pass in
-    let names : Names = held c.args.env.now in
-    let last : Names = held c.loop-index.env in
+    let names : Names = g.E.Addresses.names c.args.env.now in
+    let last : Names = g.E.Addresses.names c.loop-index.env in
     on_err c.from_residual-in_err-result.result
-    (subst (λ e. GainsFrontOf c.args.heap.now p q names (steps_view steps) (held e)) (sym c.in_err-result.ensures.kept)
+    (subst (λ e. GainsFrontOf c.args.heap.now p q names (steps_view steps) (g.E.Addresses.names e)) (sym c.in_err-result.ensures.kept)
     (broken_front p.turns m.turns q.turns (terms_of c.args.heap.now p) names last (steps_view steps)
     (steps_view (take i steps)) (steps_view (drop (suc i) steps)) (step_view s) c.loop-index.results.items (i + 1)
     (steps_before steps i (omega arith)) (split_at steps i s (omega arith) c.index-steps-index.is) old.ran
@@ -121,8 +121,8 @@ returns-in_err-push-clause-stops g c =
     let q = c.run_step.new.pass in
     let r = c.in_ok-result.result in
     let rs = c.loop-index.results.items in
-    let names : Names = held c.args.env.now in
-    let last : Names = held c.loop-index.env in
+    let names : Names = g.E.Addresses.names c.args.env.now in
+    let last : Names = g.E.Addresses.names c.loop-index.env in
     let next : Names = names_after last (step_view s) r.answer in
     let before = steps_view (take i steps) in
     let after = steps_view (drop (suc i) steps) in

@@ -4,8 +4,8 @@ use Rattle.hm_trace.specs.declared.names.Name.{Name}
 use Rattle.hm_trace.specs.Views.{name_view}
 use Rattle.hm_heap.specs.Requests.{IsInReach}
 use Rattle.hm_replay.specs.Names.{held}
-use Rattle.hm_replay.proofs.Addresses.{looked}
-use Rattle.hm_replay.proofs.env.Env.get.Goals as goal
+use Rattle.hm_replay.proofs.Held.{looked}
+use Rattle.hm_replay.proofs.env.EnvAddresses.get.Goals as goal
 
 pub returns-clause-value : goal.returns-clause-value
 returns-clause-value c =
