@@ -1,4 +1,5 @@
 pub mod Held
+pub mod Keeping
 pub mod Gaining
 pub mod Trying
 pub mod Fronts

@@ -17,10 +17,10 @@ use Rattle.hm_replay.specs.declared.round.Worker.{Worker}
 use Rattle.hm_replay.specs.Workers.{all_settled, LeavesNames}
 
 -- ---- one more step is listed
-pub with_all_more : (names : Names) (left : List NameLeft) (n : NameLeft)
-    → with_all names (left ++ n ∷ []) ≡ with_name (with_all names left) (name_view n.name) n.address
-with_all_more names [] n = refl
-with_all_more names (m ∷ left) n = with_all_more (with_name names (name_view m.name) m.address) left n
+pub with_all_then : (names : Names) (left more : List NameLeft)
+    → with_all names (left ++ more) ≡ with_all (with_all names left) more
+with_all_then names [] more = refl
+with_all_then names (m ∷ left) more = with_all_then (with_name names (name_view m.name) m.address) left more
 
 chosen : (b one : Bool) (x y : Option ℕ) → cond one x (cond b x y) ≡ cond (b || one) x y
 chosen true true x y = refl
@@ -55,7 +55,7 @@ pub one_left : (names last : Names) (steps : List StepView) (s : StepView) (left
     → with_all names left ≡ settled names steps last
     → with_all names (left ++ n ∷ []) ≡ settled names (steps ++ s ∷ []) last
 one_left names last steps s left n sets address is =
-    with_all_more names left n
+    with_all_then names left (n ∷ [])
     ∙ ap (λ (o : Option ℕ). with_name (with_all names left) (name_view n.name) o) address
     ∙ ap (λ (z : Names). with_name z (name_view n.name) (last (name_view n.name))) is
     ∙ fun_ext (λ q.
@@ -74,11 +74,11 @@ kept_ok {X} {E} r o P is all = subst (λ (x : Option X). IfSome x P) (sym is) (b
     by (Ok x) all = all
 
 -- the names of one more script are settled
-settles_one : (names last : Names) (w : Worker) (o : Option (Vec NameLeft Global)) (lefts : List (Option (Vec NameLeft Global)))
-    → IfSome o (λ left. AreLeft w.script.now.steps (seen_in w.scope) left.items) → Settles names (o ∷ lefts) last
-    → Settles (settled names w.script.now.steps (seen_in w.scope)) lefts last
-settles_one names last w None lefts left s = absurd s
-settles_one names last w (Some v) lefts left s = subst (λ (z : Names). Settles z lefts last) (left.settle names) s
+settles_one : (names last : Names) (w : Worker) (o : Option (Vec NameLeft Global)) (lists : List (Option (Vec NameLeft Global)))
+    → IfSome o (λ left. AreLeft w.script.now.steps (seen_in w.scope) left.items) → Settles names (o ∷ lists) last
+    → Settles (settled names w.script.now.steps (seen_in w.scope)) lists last
+settles_one names last w None lists left s = absurd s
+settles_one names last w (Some v) lists left s = subst (λ (z : Names). Settles z lists last) (left.settle names) s
 
 pub settles_all : (names last : Names) (ws : List Worker)
     → ((i : ℕ) (w : Worker) → i < length ws → LeavesNames (slice_index_or ws i w))
@@ -90,8 +90,8 @@ settles_all names last (w ∷ ws) left s =
     (settles_one names last w w.left (map (λ (w : Worker). w.left) ws) (left 0 w (omega arith)) s)
 
 -- one script more
-pub settles_then : (names last after : Names) (lefts : List (Option (Vec NameLeft Global))) (o : Option (Vec NameLeft Global))
-    → Settles names lefts last → Settles last (o ∷ []) after → Settles names (lefts ++ o ∷ []) after
+pub settles_then : (names last after : Names) (lists : List (Option (Vec NameLeft Global))) (o : Option (Vec NameLeft Global))
+    → Settles names lists last → Settles last (o ∷ []) after → Settles names (lists ++ o ∷ []) after
 settles_then names last after [] o is one = subst (λ (z : Names). Settles z (o ∷ []) after) is one
-settles_then names last after (None ∷ lefts) o is one = absurd is
-settles_then names last after (Some v ∷ lefts) o is one = settles_then (with_all names v.items) last after lefts o is one
+settles_then names last after (None ∷ lists) o is one = absurd is
+settles_then names last after (Some v ∷ lists) o is one = settles_then (with_all names v.items) last after lists o is one

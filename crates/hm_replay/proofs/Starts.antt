@@ -73,7 +73,7 @@ ready_born locks q p' c s o k th e =
     }
 
 -- what holds of each element and of one more holds of each with that
-each_pushed : {X : Type 0} (P : ℕ → X → Type 0) (xs : List X) (x : X)
+pub each_pushed : {X : Type 0} (P : ℕ → X → Type 0) (xs : List X) (x : X)
     → ((i : ℕ) (d : X) → i < length xs → P i (slice_index_or xs i d)) → P (length xs) x
     → (i : ℕ) (d : X) → i < length (xs ++ x ∷ []) → P i (slice_index_or (xs ++ x ∷ []) i d)
 each_pushed {X} P xs x each last i d b = elim (cases_lt i (length xs)) [

@@ -1,4 +1,5 @@
 pub mod Names
+pub mod Rooms
 pub mod Uses
 pub mod Steps
 pub mod Scripts

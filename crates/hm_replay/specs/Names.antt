@@ -26,15 +26,11 @@ with_name names name given other = if is_word name other then given else names o
 abbrev pub settled : Names → List StepView → Names → Names
 settled names steps last name = if list_any (sets_name name) steps then last name else names name
 
--- ---- addresses by names, as they are kept
+-- ---- names as they are kept
 -- what is kept for each name
 abbrev pub held : {X : Type 0} → List (Name × X) → List ℕ → Option X
 held [] name = None
 held (e ∷ entries) name = if is_word name (name_view e.0) then Some e.1 else held entries name
-
--- blocks lie there
-abbrev pub AllInReach : List (Name × ℕ) → Type 0
-AllInReach entries = (name : List ℕ) → IfSome (held entries name) IsInReach
 
 -- ---- the names as one script of a round sees them
 -- those of the round, and what the script has set or unset
@@ -45,7 +41,7 @@ ScopeView = List (Name × ℕ) × List (Name × Option ℕ)
 abbrev pub seen_in : ScopeView → Names
 seen_in s name = option_map_or (λ given. given) (held s.1 name) (held s.0 name)
 
--- blocks lie where names are set
+-- blocks lie there
 abbrev pub GivenInReach : List (Name × Option ℕ) → Type 0
 GivenInReach entries = (name : List ℕ) → IfSome (held entries name) (λ given. IfSome given IsInReach)
 
@@ -62,5 +58,5 @@ pub record AreLeft (steps : List StepView) (last : Names) (left : List NameLeft)
 -- the names that each script left are set in turn: these are the last names
 abbrev pub Settles : Names → List (Option (Vec NameLeft Global)) → Names → Type 0
 Settles names [] last = last ≡ names
-Settles names (None ∷ lefts) last = ⊥
-Settles names (Some left ∷ lefts) last = Settles (with_all names left.items) lefts last
+Settles names (None ∷ lists) last = ⊥
+Settles names (Some left ∷ lists) last = Settles (with_all names left.items) lists last

@@ -1,30 +1,32 @@
 //! The addresses that names hold from round to round.
-ghost use Rattle.std.specs.Prelude.{◌≡◌, IfOk};
-ghost use Rattle.hm_replay.specs.Names.{no_names, held};
+ghost use Rattle.std.specs.Prelude.{◌≡◌, OnOk, OnErr};
+ghost use Rattle.hm_replay.specs.Names.{no_names, held, with_all};
 
 use crate::addresses::Addresses;
+use crate::left::NameLeft;
+use crate::rooms::{put_all, take_rooms};
 use hm_outside::NoMemory;
 use hm_trace::Name;
 use std::alloc::Global;
 use std::collections::BTreeMap;
 use std::marker::Model;
 
-/// The names that are set, each with its address.
+/// The names that are set, each with its address. A name that is unset may keep its room.
 #[derive(Drop)]
 pub struct Env {
-    addresses: BTreeMap<Name, u64>,
+    addresses: BTreeMap<Name, Option<u64>>,
 }
 
 impl Model for Env {
     ghost use Rattle.std.specs.Prelude.{ℕ, List};
     ghost use Rattle.hm_trace.specs.declared.names.Name.{Name};
-    ghost use Rattle.hm_replay.specs.Names.{AllInReach};
+    ghost use Rattle.hm_replay.specs.Rooms.{set_in, AreRooms};
 
     ghost Value = { List (Name × ℕ) };
 
-    ghost view = { λ e. e.addresses.entries };
+    ghost view = { λ e. set_in e.addresses.entries };
 
-    ghost invariant = { λ e. AllInReach e.addresses.entries };
+    ghost invariant = { λ e. AreRooms e.addresses.entries };
 }
 
 impl Env {
@@ -37,12 +39,14 @@ impl Env {
         }
     }
 
-    /// The same names again.
-    pub(crate) fn copy(&self) -> Result<Env, NoMemory>
-        ensures { IfOk result (λ env. held env ≡ held self.now) }
+    /// Sets all of these names or, for want of memory, none. Only names that were never set before take memory.
+    pub(crate) fn set_all(&mut self, left: &[NameLeft]) -> Result<(), NoMemory>
+        ensures value { OnOk result (held self.new ≡ with_all (held self.old) left.now) }
+        ensures memory { OnErr result (self.new ≡ self.old) }
     {
-        let addresses = self.addresses.clone()?;
-        Ok(Env { addresses })
+        take_rooms(&mut self.addresses, left)?;
+        put_all(&mut self.addresses, left);
+        Ok(())
     }
 }
 
@@ -50,18 +54,14 @@ impl Addresses for Env {
     ghost names = { λ e. held e };
 
     fn get(&self, name: &Name) -> Option<u64> {
-        self.addresses.get(name).copied()
+        match self.addresses.get(name).copied() {
+            Some(given) => given,
+            None => None,
+        }
     }
 
     fn set(&mut self, name: Name, given: Option<u64>) -> Result<(), NoMemory> {
-        match given {
-            Some(addr) => {
-                let _ = self.addresses.insert(name, addr)?;
-            }
-            None => {
-                let _ = self.addresses.remove(&name);
-            }
-        }
+        let _ = self.addresses.insert(name, given)?;
         Ok(())
     }
 }

@@ -9,6 +9,7 @@ mod left;
 mod merge;
 mod naming;
 mod places;
+mod rooms;
 mod round;
 mod scope;
 mod script;

@@ -8,7 +8,7 @@ ghost use Rattle.hm_replay.specs.Workers.{IsReady, HasRun, KeepsMade, MakesFront
 
 use crate::env::Env;
 use crate::left::NameLeft;
-use crate::merge::{names_left, settle};
+use crate::merge::{all_left, names_left};
 use crate::scope::Scope;
 use crate::script::run_with;
 use hm_heap::{Heap, Pass};
@@ -127,16 +127,16 @@ fn finish<P: Pages, G: Gate>(
     root: &mut Pass,
     workers: Vec<Worker<'_, '_>>,
     found: &mut Vec<Option<Results>>,
-    lefts: &mut Vec<Option<Vec<NameLeft>>>,
+    lists: &mut Vec<Option<Vec<NameLeft>>>,
 )
     requires of { AreOf heap.now.locks root.old.turns }
     requires root { root.old.caller ≡ 0 }
     requires passes { (i : ℕ) (w : _) → i < vec_len workers
         → AreOf heap.now.locks (slice_index_or workers.items i w).pass.turns }
     requires room { (found.old.items ≡ []) × (vec_len workers ≤ vec_capacity found.old) }
-    requires space { (lefts.old.items ≡ []) × (vec_len workers ≤ vec_capacity lefts.old) }
+    requires space { (lists.old.items ≡ []) × (vec_len workers ≤ vec_capacity lists.old) }
     ensures passes { FinishedTo heap.now.locks root.old root.new workers.entry.items found.new.items }
-    ensures lefts { lefts.new.items ≡ map (λ w. w.left) workers.entry.items }
+    ensures lists { lists.new.items ≡ map (λ w. w.left) workers.entry.items }
 {
     for worker in workers {
         let Worker {
@@ -147,7 +147,7 @@ fn finish<P: Pages, G: Gate>(
         } = worker;
         heap.join(root, pass);
         found.push_reserved(results);
-        lefts.push_reserved(left);
+        lists.push_reserved(left);
     }
 }
 
@@ -192,15 +192,16 @@ pub fn run_round<R: Threads + Wait + Sync, P: Pages, G: Gate>(
     let scripts = round.scripts();
     let mut workers = Vec::with_capacity(alloc, scripts.len())?;
     let mut found = Vec::with_capacity(alloc, scripts.len())?;
-    let mut lefts = Vec::with_capacity(alloc, scripts.len())?;
+    let mut lists = Vec::with_capacity(alloc, scripts.len())?;
     if start(alloc, heap, root, number, scripts, env, &mut workers).is_err() {
-        finish(heap, root, workers, &mut found, &mut lefts);
+        finish(heap, root, workers, &mut found, &mut lists);
         return Err(NoMemory);
     }
     let threads = workers.len().max(1);
     work(rt, alloc, heap, &mut workers, threads);
-    finish(heap, root, workers, &mut found, &mut lefts);
+    finish(heap, root, workers, &mut found, &mut lists);
     let results = all_found(alloc, found)?;
-    settle(env, &lefts)?;
+    let left = all_left(alloc, &lists)?;
+    env.set_all(&left)?;
     Ok(results)
 }

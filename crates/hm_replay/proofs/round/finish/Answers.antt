@@ -17,15 +17,15 @@ loop-worker-preserved g c = let i = c.loop-worker.invariant in
     let p : PassView = c.args.root.now in
     let q : PassView = c.loop-worker.root in
     let found : List (Option Results) = c.loop-worker.found.items in
-    let lefts : List (Option (Vec NameLeft Global)) = c.loop-worker.lefts.items in (
+    let lists : List (Option (Vec NameLeft Global)) = c.loop-worker.lists.items in (
       rw c.push_reserved.ensures.items
           (finishing_more locks p q c.join.new.root workers c.next.new.self.rest.items c.in-Some.worker found
           (subst (λ z. FinishingFrom locks p q workers z found) e i.0) c.join.ensures.root c.join.ensures.callers),
       grind arith,
       ap (λ (l : List (Option (Vec NameLeft Global))). l ++ map (λ (w : Worker). w.left) c.next.new.self.rest.items)
           c.push_reserved-in-loop-worker.ensures.items
-          ∙ append_assoc lefts (c.in-Some.worker.left ∷ []) (map (λ (w : Worker). w.left) c.next.new.self.rest.items)
-          ∙ subst (λ (z : List Worker). lefts ++ map (λ (w : Worker). w.left) z ≡ map (λ (w : Worker). w.left) workers)
+          ∙ append_assoc lists (c.in-Some.worker.left ∷ []) (map (λ (w : Worker). w.left) c.next.new.self.rest.items)
+          ∙ subst (λ (z : List Worker). lists ++ map (λ (w : Worker). w.left) z ≡ map (λ (w : Worker). w.left) workers)
           e i.2,
       grind arith,
       grind arith,

@@ -7,6 +7,6 @@ abbrev pub invariant-loop-worker : goal.invariant-loop-worker
 invariant-loop-worker g l =
     FinishingFrom l.fn.heap.locks l.fn.root l.root l.fn.workers.items l.worker-iterator.rest.items l.found.items
     × (vec_len l.fn.workers ≤ vec_capacity l.found)
-    × (l.lefts.items ++ map (λ (w : Worker). w.left) l.worker-iterator.rest.items
+    × (l.lists.items ++ map (λ (w : Worker). w.left) l.worker-iterator.rest.items
     ≡ map (λ (w : Worker). w.left) l.fn.workers.items)
-    × (vec_len l.lefts ≡ vec_len l.found) × (vec_len l.fn.workers ≤ vec_capacity l.lefts)
+    × (vec_len l.lists ≡ vec_len l.found) × (vec_len l.fn.workers ≤ vec_capacity l.lists)

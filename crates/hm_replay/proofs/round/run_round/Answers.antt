@@ -1,11 +1,11 @@
-use Rattle.std.proofs.Common.{arith, ◌≡◌, ℕ, ◌+◌, List, length, map, slice_index_or, vec_len, Vec, Option, subst, refl, sym, ◌∙◌, ap}
+use Rattle.std.proofs.Common.{arith, ◌≡◌, ℕ, ◌+◌, List, length, map, slice_index_or, vec_len, subst, refl, sym, ◌∙◌, ap}
+use mathlib.Core.Path.{transport}
 use Rattle.hm_report.specs.declared.results.Results.{Results}
-use Rattle.std.specs.declared.alloc.Global.{Global}
 use Rattle.hm_trace.specs.Views.{ScriptView}
 use Rattle.hm_turn.specs.Known.{Lock}
 use Rattle.hm_heap.specs.Passes.{PassView}
 use Rattle.hm_replay.specs.declared.round.Worker.{Worker}
-use Rattle.hm_replay.specs.Names.{Names, held, Settles}
+use Rattle.hm_replay.specs.Names.{Names, held, Settles, with_all}
 use Rattle.hm_replay.specs.declared.left.NameLeft.{NameLeft}
 use Rattle.hm_replay.specs.RoundOf.{ended_in}
 use Rattle.hm_replay.specs.Rounds.{RunsRound}
@@ -46,8 +46,25 @@ returns-in_err-results-clause-root g c =
     (sym vs.ok.0 ∙ c.work.ensures.len ∙ ws.ok.0) c.work.ensures.run
     c.finish-2.new.root _ c.finish-2.ensures.passes
 
-pub returns-in_err-settle-clause-root : goal.returns-in_err-settle-clause-root
-returns-in_err-settle-clause-root g c =
+pub returns-in_err-left-clause-root : goal.returns-in_err-left-clause-root
+returns-in_err-left-clause-root g c =
+    let s = c.start.ensures in
+    let ws = c.start.new.workers in
+    let locks : List Lock = c.args.heap.now.locks in
+    let total : ℕ = length c.args.round.now in
+    let p : PassView = c.args.root.now in
+    let q : PassView = c.start.new.root in
+    let names : Names = held c.args.env.now in
+    let started : IsStartedBy locks c.args.number total p q names ws.items =
+    started_by locks c.args.number _ total p q names ws.items (vec_len ws) ws.ok.0 c.requires.of s.root s.workers s.some
+    (ap (λ (l : List ScriptView). length l) c.scripts-scripts.ensures.all) in
+    let vs = c.work.new.workers in
+    leaves_run locks c.args.number total p q names ws.items started vs.items
+    (sym vs.ok.0 ∙ c.work.ensures.len ∙ ws.ok.0) c.work.ensures.run
+    c.finish-2.new.root _ c.finish-2.ensures.passes
+
+pub returns-in_err-set_all-clause-root : goal.returns-in_err-set_all-clause-root
+returns-in_err-set_all-clause-root g c =
     let s = c.start.ensures in
     let ws = c.start.new.workers in
     let locks : List Lock = c.args.heap.now.locks in
@@ -101,11 +118,14 @@ returns-clause-ran g c =
     let of_round : map (λ (w : Worker). w.script.now) vs.items ≡ c.args.round.now =
     scripts_are ws.items vs.items c.scripts-scripts.result.now same (sym ws.ok.0 ∙ all) c.work.ensures.script
     (λ i w x l. s.scripts i w x (omega (arith, l, ws.ok.0))) ∙ c.scripts-scripts.ensures.all in
-    let now : Names = held c.settle.new.env in
+    let now : Names = held c.set_all.new.self in
+    let lists : c.deref.result.now ≡ map (λ (w : Worker). w.left) vs.items =
+    c.deref.ensures.value ∙ c.finish-2.ensures.lists in
+    let set : now ≡ with_all names c.in_ok-left.left.items =
+    c.in_ok-set_all.ensures.value ∙ ap (λ (l : List NameLeft). with_all names l) c.deref-2.ensures.value in
     let last : now ≡ all_settled names vs.items =
     settles_all names now vs.items (λ i w l. c.work.ensures.names i w (omega (arith, l, same)))
-    (subst (λ (l : List (Option (Vec NameLeft Global))). Settles names l now)
-    (c.deref.ensures.value ∙ c.finish-2.ensures.lefts) c.in_ok-settle.ensures.value) in
+    (transport (λ i. Settles names (lists i) (sym set i)) (c.in_ok-left.ensures names)) in
     subst (λ (l : Names). RunsRound config (ended_in z.turns)
     (p.splits + 1) c.args.number names names c.args.round.now rs l) (sym last)
     (subst (λ (l : List ScriptView). RunsRound config (ended_in z.turns) (p.splits + 1) c.args.number names names l rs
@@ -154,8 +174,28 @@ returns-in_err-results-clause-begun g c =
     vs.items (sym vs.ok.0 ∙ c.work.ensures.len ∙ ws.ok.0) c.work.ensures.run c.work.ensures.fronts c.work.ensures.script
     c.finish-2.ensures.passes
 
-pub returns-in_err-settle-clause-begun : goal.returns-in_err-settle-clause-begun
-returns-in_err-settle-clause-begun g c =
+pub returns-in_err-left-clause-begun : goal.returns-in_err-left-clause-begun
+returns-in_err-left-clause-begun g c =
+    let s = c.start.ensures in
+    let ws = c.start.new.workers in
+    let locks : List Lock = c.args.heap.now.locks in
+    let total : ℕ = length c.args.round.now in
+    let p : PassView = c.args.root.now in
+    let q : PassView = c.start.new.root in
+    let names : Names = held c.args.env.now in
+    let all = c.scripts-scripts.ensures.all in
+    let started : IsStartedBy locks c.args.number total p q names ws.items =
+    started_by locks c.args.number _ total p q names ws.items (vec_len ws) ws.ok.0 c.requires.of s.root s.workers s.some
+    (ap (λ (l : List ScriptView). length l) all) in
+    let vs = c.work.new.workers in
+    begins_run c.args.heap.now.config locks c.args.number total p q c.finish-2.new.root names ws.items _ started
+    c.args.round.now refl
+    (λ i w x l. s.scripts i w x (omega (arith, l, ws.ok.0)) ∙ ap (λ (y : List ScriptView). slice_index_or y i x) all)
+    vs.items (sym vs.ok.0 ∙ c.work.ensures.len ∙ ws.ok.0) c.work.ensures.run c.work.ensures.fronts c.work.ensures.script
+    c.finish-2.ensures.passes
+
+pub returns-in_err-set_all-clause-begun : goal.returns-in_err-set_all-clause-begun
+returns-in_err-set_all-clause-begun g c =
     let s = c.start.ensures in
     let ws = c.start.new.workers in
     let locks : List Lock = c.args.heap.now.locks in

@@ -1,0 +1,28 @@
+-- Rooms for names, and which of them are set.
+use Rattle.std.specs.Prelude.{◌≡◌, ◌<◌, ℕ, List, [], ◌∷◌, length, slice_index_or, Option, Some, None, IsSome, ⊤}
+use Rattle.hm_trace.specs.declared.names.Name.{Name}
+use Rattle.hm_trace.specs.Views.{name_view}
+use Rattle.hm_replay.specs.declared.left.NameLeft.{NameLeft}
+use Rattle.hm_replay.specs.Names.{GivenInReach, held}
+
+-- the names that are set, each with its address
+abbrev pub set_also : Name → Option ℕ → List (Name × ℕ) → List (Name × ℕ)
+set_also name None entries = entries
+set_also name (Some a) entries = (name, a) ∷ entries
+
+abbrev pub set_in : List (Name × Option ℕ) → List (Name × ℕ)
+set_in [] = []
+set_in (e ∷ rooms) = set_also e.0 e.1 (set_in rooms)
+
+-- each name has one room
+abbrev pub Once : List (Name × Option ℕ) → Type 0
+Once [] = ⊤
+Once (e ∷ rooms) = (held rooms (name_view e.0) ≡ None) × Once rooms
+
+pub record AreRooms (rooms : List (Name × Option ℕ)) : Type 0 where
+  pub once : Once rooms
+  pub reach : GivenInReach rooms
+
+-- each of these names has room
+pub record HaveRooms (rooms : List (Name × Option ℕ)) (left : List NameLeft) : Type 0 where
+  pub each : (i : ℕ) (n : NameLeft) → i < length left → IsSome (held rooms (name_view (slice_index_or left i n).name))

@@ -1,0 +1,66 @@
+//! Rooms for names: all that may take memory is done before the first name is set.
+ghost use Rattle.std.specs.Prelude.{◌≡◌, List, ℕ, OnOk, IsSome};
+ghost use Rattle.hm_trace.specs.Views.{name_view};
+ghost use Rattle.hm_replay.specs.Names.{held, with_name, with_all};
+ghost use Rattle.hm_replay.specs.Rooms.{set_in, AreRooms, HaveRooms};
+
+use crate::left::NameLeft;
+use hm_outside::NoMemory;
+use hm_trace::Name;
+use std::collections::BTreeMap;
+
+// Takes room for a name, which stays as it is.
+fn take_room(rooms: &mut BTreeMap<Name, Option<u64>>, name: Name) -> Result<(), NoMemory>
+    requires rooms { AreRooms rooms.old.entries }
+    ensures rooms { AreRooms rooms.new.entries }
+    ensures same { set_in rooms.new.entries ≡ set_in rooms.old.entries }
+    ensures room { OnOk result (IsSome (held rooms.new.entries (name_view name))) }
+    ensures others { (q : List ℕ) → IsSome (held rooms.old.entries q) → IsSome (held rooms.new.entries q) }
+{
+    if rooms.contains_key(&name) {
+        return Ok(());
+    }
+    let _ = rooms.insert(name, None)?;
+    Ok(())
+}
+
+/// Takes room for each of these names. None is set or unset by it.
+pub(crate) fn take_rooms(
+    rooms: &mut BTreeMap<Name, Option<u64>>,
+    left: &[NameLeft],
+) -> Result<(), NoMemory>
+    requires rooms { AreRooms rooms.old.entries }
+    ensures rooms { AreRooms rooms.new.entries }
+    ensures same { set_in rooms.new.entries ≡ set_in rooms.old.entries }
+    ensures room { OnOk result (HaveRooms rooms.new.entries left.now) }
+{
+    for name in left {
+        take_room(rooms, name.name)?;
+    }
+    Ok(())
+}
+
+// Sets or unsets a name that has room.
+fn put(rooms: &mut BTreeMap<Name, Option<u64>>, left: &NameLeft)
+    requires rooms { AreRooms rooms.old.entries }
+    requires room { IsSome (held rooms.old.entries (name_view left.now.name)) }
+    ensures rooms { AreRooms rooms.new.entries }
+    ensures value { held (set_in rooms.new.entries)
+        ≡ with_name (held (set_in rooms.old.entries)) (name_view left.now.name) left.now.address }
+    ensures others { (q : List ℕ) → IsSome (held rooms.old.entries q) → IsSome (held rooms.new.entries q) }
+{
+    // A name that has room takes no memory, so this does not fail.
+    let _ = rooms.insert(left.name, left.address);
+}
+
+/// Sets or unsets each of these names, which all have room.
+pub(crate) fn put_all(rooms: &mut BTreeMap<Name, Option<u64>>, left: &[NameLeft])
+    requires rooms { AreRooms rooms.old.entries }
+    requires room { HaveRooms rooms.old.entries left.now }
+    ensures rooms { AreRooms rooms.new.entries }
+    ensures value { held (set_in rooms.new.entries) ≡ with_all (held (set_in rooms.old.entries)) left.now }
+{
+    for name in left {
+        put(rooms, name);
+    }
+}
