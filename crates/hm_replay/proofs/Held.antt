@@ -8,10 +8,15 @@ use Rattle.std.specs.Map.{lookup}
 use Rattle.std.specs.Cmp.Lexicographic.{pointwise, same_text, slice_cmp, texts_ties}
 use Rattle.std.specs.Option.{option_map_or}
 use Rattle.std.specs.Ordering.{nat_cmp, eq_by_cmp}
+use Rattle.std.specs.declared.cmp.Ordering.{Ordering}
 use Rattle.hm_trace.specs.declared.names.Name.{Name}
 use Rattle.hm_trace.specs.Names.{is_word}
 use Rattle.hm_trace.specs.Views.{name_view}
 use Rattle.hm_replay.specs.Names.{held, seen_in, with_name}
+
+-- the order of names, which is that of their bytes
+abbrev pub by_bytes : Name → Name → Ordering
+by_bytes n m = slice_cmp nat_cmp (name_view n) (name_view m)
 
 module _ {X : Type 0} where
   -- a lookup by the order is a lookup by the text

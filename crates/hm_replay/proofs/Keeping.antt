@@ -6,9 +6,9 @@ use Rattle.std.specs.BTreeMap.{insert_entry}
 use Rattle.std.specs.Map.{keys_of}
 use Rattle.std.specs.List.{AllByRecursion}
 use Rattle.std.specs.List.Sorted.{IsStrictlySortedBy}
-use Rattle.std.specs.Cmp.Lexicographic.{same_text, slice_cmp, texts_ties}
+use Rattle.std.specs.Cmp.Lexicographic.{same_text, texts_ties}
 use Rattle.std.specs.Option.{is_some, option_map_or}
-use Rattle.std.specs.Ordering.{is_eq, match_ordering, nat_cmp}
+use Rattle.std.specs.Ordering.{is_eq, match_ordering}
 use Rattle.std.specs.declared.cmp.Ordering.{Ordering}
 use Rattle.std.specs.declared.cmp.Ordering.TheVariants.{Less, Equal, Greater}
 use Rattle.hm_trace.specs.declared.names.Name.{Name}
@@ -18,7 +18,7 @@ use Rattle.hm_heap.specs.Requests.{IsInReach}
 use Rattle.hm_replay.specs.declared.left.NameLeft.{NameLeft}
 use Rattle.hm_replay.specs.Names.{held, seen_in, with_name}
 use Rattle.hm_replay.specs.Rooms.{set_also, set_in, Once, AreRooms, HaveRooms}
-use Rattle.hm_replay.proofs.Held.{Updated, by_order, inserted_each, looked, set_over, updated}
+use Rattle.hm_replay.proofs.Held.{Updated, by_bytes, by_order, inserted_each, looked, set_over, updated}
 use Rattle.hm_replay.proofs.Starts.{each_pushed}
 
 -- ---- what is set is what is held
@@ -37,9 +37,6 @@ held_set [] once q = refl
 held_set (e ∷ es) once q = held_by e.0 e.1 es q (is_word q (name_view e.0)) refl once.0 (held_set es once.1 q)
 
 -- ---- names in order stand there once
-abbrev pub by_bytes : Name → Name → Ordering
-by_bytes n m = slice_cmp nat_cmp (name_view n) (name_view m)
-
 not_held : (x : Name) (es : List (Name × Option ℕ)) → AllByRecursion (λ (y : Name). by_bytes x y ≡ Less) (keys_of es)
     → held es (name_view x) ≡ None
 not_held x [] all = refl

@@ -1,68 +1,96 @@
--- The names that a script leaves are listed, and set among others.
-use Rattle.std.proofs.Common.{◌≡◌, ℕ, ◌||◌, ◌<◌, Bool, true, false, cond, List, [], ◌∷◌, ◌++◌, length, slice_index_or, map, Option, Some, None, IfSome, Result, Ok, Err, IfOk, Vec, arith, refl, sym, ◌∙◌, ap, subst, suc}
-use Rattle.std.proofs.Math.Bool.{or-false}
-use Rattle.std.proofs.lemmas.List.Folds.{list_any-append}
-use Rattle.std.specs.List.{list_any}
-use Rattle.std.specs.Option.{option_map_or}
-use Rattle.std.specs.Result.{result_ok}
-use Rattle.std.specs.Cmp.Lexicographic.{same_text}
-use mathlib.Core.Path.{fun_ext}
-use Rattle.std.specs.declared.alloc.Global.{Global}
+-- The names that steps set are gathered, and those that a script leaves are listed.
+use Rattle.hm_replay.specs.Names.{Names, is_one_of, merged, settled, with_name, AreSetBy, seen_in, with_all, AreLeft, Settles}
+use Rattle.hm_replay.proofs.Held.{by_bytes}
+use Rattle.hm_replay.specs.Workers.{all_settled, LeavesNames}
+use Rattle.hm_replay.specs.declared.left.NameLeft.{NameLeft}
+use Rattle.hm_replay.specs.declared.round.Worker.{Worker}
 use Rattle.hm_trace.specs.Names.{is_word}
 use Rattle.hm_trace.specs.Traces.{name_set, sets_name}
 use Rattle.hm_trace.specs.Views.{StepView, name_view}
-use Rattle.hm_replay.specs.Names.{Names, seen_in, settled, with_all, with_name, AreLeft, Settles}
-use Rattle.hm_replay.specs.declared.left.NameLeft.{NameLeft}
-use Rattle.hm_replay.specs.declared.round.Worker.{Worker}
-use Rattle.hm_replay.specs.Workers.{all_settled, LeavesNames}
+use Rattle.hm_trace.specs.declared.names.Name.{Name}
+use Rattle.std.proofs.Common.{◌≡◌, ℕ, ◌||◌, Bool, true, false, cond, List, [], ◌∷◌, ◌++◌, Option, Some, None, Result, Ok, Err, IfOk, IfSome, refl, sym, ◌∙◌, ap, subst, ◌<◌, length, slice_index_or, map, Vec, arith, suc}
+use Rattle.std.proofs.Math.Bool.{or-false, or_assoc, or_comm, or_self_left}
+use Rattle.std.specs.BTreeSet.{insert_key}
+use Rattle.std.specs.Cmp.Lexicographic.{same_text, texts_ties}
+use Rattle.std.specs.Option.{option_map_or}
+use Rattle.std.specs.Ordering.{is_eq, match_ordering}
+use Rattle.std.specs.Result.{result_ok}
+use Rattle.std.specs.declared.alloc.Global.{Global}
+use Rattle.std.specs.declared.cmp.Ordering.TheVariants.{Less, Equal, Greater}
+use Rattle.std.specs.declared.cmp.Ordering.{Ordering}
 
--- ---- one more step is listed
+-- ---- one more name is gathered
+joined : (k n : Name) (ns : List Name) (q : List ℕ) (o : Ordering) → by_bytes k n ≡ o
+    → is_one_of q (insert_key by_bytes ns k) ≡ (is_word (name_view k) q || is_one_of q ns)
+    → is_one_of q (match_ordering o (k ∷ n ∷ ns) (n ∷ ns) (n ∷ insert_key by_bytes ns k))
+    ≡ (is_word (name_view k) q || is_one_of q (n ∷ ns))
+joined k n ns q Less is later = refl
+joined k n ns q Equal is later =
+    let same : name_view k ≡ name_view n =
+    same_text (name_view k) (name_view n) (sym (texts_ties (name_view k) (name_view n) ∙ ap is_eq is)) in
+    sym (or_self_left (is_word (name_view n) q) (is_one_of q ns))
+    ∙ ap (λ (w : List ℕ). is_word w q || is_one_of q (n ∷ ns)) (sym same)
+joined k n ns q Greater is later =
+    let here : Bool = is_word (name_view k) q in
+    let there : Bool = is_word (name_view n) q in
+    let rest : Bool = is_one_of q ns in
+    ap (λ (b : Bool). there || b) later ∙ sym (or_assoc there here rest)
+    ∙ ap (λ (b : Bool). b || rest) (or_comm there here)
+    ∙ or_assoc here there rest
+
+inserted : (k : Name) (ns : List Name) (q : List ℕ)
+    → is_one_of q (insert_key by_bytes ns k) ≡ (is_word (name_view k) q || is_one_of q ns)
+inserted k [] q = refl
+inserted k (n ∷ ns) q = joined k n ns q (by_bytes k n) refl (inserted k ns q)
+
+taken_by : (ns : List Name) (s : StepView) (q : List ℕ) (o : Option (List ℕ)) → o ≡ name_set s
+    → (is_one_of q ns || option_map_or (λ (n : List ℕ). is_word n q) o false) ≡ (is_one_of q ns || sets_name q s)
+taken_by ns s q o = ap (λ (o : Option (List ℕ)). is_one_of q ns || option_map_or (λ (n : List ℕ). is_word n q) o false)
+
+-- a step that sets none
+pub none_taken : (ns : List Name) (s : StepView) (q : List ℕ) → None ≡ name_set s
+    → is_one_of q ns ≡ (is_one_of q ns || sets_name q s)
+none_taken ns s q is = sym (or-false (is_one_of q ns)) ∙ taken_by ns s q None is
+
+-- a step that sets this name
+pub one_taken : (ns ms : List Name) (k : Name) (s : StepView) (q : List ℕ) → Some (name_view k) ≡ name_set s
+    → ms ≡ insert_key by_bytes ns k → is_one_of q ms ≡ (is_one_of q ns || sets_name q s)
+one_taken ns ms k s q is keys =
+    ap (λ (l : List Name). is_one_of q l) keys ∙ inserted k ns q ∙ or_comm (is_word (name_view k) q) (is_one_of q ns)
+    ∙ taken_by ns s q (Some (name_view k)) is
+
+-- ---- one more name is merged
+chosen : (names last : Names) (name q : List ℕ) (b rest : Bool) → is_word name q ≡ b
+    → cond rest (last q) (cond b (last name) (names q)) ≡ cond (b || rest) (last q) (names q)
+chosen names last name q true true is = refl
+chosen names last name q true false is = ap last (same_text name q (sym is))
+chosen names last name q false true is = refl
+chosen names last name q false false is = refl
+
+pub merged_one : (names last : Names) (k : Name) (ns : List Name)
+    → merged (with_name names (name_view k) (last (name_view k))) ns last ≡ merged names (k ∷ ns) last
+merged_one names last k ns = λ i q. chosen names last (name_view k) q (is_word (name_view k) q) (is_one_of q ns) refl i
+
+-- the names that the steps set, merged, are settled
+pub merged_settled : (names last : Names) (steps : List StepView) (ns : List Name) → AreSetBy steps ns
+    → merged names ns last ≡ settled names steps last
+merged_settled names last steps ns all = λ i q. ap (λ (b : Bool). cond b (last q) (names q)) (all.each q) i
+
+-- ---- one more name is listed
 pub with_all_then : (names : Names) (left more : List NameLeft)
     → with_all names (left ++ more) ≡ with_all (with_all names left) more
 with_all_then names [] more = refl
 with_all_then names (m ∷ left) more = with_all_then (with_name names (name_view m.name) m.address) left more
 
-chosen : (b one : Bool) (x y : Option ℕ) → cond one x (cond b x y) ≡ cond (b || one) x y
-chosen true true x y = refl
-chosen true false x y = refl
-chosen false true x y = refl
-chosen false false x y = refl
-
-settled_more : (names last : Names) (steps : List StepView) (s : StepView) (q : List ℕ)
-    → cond (sets_name q s) (last q) (settled names steps last q) ≡ settled names (steps ++ s ∷ []) last q
-settled_more names last steps s q =
-    chosen (list_any (sets_name q) steps) (sets_name q s) (last q) (names q)
-    ∙ ap (λ (b : Bool). cond b (last q) (names q))
-    (ap (λ (b : Bool). list_any (sets_name q) steps || b) (sym (or-false (sets_name q s)))
-    ∙ sym (list_any-append (sets_name q) steps (s ∷ [])))
-
--- a step that sets no name
-pub none_left : (names last : Names) (steps : List StepView) (s : StepView) (all : Names) → None ≡ name_set s
-    → all ≡ settled names steps last → all ≡ settled names (steps ++ s ∷ []) last
-none_left names last steps s all none is = is ∙ fun_ext (λ q.
-    ap (λ (o : Option (List ℕ)). cond (option_map_or (λ (n : List ℕ). is_word n q) o false) (last q) (settled names steps last q))
-    none
-    ∙ settled_more names last steps s q)
-
-same_last : (last names : Names) (name q : List ℕ) (b : Bool) → is_word name q ≡ b
-    → cond b (last name) (names q) ≡ cond b (last q) (names q)
-same_last last names name q true is = ap last (same_text name q (sym is))
-same_last last names name q false is = refl
-
--- a step that sets this one
-pub one_left : (names last : Names) (steps : List StepView) (s : StepView) (left : List NameLeft) (n : NameLeft)
-    → Some (name_view n.name) ≡ name_set s → n.address ≡ last (name_view n.name)
-    → with_all names left ≡ settled names steps last
-    → with_all names (left ++ n ∷ []) ≡ settled names (steps ++ s ∷ []) last
-one_left names last steps s left n sets address is =
-    with_all_then names left (n ∷ [])
-    ∙ ap (λ (o : Option ℕ). with_name (with_all names left) (name_view n.name) o) address
-    ∙ ap (λ (z : Names). with_name z (name_view n.name) (last (name_view n.name))) is
-    ∙ fun_ext (λ q.
-    same_last last (settled names steps last) (name_view n.name) q (is_word (name_view n.name) q) refl
-    ∙ ap (λ (o : Option (List ℕ)). cond (option_map_or (λ (n : List ℕ). is_word n q) o false) (last q) (settled names steps last q))
-    sets
-    ∙ settled_more names last steps s q)
+pub listed_more : (names last : Names) (steps : List StepView) (left : List NameLeft) (n : NameLeft) (rest : List Name)
+    → n.address ≡ last (name_view n.name)
+    → merged (with_all names left) (n.name ∷ rest) last ≡ settled names steps last
+    → merged (with_all names (left ++ n ∷ [])) rest last ≡ settled names steps last
+listed_more names last steps left n rest address is =
+    ap (λ (z : Names). merged z rest last)
+    (with_all_then names left (n ∷ [])
+    ∙ ap (λ (o : Option ℕ). with_name (with_all names left) (name_view n.name) o) address)
+    ∙ merged_one (with_all names left) last n.name rest ∙ is
 
 -- ---- the lists of all workers
 -- what was answered, as a worker keeps it

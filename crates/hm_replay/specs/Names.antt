@@ -1,5 +1,5 @@
 -- Names, and the addresses that they hold.
-use Rattle.std.specs.Prelude.{◌≡◌, ℕ, if◌then◌else◌, List, [], ◌∷◌, Option, Some, None, IfSome, Vec}
+use Rattle.std.specs.Prelude.{◌≡◌, ℕ, Bool, if◌then◌else◌, List, [], ◌∷◌, Option, Some, None, IfSome, Vec}
 use Rattle.std.specs.List.{list_any}
 use Rattle.std.specs.Option.{option_map_or}
 use Rattle.std.specs.declared.alloc.Global.{Global}
@@ -44,6 +44,19 @@ seen_in s name = option_map_or (λ given. given) (held s.1 name) (held s.0 name)
 -- blocks lie there
 abbrev pub GivenInReach : List (Name × Option ℕ) → Type 0
 GivenInReach entries = (name : List ℕ) → IfSome (held entries name) (λ given. IfSome given IsInReach)
+
+-- ---- the names that steps set
+-- one of these names
+abbrev pub is_one_of : List ℕ → List Name → Bool
+is_one_of name these = list_any (λ (n : Name). is_word (name_view n) name) these
+
+-- each of these names holds what it holds in these last names
+abbrev pub merged : Names → List Name → Names → Names
+merged names these last name = if is_one_of name these then last name else names name
+
+-- these are the names that the steps set
+pub record AreSetBy (steps : List StepView) (these : List Name) : Type 0 where
+  pub each : (name : List ℕ) → is_one_of name these ≡ list_any (sets_name name) steps
 
 -- ---- the names that a script leaves
 -- each of these names in turn is set to its address, or unset

@@ -1,47 +1,47 @@
-use Rattle.std.proofs.Common.{arith, ◌≡◌, ◌+◌, List, [], ◌∷◌, ◌++◌, Option, take, sym, ◌∙◌, ap}
-use Rattle.std.proofs.lemmas.List.{map-append, take_more}
-use Rattle.std.specs.Option.{option_map}
+use Rattle.std.proofs.Common.{arith, ◌≡◌, ◌∷◌, List, length, sym, ◌∙◌, ap, subst}
 use Rattle.hm_trace.specs.declared.names.Name.{Name}
-use Rattle.hm_trace.specs.declared.step.Step.{Step}
-use Rattle.hm_trace.specs.Views.{StepView, name_view, step_view, steps_view}
+use Rattle.hm_trace.specs.Views.{StepView, steps_view}
 use Rattle.hm_replay.specs.declared.left.NameLeft.{NameLeft}
-use Rattle.hm_replay.specs.Names.{Names, settled, with_all}
-use Rattle.hm_replay.proofs.Merging.{none_left, one_left}
+use Rattle.hm_replay.specs.Names.{Names, merged, settled, with_all}
+use Rattle.hm_replay.proofs.Merging.{listed_more, merged_settled}
 use Rattle.hm_replay.proofs.merge.names_left.Goals as goal
-use Rattle.hm_replay.proofs.merge.names_left.Goals.{in-Some, in_default}
 
-pub loop-step-preserved : goal.loop-step-preserved
-loop-step-preserved g c =
-    let i = c.loop-step.step-index in
-    let steps = c.args.steps.now in
-    let s = c.step-item.result in
-    let old = c.loop-step.invariant in
+pub loop-name-init : goal.loop-name-init
+loop-name-init g c =
     let last : Names = g.E.Addresses.names c.args.env.now in
-    let before : List StepView = steps_view (take i steps) in
-    let after : List StepView = before ++ step_view s ∷ [] in
-    let taken : after ≡ steps_view (take (i + 1) steps) =
-    sym (ap steps_view (take_more steps i s c.loop-step-test.true
-    ∙ ap (λ (u : Step). take i steps ++ u ∷ []) (sym c.step-item.is))
-    ∙ map-append step_view (take i steps) (s ∷ [])) in
-    elim c.match-name_set.branch [
-      | in-Some w ↦ record {
-        listed = λ names.
-            ap (λ (l : List NameLeft). with_all names l) (ap (λ v. v.items) w.left-is ∙ w.push_reserved.ensures.items)
-            ∙ one_left names last before (step_view s) c.loop-step.left.items _
-            (ap (λ (o : Option Name). option_map name_view o) (sym w.in-Some.is) ∙ c.name_set.ensures)
-            w.get-address.ensures.value (old.listed names)
-            ∙ ap (λ (l : List StepView). settled names l last) taken;
-        room = grind arith;
-        long = grind arith;
-      }
-      | in_default w ↦ record {
-        listed = λ names.
-            ap (λ v. with_all names v.items) w.left-is
-            ∙ none_left names last before (step_view s) (with_all names c.loop-step.left.items)
-            (ap (λ (o : Option Name). option_map name_view o) (sym w.in_default.is) ∙ c.name_set.ensures)
-            (old.listed names)
-            ∙ ap (λ (l : List StepView). settled names l last) taken;
-        room = grind arith;
-        long = grind arith;
-      }
-    ]
+    let steps : List StepView = steps_view c.args.steps.now in
+    let these : List Name = c.in_ok-names.names.keys in
+    record {
+      listed = λ names.
+          ap (λ (l : List Name). merged (with_all names c.in_ok-left.left.items) l last)
+          c.into_iter-name-iterator.ensures.into_iter_gives.0
+          ∙ ap (λ (l : List NameLeft). merged (with_all names l) these last) c.in_ok-left.ensures.items
+          ∙ merged_settled names last steps these c.in_ok-names.ensures;
+      room = grind arith;
+    }
+
+pub loop-name-preserved : goal.loop-name-preserved
+loop-name-preserved g c =
+    let last : Names = g.E.Addresses.names c.args.env.now in
+    let old = c.loop-name.invariant in
+    let k : Name = c.in-Some.name.now in
+    let rest : List Name = c.next.new.self in
+    let all : List StepView = steps_view c.args.steps.now in
+    let steps : c.loop-name.name-iterator ≡ k ∷ rest = c.in-Some.ensures.steps in
+    record {
+      listed = λ names.
+          ap (λ (l : List NameLeft). merged (with_all names l) rest last) c.push_reserved.ensures.items
+          ∙ listed_more names last all c.loop-name.left.items _ rest c.get.ensures.value
+          (subst (λ (l : List Name). merged (with_all names c.loop-name.left.items) l last ≡ settled names all last) steps
+          (old.listed names));
+      room = omega (arith, old.room, ap (λ (l : List Name). length l) steps, c.push_reserved.ensures.len);
+    }
+
+pub returns : goal.returns
+returns g c =
+    let last : Names = g.E.Addresses.names c.args.env.now in
+    record {
+      settle = λ names.
+          ap (λ (l : List Name). merged (with_all names c.loop-name.left.items) l last) (sym c.in-None.ensures.steps.0)
+          ∙ c.loop-name.invariant.listed names;
+    }
