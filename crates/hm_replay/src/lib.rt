@@ -6,7 +6,7 @@ mod calls;
 mod env;
 mod laws;
 mod left;
-mod merge;
+mod listing;
 mod naming;
 mod places;
 mod rooms;

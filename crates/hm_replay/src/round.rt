@@ -8,7 +8,7 @@ ghost use Rattle.hm_replay.specs.Workers.{IsReady, HasRun, KeepsMade, MakesFront
 
 use crate::env::Env;
 use crate::left::NameLeft;
-use crate::merge::{all_left, names_left};
+use crate::listing::{all_left, names_left};
 use crate::scope::Scope;
 use crate::script::run_with;
 use hm_heap::{Heap, Pass};

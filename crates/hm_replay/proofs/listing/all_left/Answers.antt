@@ -4,7 +4,7 @@ use Rattle.std.specs.declared.alloc.Global.{Global}
 use Rattle.hm_replay.specs.declared.left.NameLeft.{NameLeft}
 use Rattle.hm_replay.specs.Names.{Names, with_all, Settles}
 use Rattle.hm_replay.proofs.Merging.{settles_then, with_all_then}
-use Rattle.hm_replay.proofs.merge.all_left.Goals as goal
+use Rattle.hm_replay.proofs.listing.all_left.Goals as goal
 
 pub loop-left-preserved : goal.loop-left-preserved
 loop-left-preserved c = λ names.

@@ -3,7 +3,7 @@ use Rattle.std.specs.Option.{option_map}
 use Rattle.hm_trace.specs.declared.names.Name.{Name}
 use Rattle.hm_trace.specs.Views.{name_view, step_view}
 use Rattle.hm_replay.proofs.Merging.{none_taken, one_taken}
-use Rattle.hm_replay.proofs.merge.take_name.Goals as goal
+use Rattle.hm_replay.proofs.listing.take_name.Goals as goal
 
 pub returns-in_default : goal.returns-in_default
 returns-in_default c = λ q. none_taken c.args.names.now.keys (step_view c.args.step.now) q

@@ -1,4 +1,4 @@
-//! The names that scripts leave are listed.
+//! The names that scripts leave are listed: those that a script sets, each once, with what they hold at its end.
 ghost use Rattle.std.specs.Prelude.{◌≡◌, ◌||◌, ℕ, List, OnOk, IfOk};
 ghost use Rattle.hm_trace.specs.Traces.{sets_name};
 ghost use Rattle.hm_trace.specs.Views.{step_view, steps_view};
