@@ -73,7 +73,8 @@ fn work<R: Threads + Wait + Sync, P: Pages, G: Gate>(
         → KeepsMade heap.now.config (slice_index_or workers.old.items i w) (slice_index_or workers.new.items i w) }
     ensures fronts { (i : ℕ) (w : _) → i < length workers.old.items
         → MakesFront heap.now.config (slice_index_or workers.old.items i w) (slice_index_or workers.new.items i w) }
-    ensures names { (i : ℕ) (w : _) → i < length workers.old.items → LeavesNames (slice_index_or workers.new.items i w) }
+    ensures names { (i : ℕ) (w : _) → i < length workers.old.items
+        → LeavesNames (slice_index_or workers.new.items i w) }
 {
     for_each_mut(
         rt,

@@ -37,7 +37,8 @@ fn run_step<R: Wait, P: Pages, G: Gate, E: Addresses>(
     ensures same { pass.new ≡ record pass.old { turns = pass.new.turns } }
     ensures of { AreOf heap.now.locks pass.new.turns }
     ensures grew { AllGrew pass.old.turns pass.new.turns }
-    ensures ran { IfOk result (GainsResult heap.now pass.old pass.new step_number (E.names env.old) (step_view step.now)) }
+    ensures ran { IfOk result
+        (GainsResult heap.now pass.old pass.new step_number (E.names env.old) (step_view step.now)) }
     ensures names { IfOk result (λ r. E.names env.new ≡ names_after (E.names env.old) (step_view step.now) r.answer) }
     ensures stops { OnErr result
         (GainsBroken heap.now pass.old pass.new step_number (E.names env.old) (step_view step.now)) }
@@ -103,8 +104,8 @@ pub(crate) fn run_with<R: Wait, P: Pages, G: Gate, E: Addresses>(
     ensures results { IfOk result (λ rs. (rs.round ≡ pass.old.round) × (rs.thread ≡ script.now.thread)) }
     ensures ran { IfOk result (λ rs. IsRun (terms_of heap.now pass.old) (E.names env.old) script.now.steps rs.items
         (E.names env.new) (mine_of pass.new.turns)) }
-    ensures stops { OnErr result (IsFront (terms_of heap.now pass.old) (E.names env.old) script.now.steps (E.names env.new)
-        (mine_of pass.new.turns)) }
+    ensures stops { OnErr result (IsFront (terms_of heap.now pass.old) (E.names env.old) script.now.steps
+        (E.names env.new) (mine_of pass.new.turns)) }
 {
     let items = run_steps(rt, alloc, heap, pass, env, script.steps())?;
     Ok(Results {

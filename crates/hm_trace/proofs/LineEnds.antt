@@ -1,15 +1,13 @@
 -- Where the first line of a text ends, and what reading makes of a text whose first line is known.
-use Rattle.std.proofs.Common.{◌≡◌, ℕ, ◌+◌, ◌≤◌, ◌<◌, Bool, true, false, cond, eqb, List, [], ◌∷◌, length, take, drop, Ok, Err, Some, None, refl, sym, ap, subst, ◌∙◌, arith}
+use Rattle.std.proofs.Common.{◌≡◌, ℕ, ◌+◌, ◌≤◌, ◌<◌, Bool, true, false, cond, eqb, List, [], ◌∷◌, length, take, drop, Ok, Err, Some, None, refl, ap, subst, ◌∙◌, arith}
 use Rattle.std.specs.Prelude.{position, codes}
-use Rattle.std.specs.List.{slice_split, position_or_len, onto_first}
-use Rattle.std.specs.declared.result.Result.{Result}
+use Rattle.std.specs.List.{position_or_len, onto_first}
 use Rattle.std.proofs.lemmas.Grind.{common_steps}
 use Rattle.std.proofs.lemmas.List.Quantifiers.{position-Some}
 use Rattle.std.proofs.lemmas.List.Splits.{slice_split_none, slice_split_first, length-slice_split}
 use Rattle.std.proofs.lemmas.List.Sums.{position_or_len_is, fails_before_first}
 use Rattle.hm_trace.specs.declared.fault.FaultKind.{FaultKind}
 use Rattle.hm_trace.specs.declared.fault.FaultKind.TheVariants.{AfterEnd}
-use Rattle.hm_trace.specs.declared.fault.TraceFault.{TraceFault}
 use Rattle.hm_trace.specs.Gives.{◌>>=◌}
 use Rattle.hm_trace.specs.Lines.{lines_in}
 use Rattle.hm_trace.specs.Names.{is_word}

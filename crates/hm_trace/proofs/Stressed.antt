@@ -54,13 +54,15 @@ length_scripts number (suc t) =
     ap length (flat_map-append (λ (s : ScriptView). s.steps) (scripts number t) (script number (suc t) ∷ []))
     ∙ omega (arith, length-append (flat_map (λ (s : ScriptView). s.steps) (scripts number t)) (groups number (suc t) 2500 ++ []), length-append (groups number (suc t) 2500) [], length_groups number (suc t) 2500, length_scripts number t)
 
--- ---- the scripts are made in parts
+-- ---- the scripts are made one by one
 
--- the scripts of threads after `from`, with the next one
-pub scripts_next : (number from i : ℕ) (made : List ScriptView) → scripts number from ++ made ≡ scripts number i → scripts number from ++ (made ++ script number (i + 1) ∷ []) ≡ scripts number (i + 1)
+-- a script before those of later threads
+pub scripts_with : (number t : ℕ) (later whole : List ScriptView) → scripts number (t + 1) ++ later ≡ whole
+    → scripts number t ++ script number (t + 1) ∷ later ≡ whole
 unfolding scripts
-scripts_next number from i made upto =
-    rw (add-one i) (sym (append_assoc (scripts number from) made (script number (suc i) ∷ [])) ∙ ap (λ (l : List ScriptView). l ++ script number (suc i) ∷ []) upto)
+scripts_with number t later whole is =
+    rw (add-one t)
+    (sym (append_assoc (scripts number t) (script number (suc t) ∷ []) later) ∙ ap (λ (n : ℕ). scripts number n ++ later) (sym (add-one t)) ∙ is)
 
 -- ---- no name is set by two threads
 

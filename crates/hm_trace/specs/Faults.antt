@@ -1,5 +1,5 @@
 -- The table of faults, and the first line at fault.
-use Rattle.std.specs.Prelude.{ℕ, ◌+◌, Bool, true, false, not, ◌&&◌, ◌==◌, nat_lt, nat_le, List, [], ◌∷◌, length, codes, Option, Some, None, if◌then◌else◌}
+use Rattle.std.specs.Prelude.{ℕ, ◌+◌, Bool, true, false, not, ◌&&◌, nat_lt, nat_le, List, [], ◌∷◌, length, codes, Option, Some, None, if◌then◌else◌}
 use Rattle.std.specs.List.{list_all}
 use Rattle.hm_trace.specs.declared.fault.FaultKind.{FaultKind}
 use Rattle.hm_trace.specs.declared.fault.FaultKind.TheVariants.{AfterEnd, LineTooLong, NotAscii, BadHeader, BadWord, BadName, BadNumber, TooManyThreads, TooManyRounds, TooManySteps, NameSetTwice, NoEnd}

@@ -1,6 +1,6 @@
 //! The stress trace of a number: one round in which each thread makes groups of five steps, whose sizes follow
 //! from the number.
-ghost use Rattle.std.specs.Prelude.{◌≡◌, ◌+◌, ◌%◌, ◌≤◌, ◌<◌, ◌++◌, length, slice_get, EachIndex, IfOk, OnOk, Some};
+ghost use Rattle.std.specs.Prelude.{◌≡◌, ◌+◌, ◌≤◌, ◌<◌, [], ◌++◌, length, slice_get, EachIndex, IfOk, OnOk, Some};
 ghost use Rattle.std.specs.Option.{option_map};
 ghost use Rattle.hm_trace.specs.Stress.{first, next, size_for, name_at, group, groups, scripts, stress};
 ghost use Rattle.hm_trace.specs.Views.{name_view, steps_view};
@@ -12,9 +12,6 @@ use crate::trace::{Round, Script, Trace};
 use hm_outside::NoMemory;
 use std::alloc::{AllocError, Global};
 use std::thread::{Threads, join};
-
-/// How many scripts each of four threads makes.
-const SHARE: u32 = MAX_THREADS / 4;
 
 /// How many groups each thread makes.
 const GROUPS: u64 = 2500;
@@ -31,7 +28,7 @@ const MULTIPLIER: u64 = 6_364_136_223_846_793_005;
 /// What is then added, as in the same generator.
 const INCREMENT: u64 = 1_442_695_040_888_963_407;
 
-/// The stress trace of a number. Four threads make its scripts.
+/// The stress trace of a number. Each of its scripts is made by a thread of its own.
 pub fn stress_trace<R: Threads>(rt: &R, alloc: Global, number: u64) -> Result<Trace, NoMemory>
     ensures exact { IfOk result (λ trace. trace ≡ stress number) }
 {
@@ -49,9 +46,10 @@ fn scripts_of<R: Threads>(rt: &R, alloc: Global, number: u64) -> Result<Vec<Scri
     scripts_from(rt, alloc, number, 0)
 }
 
-/// The scripts of the threads after `from`. Each four are made by a thread of their own, and this one does nothing but
-/// wait: a thread that starts another and then works may keep it waiting for its processor.
-#[cycle(shares)]
+/// The scripts of the threads after `from`. Each is made by a thread of its own, and this one takes the memory for it
+/// and then does nothing but wait: a thread that starts another and then works may keep it waiting for its processor,
+/// and threads that take memory at the same time hold each other up.
+#[cycle(scripts)]
 fn scripts_from<R: Threads>(
     rt: &R,
     alloc: Global,
@@ -59,46 +57,43 @@ fn scripts_from<R: Threads>(
     from: u32,
 ) -> Result<Vec<Script>, AllocError>
     requires within { from ≤ 16 }
-    requires fours { from % 4 ≡ 0 }
     ensures { IfOk result (λ list. scripts number from ++ list.items ≡ scripts number 16) }
 {
     if from == MAX_THREADS {
         return Ok(Vec::new(alloc));
     }
+    let thread = from + 1;
+    let names = names_of(alloc, thread)?;
+    let room = Vec::with_capacity(alloc, STEPS)?;
     let others = || -> Result<Vec<Script>, AllocError>
-        requires { (from < 16) × (from % 4 ≡ 0) }
-        ensures { IfOk result (λ list. scripts number (from + 4) ++ list.items ≡ scripts number 16) }
-    { scripts_from(rt, alloc, number, from + SHARE) };
-    let (share, rest) = join(rt, || scripts_after(alloc, number, from), others);
-    let mut scripts = share?;
+        requires { from < 16 }
+        ensures { IfOk result (λ list. scripts number (from + 1) ++ list.items ≡ scripts number 16) }
+    { scripts_from(rt, alloc, number, from + 1) };
+    let (steps, rest) = join(rt, || steps_in(room, number, thread, &names), others);
+    let mut scripts = Vec::new(alloc);
+    scripts.push(Script::of(thread, steps?))?;
     scripts.append(&mut rest?)?;
     Ok(scripts)
 }
 
-/// The scripts of the four threads after `from`.
-fn scripts_after(alloc: Global, number: u64, from: u32) -> Result<Vec<Script>, AllocError>
-    requires { from ≤ 12 }
-    ensures { IfOk result (λ list. scripts number from ++ list.items ≡ scripts number (from + 4)) }
-{
-    let mut scripts = Vec::new(alloc);
-    for i in from..from + SHARE {
-        let thread = i + 1;
-        let steps = steps_of(alloc, number, thread)?;
-        scripts.push(Script::of(thread, steps))?;
-    }
-    Ok(scripts)
-}
-
+/// The steps of a thread, in the memory that is there for them.
 #[tactic(auto, unfolding(crate::specs::Stress::state, crate::specs::Stress::groups))]
-fn steps_of(alloc: Global, number: u64, thread: u32) -> Result<Vec<Step>, AllocError>
+fn steps_in(
+    mut steps: Vec<Step>,
+    number: u64,
+    thread: u32,
+    names: &[Name],
+) -> Result<Vec<Step>, AllocError>
+    requires empty { steps.items ≡ [] }
+    requires count { length names.now ≡ 50 }
+    requires each { EachIndex names.now
+        (λ i. option_map name_view (slice_get names.now i) ≡ Some (name_at thread i)) }
     ensures { IfOk result (λ list. steps_view list.items ≡ groups number thread 2500) }
 {
-    let names = names_of(alloc, thread)?;
-    let mut steps = Vec::with_capacity(alloc, STEPS)?;
     let mut x = first(number, thread);
     for j in 0..GROUPS {
         x = next(x);
-        push_group(&mut steps, &names, thread, j, x >> 33)?;
+        push_group(&mut steps, names, thread, j, x >> 33)?;
     }
     Ok(steps)
 }

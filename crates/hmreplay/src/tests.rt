@@ -398,9 +398,9 @@ fn texts_come_back(rt: HostRuntime) -> Result<(), Fail> {
     Ok(())
 }
 
-/// What each run of the trace that 7 makes writes. Its 16 scripts have 2,500 groups each, of a block that is given, written,
-/// measured and read, and of a block of 25 groups before that is freed, which the first 25 groups do not have: 16 * 25
-/// steps are skipped.
+/// What each run of the trace that 7 makes writes. Its 16 scripts have 2,500 groups each, of a block that is given,
+/// written, measured and read, and of a block of 25 groups before that is freed, which the first 25 groups do not have:
+/// 16 * 25 steps are skipped.
 const SEVEN: &[u8] =
     b"stress 7: steps 200000 given 40000 written 40000 size 40000 bytes 40000 freed 39600 skipped 400\n";
 

@@ -1,5 +1,5 @@
 use Rattle.std.proofs.Common.{◌+◌, ◌*◌, ◌-◌}
-use Rattle.hm_trace.proofs.stress.+shares.Given as goal
+use Rattle.hm_trace.proofs.stress.+scripts.Given as goal
 
 abbrev pub decreases-others : goal.decreases-others
 decreases-others g l = 2 * (16 - l.from)

@@ -1,7 +1,7 @@
 use Rattle.std.proofs.Common.{◌≡◌}
 use Rattle.hm_trace.specs.Stress.{groups, state}
 use Rattle.hm_trace.specs.Views.{steps_view}
-use Rattle.hm_trace.proofs.stress.steps_of.Given as goal
+use Rattle.hm_trace.proofs.stress.steps_in.Given as goal
 
 abbrev pub invariant-loop-j : goal.invariant-loop-j
 invariant-loop-j l = record {
