@@ -9,3 +9,4 @@ pub mod Fronts
 pub mod Causes
 pub mod Outcomes
 pub mod Handing
+pub mod Unwrapping

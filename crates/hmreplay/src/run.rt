@@ -1,6 +1,6 @@
 //! The top call: the words, the source to its end or a number, the trace, the heap and the rounds, what is
 //! written, the sink.
-ghost use Rattle.std.specs.Prelude.{◌≡◌, ◌⊎◌, Some, None, true, IfOk};
+ghost use Rattle.std.specs.Prelude.{◌≡◌, Some, None, true, IfOk, OnErr};
 ghost use Rattle.hm_report.specs.Findings.{ascends, has_finding};
 ghost use Rattle.hm_sizes.specs.Configs.{IsValid};
 ghost use Rattle.hm_trace.specs.Stress.{stress};
@@ -50,7 +50,7 @@ fn refuse<K: Sink, P>(sink: &mut K, refusal: Refusal) -> Run<P>
     }
 }
 
-// Nothing is written for want of memory.
+// What is handed out for want of memory, when nothing was written.
 fn give_up<P>() -> Run<P>
     ensures status { result.status ≡ 6 }
     ensures closed { result.closed ≡ None }
@@ -64,20 +64,23 @@ fn give_up<P>() -> Run<P>
 }
 
 // Writes the fault of a text that is no trace.
-fn refuse_text<K: Sink, P>(alloc: Global, sink: &mut K, fault: &TraceFault) -> Run<P>
-    ensures closed { result.closed ≡ None }
-    ensures results { result.results ≡ None }
-    ensures written { ((result.status ≡ 6) × (K.held sink.new ≡ K.held sink.old))
-        ⊎ IsWritten result.status 3 (sink_of K.Sink sink.old sink.new) (fault_line fault.now) }
+fn refuse_text<K: Sink, P>(
+    alloc: Global,
+    sink: &mut K,
+    fault: &TraceFault,
+) -> Result<Run<P>, NoMemory>
+    ensures closed { IfOk result (λ run. run.closed ≡ None) }
+    ensures results { IfOk result (λ run. run.results ≡ None) }
+    ensures written { IfOk result (λ run. IsWritten run.status 3 (sink_of K.Sink sink.old sink.new)
+        (fault_line fault.now)) }
+    ensures memory { OnErr result (sink.new ≡ sink.old) }
 {
-    match line_of_fault(alloc, fault) {
-        Ok(line) => Run {
-            status: finish(sink, Status::NoTrace.code(), line.as_bytes()),
-            closed: None,
-            results: None,
-        },
-        Err(_) => give_up(),
-    }
+    let line = line_of_fault(alloc, fault)?;
+    Ok(Run {
+        status: finish(sink, Status::NoTrace.code(), line.as_bytes()),
+        closed: None,
+        results: None,
+    })
 }
 
 // What is written of a trace that was run.
@@ -131,30 +134,26 @@ fn run_text<R: Threads + Wait + Sync, K: Sink, M: PageMaker, G: Gate>(
     sink: &mut K,
     maker: &mut M,
     gate: &G,
-) -> Run<M::P>
+) -> Result<Run<M::P>, NoMemory>
     requires valid { IsValid (config_of options.now) }
-    ensures ends { TextEnds M.P.Pages result (sink_of K.Sink sink.old sink.new) options.now output bytes.items }
-    ensures handed { HandsOut M.P.Pages (IsSpelled bytes.items) options.now result.closed result.results }
+    ensures ends { IfOk result (λ run.
+        TextEnds M.P.Pages run (sink_of K.Sink sink.old sink.new) options.now output bytes.items) }
+    ensures handed { IfOk result (λ run.
+        HandsOut M.P.Pages (IsSpelled bytes.items) options.now run.closed run.results) }
+    ensures memory { OnErr result (sink.new ≡ sink.old) }
 {
     let read = read_trace(alloc, &bytes);
     drop(bytes);
     let trace = match read {
         Ok(trace) => trace,
         Err(ReadRefusal::Fault(fault)) => return refuse_text(alloc, sink, &fault),
-        Err(ReadRefusal::NoMemory) => return give_up(),
+        Err(ReadRefusal::NoMemory) => return Err(NoMemory),
     };
-    let ran = match run_trace(rt, alloc, options, maker, gate, &trace) {
-        Ok(ran) => ran,
-        Err(_) => return give_up(),
-    };
+    let ran = run_trace(rt, alloc, options, maker, gate, &trace)?;
     drop(trace);
-    match text_of(alloc, options, output, &ran) {
-        Ok(text) => {
-            let found = has_finding(&ran.results);
-            write_results(sink, ran, found, &text)
-        }
-        Err(_) => give_up(),
-    }
+    let text = text_of(alloc, options, output, &ran)?;
+    let found = has_finding(&ran.results);
+    Ok(write_results(sink, ran, found, &text))
 }
 
 // Runs the text that the source holds.
@@ -167,19 +166,20 @@ fn run_source<R: Threads + Wait + Sync, S: Source, K: Sink, M: PageMaker, G: Gat
     sink: &mut K,
     maker: &mut M,
     gate: &G,
-) -> Run<M::P>
+) -> Result<Run<M::P>, NoMemory>
     requires valid { IsValid (config_of options.now) }
     ensures bound { IsTakenWithin 67108865 (source_of S.Source source.old source.new) }
-    ensures ends { SourceEnds M.P.Pages result (sink_of K.Sink sink.old sink.new)
-        (source_of S.Source source.old source.new) options.now output }
-    ensures handed { HandsOut M.P.Pages (IsReadTrace (source_of S.Source source.old source.new)) options.now
-        result.closed result.results }
+    ensures ends { IfOk result (λ run. SourceEnds M.P.Pages run (sink_of K.Sink sink.old sink.new)
+        (source_of S.Source source.old source.new) options.now output) }
+    ensures handed { IfOk result (λ run. HandsOut M.P.Pages (IsReadTrace (source_of S.Source source.old source.new))
+        options.now run.closed run.results) }
+    ensures memory { OnErr result (sink.new ≡ sink.old) }
 {
     match read_all(alloc, source) {
         Ok(bytes) => run_text(rt, alloc, options, output, bytes, sink, maker, gate),
-        Err(ReadStop::NoMemory) => give_up(),
-        Err(ReadStop::Fault) => refuse(sink, Refusal::ReadFault),
-        Err(ReadStop::TooLong) => refuse(sink, Refusal::TooLong),
+        Err(ReadStop::NoMemory) => Err(NoMemory),
+        Err(ReadStop::Fault) => Ok(refuse(sink, Refusal::ReadFault)),
+        Err(ReadStop::TooLong) => Ok(refuse(sink, Refusal::TooLong)),
     }
 }
 
@@ -192,29 +192,23 @@ fn run_stress<R: Threads + Wait + Sync, K: Sink, M: PageMaker, G: Gate>(
     sink: &mut K,
     maker: &mut M,
     gate: &G,
-) -> Run<M::P>
+) -> Result<Run<M::P>, NoMemory>
     requires valid { IsValid (config_of options.now) }
-    ensures ends { StressEnds M.P.Pages result (sink_of K.Sink sink.old sink.new) options.now number }
-    ensures handed { HandsOut M.P.Pages (λ trace. trace ≡ stress number) options.now result.closed result.results }
+    ensures ends { IfOk result (λ run. StressEnds M.P.Pages run (sink_of K.Sink sink.old sink.new) options.now number) }
+    ensures handed { IfOk result (λ run.
+        HandsOut M.P.Pages (λ trace. trace ≡ stress number) options.now run.closed run.results) }
+    ensures memory { OnErr result (sink.new ≡ sink.old) }
 {
-    let trace = match stress_trace(rt, alloc, number) {
-        Ok(trace) => trace,
-        Err(_) => return give_up(),
-    };
-    let ran = match run_trace(rt, alloc, options, maker, gate, &trace) {
-        Ok(ran) => ran,
-        Err(_) => return give_up(),
-    };
+    let trace = stress_trace(rt, alloc, number)?;
+    let ran = run_trace(rt, alloc, options, maker, gate, &trace)?;
     // The memory of the trace goes back to the system while the results are counted.
     let ((), summed) = join(
         rt,
         || drop(trace),
         || summary(rt, alloc, number, &ran.results),
     );
-    match summed {
-        Ok(summed) => write_results(sink, ran, summed.found, &summed.text),
-        Err(_) => give_up(),
-    }
+    let summed = summed?;
+    Ok(write_results(sink, ran, summed.found, &summed.text))
 }
 
 /// Reads a trace from the source, or makes it from a number, as the words say; runs it, and writes the report of
@@ -239,12 +233,13 @@ pub fn replay<R: Threads + Wait + Sync, S: Source, K: Sink, M: PageMaker, G: Gat
         Some(asked) => asked,
         None => return refuse(sink, Refusal::Usage),
     };
+    let options = &asked.options;
     match asked.command {
         Command::Run { output } => {
-            run_source(rt, alloc, &asked.options, output, source, sink, maker, gate)
+            run_source(rt, alloc, options, output, source, sink, maker, gate).unwrap_or(give_up())
         }
         Command::Stress { number } => {
-            run_stress(rt, alloc, &asked.options, number, sink, maker, gate)
+            run_stress(rt, alloc, options, number, sink, maker, gate).unwrap_or(give_up())
         }
     }
 }
