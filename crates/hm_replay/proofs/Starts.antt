@@ -53,7 +53,7 @@ parted_more locks n p q q' i e =
           });
     }
 
-mine_born : (c : ℕ) (ts : List Known) (place : ℕ) → mine_of (map (born c) ts) place ≡ []
+pub mine_born : (c : ℕ) (ts : List Known) (place : ℕ) → mine_of (map (born c) ts) place ≡ []
 mine_born c [] place = refl
 mine_born c (t ∷ ts) zero = refl
 mine_born c (t ∷ ts) (suc place) = mine_born c ts place

@@ -1,14 +1,14 @@
 //! Traces that are run round by round, and what they answered.
-ghost use Rattle.std.specs.Prelude.{◌≡◌, ◌≤◌, length};
+ghost use Rattle.std.specs.Prelude.{◌≡◌, ◌+◌, ◌-◌, ◌^◌, ◌<◌, ◌≤◌, length};
 ghost use Rattle.hm_heap.specs.Passes.{AreOf};
 
-use crate::{Env, run_round, small_rounds};
+use crate::{Env, run_round, run_script, small_rounds};
 use hm_heap::{Heap, Pass};
 use hm_model::{Answer, Entry, Reply};
 use hm_outside::{Gate, NoGate, NoMemory, Pages, PlainMaker};
 use hm_report::{Results, StepResult, report};
 use hm_sizes::{CLASSES, Config};
-use hm_trace::{Round, read_trace};
+use hm_trace::{Round, Script, read_trace};
 use std::alloc::Global;
 use std::slice;
 use std::sync::Wait;
@@ -115,6 +115,58 @@ fn reports_of_rounds(rt: HostRuntime) -> Result<(), Fail> {
         let told = report_of(&rt, rt.alloc(), text)?;
         assert!(rt; told.as_slice() == *one || told.as_slice() == *other);
     }
+    Ok(())
+}
+
+/// Runs a script alone, under a pass of its own.
+fn run_alone<R: Wait, P: Pages, G: Gate>(
+    rt: &R,
+    alloc: Global,
+    heap: &Heap<P, G>,
+    root: &mut Pass,
+    script: &Script,
+    env: &mut Env,
+) -> Result<Results, NoMemory>
+    requires of { AreOf heap.now.locks root.old.turns }
+    requires root { root.old.caller ≡ 0 }
+    requires few { root.old.splits < 2 ^ 32 - 1 }
+    ensures of { AreOf heap.now.locks root.new.turns }
+    ensures root { (root.new.caller ≡ 0) × (root.new.splits ≤ root.old.splits + 1) }
+{
+    let mut pass = heap.split(alloc, root, 1, script.thread())?;
+    let results = run_script(rt, alloc, heap, &mut pass, script, env);
+    heap.join(root, pass);
+    results
+}
+
+#[test]
+fn a_script_sees_and_sets_names(rt: HostRuntime) -> Result<(), Fail> {
+    let alloc = rt.alloc();
+    let text =
+        b"hmtrace 1\nround\nthread 1\nmalloc a 100\nsize a\nthread 2\nsize a\nfree a\nsize b\nend\n";
+    let Ok(trace) = read_trace(alloc, text) else {
+        return Err(Fail::new("no trace"));
+    };
+    let [round] = trace.rounds() else {
+        return Err(Fail::new("not one round"));
+    };
+    let [first, second] = round.scripts() else {
+        return Err(Fail::new("not two scripts"));
+    };
+    let (heap, mut root) = Heap::build(alloc, Config::standard(), 1, &mut PlainMaker, &NoGate)?;
+    let mut env = Env::build(alloc);
+    let set = run_alone(&rt, alloc, &heap, &mut root, first, &mut env)?;
+    let told = report(alloc, slice::from_ref(&set))?;
+    assert_eq!(rt;
+        told.as_slice(),
+        b"1.1.1 given 104\n1.1.2 size 104\n".as_slice()
+    );
+    let seen = run_alone(&rt, alloc, &heap, &mut root, second, &mut env)?;
+    let told = report(alloc, slice::from_ref(&seen))?;
+    assert_eq!(rt;
+        told.as_slice(),
+        b"1.2.1 size 104\n1.2.2 freed\n1.2.3 skipped\n".as_slice()
+    );
     Ok(())
 }
 
