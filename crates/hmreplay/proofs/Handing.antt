@@ -13,7 +13,7 @@ use Rattle.hmreplay.specs.Streams.{Stream, IsReadToEnd}
 
 module _ {P : Type 0} (meaning : pages.Ghosts P) (o : Options) (source : Stream) (bytes : List ℕ) (read : IsReadToEnd source bytes) where
   -- the trace that the bytes are the spelling of is that of the source, whose bytes they are
-  pub of_source : (closed : Option (Closed P)) (results : Option (List Results))
+  of_source : (closed : Option (Closed P)) (results : Option (List Results))
       → HandsOut meaning (IsSpelled bytes) o closed results → HandsOut meaning (IsReadTrace source) o closed results
   of_source (Some c) (Some rs) h = (h.0, (h.1.0, subst (λ (l : List ℕ). IsReadToEnd source l) h.1.1 read), h.2)
   of_source (Some c) None h = h
