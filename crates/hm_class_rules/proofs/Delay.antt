@@ -14,7 +14,8 @@ use Rattle.hm_class_rules.specs.State.{State, start}
 use Rattle.hm_sizes.specs.Shapes.{delay, place}
 use Rattle.hm_class_rules.specs.Steps.{taken_new, opened, takes_back, releases, unparks, retires, purges, moved, step}
 use Rattle.hm_class_rules.specs.Rules.{Terms, Allows, Allowed, AllowsFreed, AllowsGiven, Releases}
-use Rattle.hm_class_rules.specs.Laws.{is_freed, frees_in, IsFreedAt, IsGivenAt, Delays}
+use Rattle.hm_model.specs.Calls.{IsFreedAt}
+use Rattle.hm_class_rules.specs.Laws.{is_freed, frees_in, IsGivenAt, Delays}
 use Rattle.hm_model.proofs.Lists.{times_among, among_times, same_eq, without_other}
 use Rattle.hm_class_rules.proofs.Legal.{picked_uses}
 

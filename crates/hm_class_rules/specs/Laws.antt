@@ -1,10 +1,11 @@
 -- Laws of legal histories.
-use Rattle.std.specs.Prelude.{◌≡◌, ◌≢◌, ℕ, ◌+◌, ◌<◌, ◌≤◌, Bool, true, false, IsTrue, List, [], ◌∷◌, ◌++◌, length, if◌then◌else◌, Option, Some, ◌⊎◌}
+use Rattle.std.specs.Prelude.{◌≡◌, ◌≢◌, ℕ, ◌+◌, ◌<◌, ◌≤◌, Bool, true, false, IsTrue, List, [], ◌∷◌, ◌++◌, length, if◌then◌else◌, Some, ◌⊎◌}
 use Rattle.hm_model.specs.declared.entry.Entry.{Entry}
-use Rattle.hm_model.specs.declared.entry.Call.TheVariants.{Allot, GiveBack}
+use Rattle.hm_model.specs.declared.entry.Call.TheVariants.{Allot}
 use Rattle.hm_model.specs.declared.entry.Reply.{Reply}
 use Rattle.hm_model.specs.declared.entry.Reply.TheVariants.{Given, Overwritten, Freed}
 use Rattle.hm_sizes.specs.declared.shape.Shape.{Shape}
+use Rattle.hm_model.specs.Calls.{IsFreedAt}
 use Rattle.hm_model.specs.Maps.{among, times, at, keys}
 use Rattle.hm_class_rules.specs.State.{State, Slab, is_open, is_live, is_empty, empty_slabs}
 use Rattle.hm_sizes.specs.Shapes.{IsShape, IsPlaceOf, IsGuard, delay, has_bytes, usable, slab_of}
@@ -59,11 +60,6 @@ Apart = (t : Terms) (es : List Entry) (a b : ℕ) → IsShape t.shape → IsLega
     → (a + t.shape.slot ≤ b) ⊎ (b + t.shape.slot ≤ a)
 
 -- ---- the delay
-pub record IsFreedAt (e : Entry) (a : ℕ) : Type 0 where
-  pub stated : Option ℕ
-  pub call : e.call ≡ GiveBack a stated
-  pub reply : e.reply ≡ Freed
-
 pub record IsGivenAt (e : Entry) (a : ℕ) : Type 0 where
   pub asked : ℕ
   pub align : ℕ

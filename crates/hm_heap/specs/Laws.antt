@@ -1,6 +1,7 @@
 -- Laws of lawful histories.
 use Rattle.std.specs.Prelude.{◌≡◌, ◌+◌, ◌<◌, ◌≤◌, ℕ, true, IsTrue, List, length, [], ◌∷◌, ◌++◌, Some}
 use Rattle.hm_model.specs.declared.entry.Entry.{Entry}
+use Rattle.hm_model.specs.Calls.{IsFreedAt}
 use Rattle.hm_model.specs.Maps.{at}
 use Rattle.hm_sizes.specs.declared.config.Config.{Config}
 use Rattle.hm_sizes.specs.declared.home.Home.TheVariants.{Class, Large}
@@ -40,7 +41,7 @@ abbrev pub BlocksApart : Type 0
 BlocksApart = (o : Origin) (history : List Entry) (a b q : ℕ) → IsRegionOf o → IsLawful o history
     → IsOfBlock o history a q → IsOfBlock o history b q → a ≡ b
 
--- and so do no two of different regions
+-- nor do two of different regions
 abbrev pub RegionsApart : Type 0
 RegionsApart = (o other : Origin) (history theirs : List Entry) (a b q : ℕ) → other.config ≡ o.config
     → IsRegionOf o → IsRegionOf other → IsLawful o history → IsLawful other theirs
@@ -66,7 +67,7 @@ BlocksZeroed = (o : Origin) (history : List Entry) (given : Entry) (a asked guar
 abbrev pub SlotsDelayed : Type 0
 SlotsDelayed = (o : Origin) (before middle after : List Entry) (freed given : Entry) (a : ℕ)
     → IsLawful o (before ++ (freed ∷ (middle ++ (given ∷ after)))) → o.region < large_region_number
-    → class_laws.IsFreedAt freed a → class_laws.IsGivenAt given a
+    → IsFreedAt freed a → class_laws.IsGivenAt given a
     → delay (class_terms o).shape ≤ class_laws.frees_in middle
 
 -- between the free of a large block that goes into quarantine and a given one that meets it stand at least 1,025
@@ -75,7 +76,7 @@ abbrev pub BlocksDelayed : Type 0
 BlocksDelayed = (o : Origin) (before middle after : List Entry) (freed given : Entry) (a b asked guard : ℕ)
     (block : blocks.Block)
     → IsLawful o (before ++ (freed ∷ (middle ++ (given ∷ after)))) → o.region ≡ large_region_number
-    → large_laws.IsFreedAt freed a
+    → IsFreedAt freed a
     → at a (large.state (large_terms o) before).live ≡ Some block → blocks.is_quarantined block ≡ true
     → large_laws.IsGivenAt given b asked guard → large_laws.Meets (a, block) (b, blocks.new_block asked guard)
     → length (large.state (large_terms o) (before ++ freed ∷ [])).frees + 1025

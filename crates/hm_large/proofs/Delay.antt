@@ -17,7 +17,8 @@ use Rattle.hm_sizes.specs.declared.config.Config.{Config}
 use Rattle.hm_large.specs.Blocks.{Block, Blocks, new_block, is_quarantined}
 use Rattle.hm_large.specs.State.{State, start, step, moved, takes_back, releases, free_of}
 use Rattle.hm_large.specs.Rules.{Terms, Allows, Allowed, Releases, ReleasesFrom, AllowsFreed, AllowsGiven}
-use Rattle.hm_large.specs.Laws.{IsSound, IsFreedAt, IsGivenAt, Meets, Delays}
+use Rattle.hm_model.specs.Calls.{IsFreedAt}
+use Rattle.hm_large.specs.Laws.{IsSound, IsGivenAt, Meets, Delays}
 use Rattle.hm_large.proofs.BlockLists.{at_covered, at_removed, placed_at, covers_own}
 use Rattle.hm_large.proofs.Legal.{sound, sound_step}
 

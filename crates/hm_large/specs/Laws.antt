@@ -1,8 +1,9 @@
 -- Laws of legal histories of the large region.
-use Rattle.std.specs.Prelude.{◌≡◌, ◌≢◌, ℕ, ◌+◌, ◌*◌, ◌%◌, ◌≤◌, ◌^◌, true, List, [], ◌∷◌, ◌++◌, length, Option, Some, ◌⊎◌, ⊤}
+use Rattle.std.specs.Prelude.{◌≡◌, ◌≢◌, ℕ, ◌+◌, ◌*◌, ◌%◌, ◌≤◌, ◌^◌, true, List, [], ◌∷◌, ◌++◌, length, Some, ◌⊎◌, ⊤}
 use Rattle.hm_model.specs.declared.entry.Entry.{Entry}
-use Rattle.hm_model.specs.declared.entry.Call.TheVariants.{Allot, GiveBack}
-use Rattle.hm_model.specs.declared.entry.Reply.TheVariants.{Given, Freed}
+use Rattle.hm_model.specs.declared.entry.Call.TheVariants.{Allot}
+use Rattle.hm_model.specs.declared.entry.Reply.TheVariants.{Given}
+use Rattle.hm_model.specs.Calls.{IsFreedAt}
 use Rattle.hm_model.specs.Maps.{at}
 use Rattle.hm_sizes.specs.Homes.{large_start}
 use Rattle.hm_sizes.specs.declared.config.Config.{Config}
@@ -51,11 +52,6 @@ Apart = (t : Terms) (es : List Entry) (a b : ℕ) (x y : Block) → IsLegal t es
     → (a + x.size ≤ b) ⊎ (b + y.size ≤ a)
 
 -- ---- the delay
-pub record IsFreedAt (e : Entry) (a : ℕ) : Type 0 where
-  pub stated : Option ℕ
-  pub call : e.call ≡ GiveBack a stated
-  pub reply : e.reply ≡ Freed
-
 pub record IsGivenAt (e : Entry) (a asked guard : ℕ) : Type 0 where
   pub align : ℕ
   pub size : ℕ

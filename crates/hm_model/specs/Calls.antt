@@ -1,11 +1,12 @@
 -- What a call of a region asks of its arguments, and the entry that it adds, whatever the kind of region.
-use Rattle.std.specs.Prelude.{◌≡◌, ℕ, ◌<◌, ◌≤◌, ◌^◌, List, [], ◌∷◌, ◌++◌, length, None, ⊤}
+use Rattle.std.specs.Prelude.{◌≡◌, ℕ, ◌<◌, ◌≤◌, ◌^◌, List, [], ◌∷◌, ◌++◌, length, Option, None, ⊤}
 use Rattle.hm_model.specs.declared.entry.Call.{Call}
-use Rattle.hm_model.specs.declared.entry.Call.TheVariants.{Fetch, Fill}
+use Rattle.hm_model.specs.declared.entry.Call.TheVariants.{GiveBack, Fetch, Fill}
 use Rattle.hm_model.specs.declared.entry.Choices.{Choices}
 use Rattle.hm_model.specs.declared.entry.Draws.{Draws}
 use Rattle.hm_model.specs.declared.entry.Entry.{Entry}
 use Rattle.hm_model.specs.declared.entry.Reply.{Reply}
+use Rattle.hm_model.specs.declared.entry.Reply.TheVariants.{Freed}
 use Rattle.hm_model.specs.declared.entry.Who.{Who}
 use Rattle.hm_model.specs.Runs.{expand}
 
@@ -51,6 +52,12 @@ entry_of who call reply choices draws before now = record {
   faults_before = before;
   faults_after = now;
 }
+
+-- it took back what begins at this address
+pub record IsFreedAt (e : Entry) (a : ℕ) : Type 0 where
+  pub stated : Option ℕ
+  pub call : e.call ≡ GiveBack a stated
+  pub reply : e.reply ≡ Freed
 
 -- exactly one entry was added: that of this call with this reply and these counts
 pub record Adds (who : Who) (call : Call) (reply : Reply) (before now : ℕ) (old new : List Entry) : Type 0 where

@@ -2,6 +2,7 @@
 use Rattle.std.specs.Prelude.{◌≡◌, ◌+◌, ◌<◌, ◌≤◌, ℕ, true, IsTrue, List, [], ◌∷◌, ◌++◌, length, slice_get, Some}
 use Rattle.hm_outside.specs.declared.pages.Pages as pages
 use Rattle.hm_model.specs.declared.entry.Entry.{Entry}
+use Rattle.hm_model.specs.Calls.{IsFreedAt}
 use Rattle.hm_model.specs.Maps.{at}
 use Rattle.hm_sizes.specs.Origins.{Origin, large_region_number}
 use Rattle.hm_sizes.specs.Shapes.{usable, delay}
@@ -61,14 +62,14 @@ module _ {P : Type 0} (meaning : pages.Ghosts P) (o : Options) (closed : Closed 
   abbrev pub SlotsComeLate : Type 0
   SlotsComeLate = (before middle : List Entry) (freed given : Entry) (a : ℕ)
       → BeginsClass (before ++ freed ∷ (middle ++ given ∷ []))
-      → class_laws.IsFreedAt freed a → class_laws.IsGivenAt given a
+      → IsFreedAt freed a → class_laws.IsGivenAt given a
       → delay class_rules.shape ≤ class_laws.frees_in middle
 
   -- between the free of a large block below 32 MiB and a given one that meets it, at least 1,025 further such frees
   abbrev pub BlocksComeLate : Type 0
   BlocksComeLate = (before middle : List Entry) (freed given : Entry) (a b asked guard : ℕ) (block : blocks.Block)
       → BeginsLarge (before ++ freed ∷ (middle ++ given ∷ []))
-      → large_laws.IsFreedAt freed a → at a (large.state large_rules before).live ≡ Some block
+      → IsFreedAt freed a → at a (large.state large_rules before).live ≡ Some block
       → blocks.is_quarantined block ≡ true
       → large_laws.IsGivenAt given b asked guard → large_laws.Meets (a, block) (b, blocks.new_block asked guard)
       → length (large.state large_rules (before ++ freed ∷ [])).frees + 1025
