@@ -1,6 +1,6 @@
 //! The top call: the words, the source to its end or a number, the trace, the heap and the rounds, what is
 //! written, the sink.
-ghost use Rattle.std.specs.Prelude.{◌≡◌, Some, None, true, IfOk, OnErr};
+ghost use Rattle.std.specs.Prelude.{◌≡◌, ◌≢◌, Some, None, true, IfOk, OnErr};
 ghost use Rattle.hm_report.specs.Findings.{ascends, has_finding};
 ghost use Rattle.hm_sizes.specs.Configs.{IsValid};
 ghost use Rattle.hm_trace.specs.Stress.{stress};
@@ -42,6 +42,7 @@ fn refuse<K: Sink, P>(sink: &mut K, refusal: Refusal) -> Run<P>
     ensures results { result.results ≡ None }
     ensures written { IsWritten result.status (status_of refusal) (sink_of K.Sink sink.old sink.new)
         (line_of refusal) }
+    ensures status { result.status ≢ 6 }
 {
     Run {
         status: finish(sink, refusal.status(), refusal.line()),
@@ -73,6 +74,7 @@ fn refuse_text<K: Sink, P>(
     ensures results { IfOk result (λ run. run.results ≡ None) }
     ensures written { IfOk result (λ run. IsWritten run.status 3 (sink_of K.Sink sink.old sink.new)
         (fault_line fault.now)) }
+    ensures status { IfOk result (λ run. run.status ≢ 6) }
     ensures memory { OnErr result (sink.new ≡ sink.old) }
 {
     let line = line_of_fault(alloc, fault)?;
@@ -109,6 +111,7 @@ fn write_results<K: Sink, P>(sink: &mut K, ran: Ran<P>, found: bool, text: &[u8]
     ensures results { result.results ≡ Some ran.results.items }
     ensures written { IsWritten result.status (status_after ran.results.items) (sink_of K.Sink sink.old sink.new)
         text.now }
+    ensures status { result.status ≢ 6 }
 {
     let planned = if found {
         Status::Finding
@@ -140,6 +143,7 @@ fn run_text<R: Threads + Wait + Sync, K: Sink, M: PageMaker, G: Gate>(
         TextEnds M.P.Pages run (sink_of K.Sink sink.old sink.new) options.now output bytes.items) }
     ensures handed { IfOk result (λ run.
         HandsOut M.P.Pages (IsSpelled bytes.items) options.now run.closed run.results) }
+    ensures status { IfOk result (λ run. run.status ≢ 6) }
     ensures memory { OnErr result (sink.new ≡ sink.old) }
 {
     let read = read_trace(alloc, &bytes);
@@ -173,6 +177,7 @@ fn run_source<R: Threads + Wait + Sync, S: Source, K: Sink, M: PageMaker, G: Gat
         (source_of S.Source source.old source.new) options.now output) }
     ensures handed { IfOk result (λ run. HandsOut M.P.Pages (IsReadTrace (source_of S.Source source.old source.new))
         options.now run.closed run.results) }
+    ensures status { IfOk result (λ run. run.status ≢ 6) }
     ensures memory { OnErr result (sink.new ≡ sink.old) }
 {
     match read_all(alloc, source) {
@@ -197,6 +202,7 @@ fn run_stress<R: Threads + Wait + Sync, K: Sink, M: PageMaker, G: Gate>(
     ensures ends { IfOk result (λ run. StressEnds M.P.Pages run (sink_of K.Sink sink.old sink.new) options.now number) }
     ensures handed { IfOk result (λ run.
         HandsOut M.P.Pages (λ trace. trace ≡ stress number) options.now run.closed run.results) }
+    ensures status { IfOk result (λ run. run.status ≢ 6) }
     ensures memory { OnErr result (sink.new ≡ sink.old) }
 {
     let trace = stress_trace(rt, alloc, number)?;
@@ -228,6 +234,7 @@ pub fn replay<R: Threads + Wait + Sync, S: Source, K: Sink, M: PageMaker, G: Gat
         (sink_of K.Sink sink.old sink.new) }
     ensures untouched { IfUnasked (asked_in words.now) (source.new ≡ source.old) }
     ensures handed { HandsOutAs M.P.Pages (asked_in words.now) (source_of S.Source source.old source.new) result }
+    ensures memory { result.status ≡ 6 → sink.new ≡ sink.old }
 {
     let asked = match read_words(words) {
         Some(asked) => asked,

@@ -1,5 +1,5 @@
 //! Writing a text to a sink.
-ghost use Rattle.std.specs.Prelude.{◌≤◌, OnOk, OnErr};
+ghost use Rattle.std.specs.Prelude.{◌≢◌, ◌≤◌, OnOk, OnErr};
 ghost use Rattle.hm_outside.specs.Streams.{Put};
 ghost use Rattle.hmreplay.specs.Streams.{HasFailed, IsFrontPut, IsWritten, sink_of};
 
@@ -26,7 +26,8 @@ fn write_all<K: Sink>(sink: &mut K, text: &[u8]) -> Result<(), SinkFault>
 
 /// Writes the text and answers the status that is planned, or 5 where the sink fails.
 pub fn finish<K: Sink>(sink: &mut K, planned: u8, text: &[u8]) -> u8
-    ensures { IsWritten result planned (sink_of K.Sink sink.old sink.new) text.now }
+    ensures written { IsWritten result planned (sink_of K.Sink sink.old sink.new) text.now }
+    ensures status { planned ≢ 6 → result ≢ 6 }
 {
     match write_all(sink, text) {
         Ok(()) => planned,
