@@ -301,7 +301,8 @@ impl<P: Pages> ClassHeap<P> {
         Ok(outcome.reply())
     }
 
-    /// The bytes of a range, or the first address of it that is not accessible.
+    /// The `len` bytes from an address on, or the first address that is not accessible. An accessible range that the
+    /// pages do not lend traps at its own address.
     pub fn fetch(&mut self, who: Who, addr: u64, len: u64) -> Result<Reply, NoMemory>
         requires some { 1 ≤ len }
         requires most { len ≤ 2 ^ 30 }
@@ -324,8 +325,8 @@ impl<P: Pages> ClassHeap<P> {
         Ok(answer)
     }
 
-    /// Writes bytes from an address on, or names the first address that is not accessible and changes
-    /// nothing.
+    /// Writes bytes from an address on, or names the first address that is not accessible and changes nothing. An
+    /// accessible range that the pages do not lend traps at its own address.
     pub fn fill(&mut self, who: Who, addr: u64, runs: &Runs) -> Result<Reply, NoMemory>
         requires some { 1 ≤ length (expand runs.now) }
         requires most { length (expand runs.now) ≤ 2 ^ 30 }

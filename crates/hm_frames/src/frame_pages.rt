@@ -1,4 +1,5 @@
-//! Pages in raw memory. A run that is dropped is kept for a while, and taken again for the next range of its length.
+//! Pages in raw memory. A few of the runs that are dropped, none of them long, are kept, and taken again for the next
+//! range of their length.
 ghost use Rattle.std.specs.Prelude.{◌≡◌};
 ghost use Rattle.std.specs.FinMap as map;
 

@@ -4,7 +4,7 @@ use crate::Reply;
 /// The answer of the allocator to a program's call.
 #[derive(Debug, Drop)]
 pub enum Answer {
-    /// What the region replied.
+    /// What the region replied; for the size of address 0, `Usable(0)` without a region.
     Reply(Reply),
     /// The product of count and size passes 2^64 - 1.
     Overflow,

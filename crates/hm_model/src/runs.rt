@@ -88,8 +88,8 @@ impl Runs {
         bytes
     }
 
-    /// The bytes that these pairs stand for, unless they break a rule of runs: none is of length 0,
-    /// neighbours have different bytes, and the lengths sum to a `u64`.
+    /// The runs that are these pairs, unless they break a rule of runs: none is of length 0, neighbours have different
+    /// bytes, and the lengths sum to a `u64`.
     pub fn from_pairs(pairs: Vec<(u8, u64)>) -> Option<Runs>
         ensures some { IsSome result ↔ AreRuns pairs.items }
         ensures value { IfSome result (λ runs. runs ≡ pairs.items) }

@@ -6,8 +6,8 @@ use crate::{PageFault, PageRefusal, Pages, PlainPages};
 use std::alloc::Global;
 use std::marker::Model;
 
-/// Pages that tell nothing: every call on them succeeds, and none makes anything accessible. They lend nothing but
-/// what lies at address 0, which is nothing at first.
+/// Pages that tell nothing: making a range accessible and dropping it succeed and change nothing, and no byte is ever
+/// lent.
 #[derive(Drop)]
 pub struct SilentPages {
     plain: PlainPages,

@@ -53,7 +53,8 @@ pub(crate) fn names_left<E: Addresses>(
     Ok(left)
 }
 
-/// The lists of all scripts as one, in their order. It is not found where the names of a script could not be listed.
+/// The lists of all scripts as one, in their order. It answers `NoMemory` also where the names of a script could not be
+/// listed.
 pub(crate) fn all_left(
     alloc: Global,
     lists: &[Option<Vec<NameLeft>>],

@@ -166,9 +166,9 @@ fn all_found(alloc: Global, found: Vec<Option<Results>>) -> Result<Vec<Results>,
     Ok(results)
 }
 
-/// Runs each script of a round under a pass of its own, each in a thread of its own. All passes are joined,
-/// also where there is no memory: then the last scripts may not have been begun, and others not run to their ends. The
-/// names that the scripts set are seen from then on.
+/// Runs each script of a round under a pass of its own, each in a thread of its own. All passes are joined, also where
+/// there is no memory: then each script may have run up to any step, or not at all, and no name is set. Else the names
+/// that the scripts set are seen from then on.
 pub fn run_round<R: Threads + Wait + Sync, P: Pages, G: Gate>(
     rt: &R,
     alloc: Global,

@@ -91,8 +91,8 @@ impl Counts<u128> {
     }
 }
 
-/// The summary of a run of the stress trace of this number: one line; and whether an answer is a finding. Four
-/// threads count the results.
+/// The summary of a run of the stress trace of this number: one line; and whether an answer is a finding. At
+/// most four threads count the results.
 pub fn summary<R: Threads>(
     rt: &R,
     alloc: Global,
@@ -166,7 +166,7 @@ fn steps_in(script: &Results) -> usize
     script.items.items().len()
 }
 
-/// How many results there are of each kind, counted by four threads.
+/// How many results there are of each kind, counted by at most four threads.
 fn tally<R: Threads>(rt: &R, results: &[Results]) -> Counts<u128>
     ensures { result ≡ counts_of results.now }
 {

@@ -29,7 +29,7 @@ size_given asked TooLarge = asked
 abbrev pub SizesAgree : Type 0
 SizesAgree = (asked : ℕ) (kind : Kind) → IsKindOf asked kind → block_size asked ≡ size_given asked kind
 
--- the size of a large block for this raised size
+-- what holds of the size of a large block for this raised size
 pub record IsLargeSize (raised size : ℕ) : Type 0 where
   pub some : 1 ≤ size
   pub holds : raised ≤ size

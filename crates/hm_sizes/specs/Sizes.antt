@@ -5,7 +5,7 @@ use Rattle.hm_sizes.specs.Classes.{class_count, class_size, round_up, bit_length
 use Rattle.hm_sizes.specs.declared.class.Kind.{Kind}
 use Rattle.hm_sizes.specs.declared.class.Kind.TheVariants.{Small, Large, TooLarge}
 
--- with room for a canary
+-- with room for a canary, from 1 to 131,072; 0 and greater requests as they are
 abbrev pub raised : ℕ → ℕ
 raised asked = if asked == 0 then 0 else if nat_le asked 131072 then asked + 8 else asked
 

@@ -65,7 +65,7 @@ fn class_size(class: ClassId) -> u64
     }
 }
 
-/// A request's size with room for a canary.
+/// A request's size with room for a canary, from 1 to 131,072 bytes; 0 and greater requests as they are.
 pub fn raised(asked: u64) -> u64
     ensures { result ≡ raised asked }
 {

@@ -95,7 +95,7 @@ impl Shape {
         self.class.0 != 0
     }
 
-    /// The bytes of a slot that its owner may use: all but the canary's 8.
+    /// The bytes of a slot that its owner may use: all but the canary's 8, and none in class 0.
     pub fn usable(&self) -> u64
         ensures { result ≡ usable self.now }
     {

@@ -59,7 +59,7 @@ abbrev pub front : List ℕ → Option ℕ
 front [] = None
 front (x ∷ xs) = Some x
 
--- the link of a slab, if it has one
+-- what follows a slab, if it is in a list and not its last
 abbrev pub next_of : Option (Option Link) → Option ℕ
 next_of None = None
 next_of (Some None) = None

@@ -29,7 +29,8 @@ pub enum Place {
     Exhausted,
 }
 
-/// The slabs of a region, the lists that they are in, and the parking array of those that were retired last.
+/// The slabs of a region, the lists that they are in, and the parking array, each place of which holds the slab that
+/// was retired to it last.
 #[derive(Drop)]
 pub struct SlabLists {
     chains: Chains,
@@ -191,7 +192,7 @@ impl SlabLists {
         self.chains.put_first(ListName::Empty, index);
     }
 
-    /// Opens the slab that was retired first and stands in no parking place.
+    /// Opens the first slab of the retired list, which is the one that left its parking place first.
     pub fn open_retired(&mut self, n: u64)
         requires { front self.old.lists.retired ≡ Some n }
         ensures { self.new ≡ opened_retired n self.old }
@@ -231,8 +232,8 @@ impl SlabLists {
         self.settle(n);
     }
 
-    /// Retires an open slab to a parking place, and answers the slab that stood there, which is the last one to
-    /// be opened again.
+    /// Retires an open slab to a parking place. It answers the slab that stood there, if one did, which is then the
+    /// last of the retired list.
     pub fn retire(&mut self, n: u64, park: u32) -> Option<u64>
         requires open { is_open n self.old ≡ true }
         requires park { park < length self.old.parking }

@@ -32,7 +32,7 @@ fn are_plain(line: &[u8]) -> bool
     line.iter().all(|c| (b' '..=b'~').contains(c))
 }
 
-/// At most 256 bytes, from a space to a tilde.
+/// Checks that a line has at most 256 bytes, each from a space to a tilde.
 pub(crate) fn check_plain(line: &[u8]) -> Result<(), FaultKind>
     ensures { GivesBy (λ x. x) result (plain_at line.now) }
 {
@@ -45,7 +45,7 @@ pub(crate) fn check_plain(line: &[u8]) -> Result<(), FaultKind>
     Ok(())
 }
 
-/// The first line.
+/// Checks the first line: it is plain, and `hmtrace 1`.
 #[tactic(auto, unfolding(crate::specs::ReadLines::header_at))]
 pub(crate) fn check_header(line: &[u8]) -> Result<(), FaultKind>
     ensures { GivesBy (λ x. x) result (header_at line.now) }

@@ -39,8 +39,8 @@ line_of Usage = codes "fault: usage" ++ 10 ∷ []
 line_of ReadFault = codes "fault: read" ++ 10 ∷ []
 line_of TooLong = codes "fault: too long" ++ 10 ∷ []
 
--- why a source is refused: it failed, no more bytes than may be being taken, or it has too many; what the words are is
--- no matter of the source
+-- why a source is refused: it failed, and no more bytes were taken than may be; or it has too many; what the words are
+-- is no matter of the source
 abbrev pub IsRefused : Refusal → Stream → Type 0
 IsRefused Usage source = ⊥
 IsRefused ReadFault source = HasFailed source × IsTakenWithin 67108864 source

@@ -63,7 +63,7 @@ pub fn freed_blocks_come_late<P: Pages>()
     delayed_blocks();
 }
 
-/// What is given is zero; a slot that was found overwritten is never given.
+/// What is given is zero; a slot that was found overwritten is never given again.
 pub fn given_blocks_are_zero<P: Pages>()
     ensures slots { (o : Options) (closed : Closed P) (place : ℕ) (p : P) → SlotsAreZero P.Pages o closed place p }
     ensures blocks { (o : Options) (closed : Closed P) (place : ℕ) (p : P) → BlocksAreZero P.Pages o closed place p }
