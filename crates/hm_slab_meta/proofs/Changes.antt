@@ -108,9 +108,6 @@ pub condemns : (l h c g c' : BitMap) (slots slot : ℕ) (u : SlotUse) → IsKept
     → Sets c slot true c' → Changed l h c g l h c' g slot (Condemned (was_given u))
 condemns l h c g c' slots slot u kept at free set_c = record { use_ = λ i below. named i (each i below).use_; fit = λ i below. (each i below).fit }
   where
-    given_of : ℕ → SlotUse
-    given_of i = Condemned (was_given (use_in l h c g i))
-
     each : (i : ℕ) → i < 256 → Turns (has l i) (has h i) (has c' i) (has g i) (if i == slot then Condemned (was_given (use_in l h c g i)) else use_in l h c g i)
     each i below =
         subst (λ x. Turns (has l i) (has h i) x (has g i) (if i == slot then Condemned (was_given (use_in l h c g i)) else use_in l h c g i)) (sym (set_c i below))
