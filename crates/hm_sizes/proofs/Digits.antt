@@ -6,7 +6,7 @@ use Rattle.std.proofs.lemmas.Nat.{leading_top, one_shl, div-add-mod', div-mul-ad
 use lib.Count.{count_leading_zeros}
 use Rattle.hm_sizes.specs.Classes.{bit_length}
 
-power_rises : (i j : ℕ) → i ≤ j → 2 ^ i ≤ 2 ^ j
+pub power_rises : (i j : ℕ) → i ≤ j → 2 ^ i ≤ 2 ^ j
 power_rises i j le = pow_mono le
 
 exponent_above : (j : ℕ) → 2 ^ 15 < 2 ^ suc j → 15 ≤ j

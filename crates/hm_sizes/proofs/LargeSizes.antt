@@ -1,16 +1,12 @@
 -- Sizes of large blocks are whole pages, and none is above the greatest request.
 use Rattle.std.proofs.Common.{◌≡◌, ⊎_elim, mul_assoc, ℕ, suc, ◌+◌, ◌-◌, ◌*◌, ◌/◌, ◌%◌, ◌^◌, ◌<◌, ◌≤◌, max, cond, sym, ap, ◌∙◌, refl, arith, subst}
-use lib.Pow.{pow_mono}
 use Rattle.std.proofs.lemmas.Bool.{cases_lt, le-leb, lt-leb}
 use Rattle.std.proofs.lemmas.Nat.{leading_top, div-add-mod', mod_below, pow-add}
 use lib.Count.{count_leading_zeros}
 use Rattle.hm_sizes.specs.Classes.{bit_length, round_up}
 use Rattle.hm_sizes.specs.Sizes.{spacing, large_size}
 use Rattle.hm_sizes.specs.Laws.{IsLargeSize, LargeSizes}
-use Rattle.hm_sizes.proofs.Digits.{digits_between}
-
-power_rises : (i j : ℕ) → i ≤ j → 2 ^ i ≤ 2 ^ j
-power_rises i j le = pow_mono le
+use Rattle.hm_sizes.proofs.Digits.{power_rises, digits_between}
 
 digits_most : (n : ℕ) → 2 ^ 15 ≤ n → n < 2 ^ 30 → bit_length n ≤ 30
 digits_most n least most =

@@ -102,15 +102,12 @@ home_in c region a h =
     ∙ ap (λ (n : ℕ). Class (record { 0 = n })) (number_of c region.0 a h)
 
 -- ---- slabs and places
-slab_row : (slab n limit : ℕ) → n < limit → n * slab + slab ≤ limit * slab
-slab_row slab n limit lt = omega (arith, mul-le (n + 1) slab limit slab (omega arith) (omega arith))
-
 pub slab_in : (c : Config) (arena : ℕ) (class : ClassId) (gap n a : ℕ) → arena < c.arenas → class.0 < 49 → gap ≤ c.class_region
     → n < (shape_of c arena class gap).limit → slab_at (shape_of c arena class gap) n ≤ a
     → a < slab_at (shape_of c arena class gap) n + (shape_of c arena class gap).slab → IsInRegion c (arena * 49 + class.0) a
 slab_in c arena class gap n a lt below most limit least less =
     let slab : ℕ = slab_size class.0 in
-    let row : n * slab + slab ≤ c.class_region / slab * slab = slab_row slab n (c.class_region / slab) limit in
+    let row : n * slab + slab ≤ c.class_region / slab * slab = slot_row slab n (c.class_region / slab) limit in
     let within : c.class_region / slab * slab ≤ c.class_region = slabs_within c.class_region slab in
     record { below = omega arith; from_start = omega arith; to_end = omega arith }
 
