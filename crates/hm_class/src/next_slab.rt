@@ -12,7 +12,7 @@ use crate::outcome::Canary;
 use crate::slabs::{Slabs, Source};
 use hm_choice::Stream;
 use hm_outside::{NoMemory, PageRefusal, Pages};
-use hm_sizes::Shape;
+use hm_sizes::{PAGE, Shape};
 
 /// A slab for the next block.
 #[derive(Clone, Copy, Drop)]
@@ -39,7 +39,7 @@ pub fn slab_pages(shape: &Shape) -> u32
     requires { IsShape shape.now }
     ensures { 4096 * result ≡ shape.now.slab }
 {
-    (shape.slab / 4096) as u32
+    (shape.slab / PAGE) as u32
 }
 
 // Makes the pages of a slab accessible, where slabs have bytes.

@@ -1,10 +1,11 @@
 //! Bytes over pages: the first that is not zero, canaries, clearing and writing. Pages that tell nothing
 //! may lend nothing; then a range passes every check, and a change of it is left out.
-ghost use Rattle.std.specs.Prelude.{◌≡◌, ◌≢◌, ◌==◌, ◌<◌, IsTrue, IfSome, Some, None, List, ℕ, length, if◌then◌else◌};
-ghost use Rattle.std.specs.Int.{to_le_bytes, from_le_bytes};
+ghost use Rattle.std.specs.Prelude.{◌≡◌, ◌≢◌, ◌<◌, IsTrue, IfSome, List, ℕ, length};
+ghost use Rattle.std.specs.Int.{to_le_bytes};
 ghost use mir.Syntax.{w64};
 ghost use Rattle.hm_outside.specs.PageRuns.{IsHeld, Reads, Writes, zeros};
 ghost use Rattle.hm_class_rules.specs.Bytes.{first_nonzero};
+ghost use Rattle.hm_class.specs.Judgements.{other_number};
 
 use hm_outside::Pages;
 
@@ -23,7 +24,7 @@ pub fn first_nonzero<P: Pages>(pages: &P, addr: u64, len: usize) -> Option<(u64,
 pub fn other_canary<P: Pages>(pages: &P, addr: u64, canary: u64) -> Option<u64>
     ensures value { IsTrue (P.told pages.now) → IsHeld (P.runs pages.now) addr 8
         → (slice : List ℕ) × Reads (P.runs pages.now) addr 8 slice
-        × (result ≡ (if from_le_bytes w64 slice == canary then None else Some (from_le_bytes w64 slice))) }
+        × (result ≡ other_number slice canary) }
     ensures other { IfSome result (λ found. canary ≢ found) }
 {
     differing(*pages.bytes(addr, 8)?.as_array::<8>()?, canary)
@@ -31,7 +32,7 @@ pub fn other_canary<P: Pages>(pages: &P, addr: u64, canary: u64) -> Option<u64>
 
 // 8 bytes as a canary, where they are not this one.
 fn differing(last: [u8; 8], canary: u64) -> Option<u64>
-    ensures value { result ≡ (if from_le_bytes w64 last == canary then None else Some (from_le_bytes w64 last)) }
+    ensures value { result ≡ other_number last canary }
     ensures other { IfSome result (λ found. canary ≢ found) }
 {
     if hm_canary::matches(&last, canary) {
