@@ -19,8 +19,8 @@ use Rattle.hm_class_rules.proofs.Delay.{among_here}
 use Rattle.hm_class_rules.proofs.Fronts.{among_filter}
 use Rattle.hm_class_rules.proofs.Whole.{at_removed}
 use Rattle.hm_slab_meta.specs.Uses.{SlotUse}
-use Rattle.hm_slab_meta.specs.Uses.{Never, Free, Live, Held, Condemned}
-use Rattle.hm_class.specs.Uses.{numbers_of, Uses, SlabUse, lives, is_condemned, is_held, was_given, occupied, slab_in, use_at, passes_at, changed, with_use, with_open, with_shut, with_slab, with_slot, opened_slab, shut_slab, fresh_slab, taken_uses}
+use Rattle.hm_slab_meta.specs.Uses.{Never, Free, Live, Held, Condemned, was_given}
+use Rattle.hm_class.specs.Uses.{numbers_of, Uses, SlabUse, lives, is_condemned, is_held, occupied, slab_in, use_at, passes_at, changed, with_use, with_open, with_shut, with_slab, with_slot, opened_slab, shut_slab, fresh_slab, taken_uses}
 use Rattle.hm_class.specs.Kept.{Shows}
 use Rattle.hm_class.proofs.Entered.{has_removed_same, has_removed_other, has_put_same, has_put_other, at_put_same, at_put_other, has_overlaid, canary_overlaid}
 use Rattle.hm_class.proofs.Places.{place_same}

@@ -9,9 +9,9 @@ use Rattle.hm_slab_lists.specs.Named.{list_named}
 use Rattle.hm_slab_meta.specs.declared.slab_meta.SlotState.{SlotState}
 use Rattle.hm_slab_meta.specs.declared.slab_meta.SlotState.TheVariants as state
 use Rattle.hm_slab_meta.specs.Uses as meta
-use Rattle.hm_slab_meta.specs.Uses.{SlotUse, Never, Free, Live, Held, Condemned, state_of}
+use Rattle.hm_slab_meta.specs.Uses.{SlotUse, Never, Free, Live, Held, Condemned, state_of, was_given}
 use Rattle.hm_class.specs.Slabs.{shown, list_of}
-use Rattle.hm_class.specs.Uses.{lives, was_given, has_occupied, has_available, kind_of}
+use Rattle.hm_class.specs.Uses.{lives, has_occupied, has_available, kind_of}
 use Rattle.hm_class.proofs.Shown.{all_available, unused_is}
 
 -- ---- one slot
@@ -40,7 +40,7 @@ not_live state.Live ne = absurd (ne refl)
 not_live state.Held ne = refl
 not_live state.Condemned ne = refl
 
-pub given_by : (o : Option SlotUse) (b : Bool) → option_map meta.was_given o ≡ Some b → b ≡ option_map_or was_given o false
+pub given_by : (o : Option SlotUse) (b : Bool) → option_map was_given o ≡ Some b → b ≡ option_map_or was_given o false
 given_by None b e = absurd (none-some b e)
 given_by (Some u) b e = sym (same_Some (was_given u) b e)
 

@@ -13,9 +13,9 @@ use Rattle.hm_class.specs.declared.outcome.Event.{Event}
 use Rattle.hm_class.specs.declared.outcome.Outcome.{Outcome}
 use Rattle.hm_class.specs.declared.outcome.Outcome.TheVariants as outcome
 use Rattle.hm_slab_meta.specs.Uses.{SlotUse}
-use Rattle.hm_slab_meta.specs.Uses.{Live, Condemned}
+use Rattle.hm_slab_meta.specs.Uses.{Live, Condemned, was_given}
 use Rattle.hm_class.specs.Slabs.{Slabs}
-use Rattle.hm_class.specs.Uses.{lives, occupied, was_given, passes_at, use_at, live_count}
+use Rattle.hm_class.specs.Uses.{lives, occupied, passes_at, use_at, live_count}
 use Rattle.hm_class.specs.Finds.{Finds, Serves, Serve, CanOpen, CanPick, CanServe, slot_in}
 use Rattle.hm_class.specs.Gives.{Gives}
 use Rattle.hm_class.specs.Outcomes.{canary_value}

@@ -26,11 +26,11 @@ use Rattle.hm_class_rules.specs.Laws.{IsSound, uses}
 use Rattle.hm_class_rules.proofs.Delay.{among_here}
 use Rattle.hm_class_rules.proofs.Sound.{has_times}
 use Rattle.hm_class_rules.proofs.Changes.{kind_partial, kind_empty}
-use Rattle.hm_slab_meta.specs.Uses.{SlotUse}
+use Rattle.hm_slab_meta.specs.Uses.{SlotUse, was_given}
 use Rattle.hm_class.specs.declared.slabs.Slot.{Slot}
 use Rattle.hm_class.specs.declared.slabs.Refusal.TheVariants as refusal
 use Rattle.hm_class.specs.declared.slabs.Verdict.TheVariants as verdict
-use Rattle.hm_class.specs.Uses.{numbers_of, Uses, SlabUse, lives, was_given, occupied, has_available, is_partly, is_unused, has_occupied, kind_of, kind_at, slab_in, canary_at, taken_uses, with_slab, fresh_slab}
+use Rattle.hm_class.specs.Uses.{numbers_of, Uses, SlabUse, lives, occupied, has_available, is_partly, is_unused, has_occupied, kind_of, kind_at, slab_in, canary_at, taken_uses, with_slab, fresh_slab}
 use Rattle.hm_class.specs.Sources.{Refuses, Judges}
 use Rattle.hm_model.specs.Calls.{entry_of}
 use Rattle.hm_class.specs.Judgements.{other_number}

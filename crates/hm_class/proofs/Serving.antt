@@ -7,8 +7,8 @@ use Rattle.hm_slab_lists.specs.Lists.{Lists, placed}
 use Rattle.hm_class.specs.declared.outcome.Outcome.{Outcome}
 use Rattle.hm_class.specs.declared.outcome.Outcome.TheVariants as outcome
 use Rattle.hm_class.specs.Slabs.{Slabs, SameLists, SameSlots, list_of}
-use Rattle.hm_slab_meta.specs.Uses.{SlotUse, Live, Condemned}
-use Rattle.hm_class.specs.Uses.{Uses, was_given, passes_at, kind_at, slab_in, open_at, first_at, with_slot, with_use}
+use Rattle.hm_slab_meta.specs.Uses.{SlotUse, Live, Condemned, was_given}
+use Rattle.hm_class.specs.Uses.{Uses, passes_at, kind_at, slab_in, open_at, first_at, with_slot, with_use}
 use Rattle.hm_class.proofs.Used.{open_changed, open_there, slab_beside}
 use Rattle.hm_class.specs.Gives.{Gives}
 use Rattle.hm_class.specs.Finds.{Serve, slot_in}

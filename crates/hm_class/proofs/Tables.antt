@@ -17,9 +17,9 @@ use Rattle.hm_slab_lists.specs.Numbers.{is_guard, after}
 use Rattle.hm_slab_lists.specs.Table.{Table, new_table, is_open}
 use Rattle.hm_slab_lists.specs.TableLending.{with_meta_of}
 use Rattle.hm_slab_meta.specs.Uses as meta
-use Rattle.hm_slab_meta.specs.Uses.{Never, Free, Live, Held, Condemned}
+use Rattle.hm_slab_meta.specs.Uses.{Never, Free, Live, Held, Condemned, was_given}
 use Rattle.hm_class.specs.Slabs.{Slabs, shown, slab_in_table, uses_of, slabs_of, IsFiled}
-use Rattle.hm_class.specs.Uses.{Uses, SlabUse, kind_of, kind_at, occupied, was_given, passes_at, slab_in, use_at, open_at, canary_at, changed, with_slab}
+use Rattle.hm_class.specs.Uses.{Uses, SlabUse, kind_of, kind_at, occupied, passes_at, slab_in, use_at, open_at, canary_at, changed, with_slab}
 use Rattle.hm_class.specs.Sources.{IsWithin}
 use Rattle.hm_class.proofs.Used.{changed_is, changed_none}
 
@@ -201,17 +201,17 @@ module _ (t : Table) (n i : ℕ) (slab : meta.SlabUse) (filed : IsFiled t) (is :
       of (Some Held) e = absurd (true≢false (same_Some true false e))
       of (Some (Condemned given)) e = absurd (true≢false (same_Some true false e))
 
-  pub given_slot : meta.was_given (meta.use_at slab i) ≡ passes_at was_given (uses_of t) n i
+  pub given_slot : was_given (meta.use_at slab i) ≡ passes_at was_given (uses_of t) n i
   given_slot = of (slice_get slab.slots i) refl ∙ ap (λ (o : Option meta.SlotUse). option_map_or was_given o false) (sym use_is)
     where
-      of : (o : Option meta.SlotUse) → slice_get slab.slots i ≡ o → meta.was_given (meta.use_at slab i) ≡ option_map_or was_given o false
-      of None e = ap (λ (u : meta.SlotUse). meta.was_given u) (past slab.slots i e)
+      of : (o : Option meta.SlotUse) → slice_get slab.slots i ≡ o → was_given (meta.use_at slab i) ≡ option_map_or was_given o false
+      of None e = ap (λ (u : meta.SlotUse). was_given u) (past slab.slots i e)
         where
           past : (xs : List meta.SlotUse) (j : ℕ) → slice_get xs j ≡ None → slice_index_or xs j Never ≡ Never
           past [] j e = refl
           past (x ∷ xs) zero e = absurd (none-some x (sym e))
           past (x ∷ xs) (suc j) e = past xs j e
-      of (Some u) e = ap (λ (u : meta.SlotUse). meta.was_given u) (get_or_from_slice_get slab.slots i u Never e)
+      of (Some u) e = ap (λ (u : meta.SlotUse). was_given u) (get_or_from_slice_get slab.slots i u Never e)
 
 -- ---- a new table
 pub filed_new : (limit g park_length slots : ℕ) → 1 ≤ slots → IsFiled (new_table limit g park_length slots)

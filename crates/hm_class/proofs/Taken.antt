@@ -31,9 +31,9 @@ use Rattle.hm_class_rules.proofs.Whole.{whole_write}
 use Rattle.hm_class.specs.declared.outcome.Outcome.{Outcome}
 use Rattle.hm_class.specs.declared.outcome.Outcome.TheVariants as outcome
 use Rattle.hm_slab_meta.specs.Uses.{SlotUse}
-use Rattle.hm_slab_meta.specs.Uses.{Live, Condemned}
+use Rattle.hm_slab_meta.specs.Uses.{Live, Condemned, was_given}
 use Rattle.hm_class.specs.Slabs.{Slabs}
-use Rattle.hm_class.specs.Uses.{numbers_of, Uses, SlabUse, slab_in, lives, was_given, occupied, kind_at, use_at, passes_at, canary_at, with_use, live_count}
+use Rattle.hm_class.specs.Uses.{numbers_of, Uses, SlabUse, slab_in, lives, occupied, kind_at, use_at, passes_at, canary_at, with_use, live_count}
 use Rattle.hm_model.specs.Calls.{entry_of}
 use Rattle.hm_class.specs.Outcomes.{reply_of}
 use Rattle.hm_class.specs.Gives.{Gives, Stains, Seals}

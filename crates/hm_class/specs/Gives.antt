@@ -9,10 +9,10 @@ use Rattle.hm_sizes.specs.Shapes.{place, usable, has_bytes}
 use Rattle.hm_class_rules.specs.Bytes.{first_nonzero}
 use Rattle.hm_class.specs.declared.outcome.Outcome.{Outcome}
 use Rattle.hm_class.specs.declared.outcome.Outcome.TheVariants as outcome
-use Rattle.hm_slab_meta.specs.Uses.{Live, Condemned}
+use Rattle.hm_slab_meta.specs.Uses.{Live, Condemned, was_given}
 use Rattle.hm_class.specs.Slabs.{Slabs}
 use Rattle.hm_class.specs.declared.slabs.Slot.{Slot}
-use Rattle.hm_class.specs.Uses.{was_given, passes_at, canary_at, with_use}
+use Rattle.hm_class.specs.Uses.{passes_at, canary_at, with_use}
 
 module _ {P : Type 0} (meaning : pages.Ghosts P) where
   -- what is found among the usable bytes of the slot at a, where slots have bytes

@@ -16,8 +16,9 @@ use Rattle.hm_class_rules.specs.Kinds.{Neither}
 use Rattle.hm_class_rules.specs.State.{State, Slab, is_open, is_live}
 use Rattle.hm_class_rules.specs.Stepped.{Cells, cells, IsStepped}
 use Rattle.hm_class_rules.specs.Rules.{Terms, IsLegal, state}
+use Rattle.hm_slab_meta.specs.Uses.{was_given}
 use Rattle.hm_class.specs.Slabs.{Slabs}
-use Rattle.hm_class.specs.Uses.{Uses, SlabUse, lives, is_condemned, is_held, was_given, slab_in, open_at, kind_at, passes_at, canary_at, live_count, numbers_of}
+use Rattle.hm_class.specs.Uses.{Uses, SlabUse, lives, is_condemned, is_held, slab_in, open_at, kind_at, passes_at, canary_at, live_count, numbers_of}
 use Rattle.hm_class.specs.Region.{HoldsSlabs}
 
 -- the slots say what the state says

@@ -3,7 +3,7 @@ use Rattle.std.specs.Prelude.{◌≡◌, ℕ, nat_lt, if◌then◌else◌, true,
 use Rattle.hm_sizes.specs.declared.shape.Shape.{Shape}
 use Rattle.hm_sizes.specs.Shapes.{IsPlaceOf}
 use Rattle.hm_class_rules.specs.Stepped.{front}
-use Rattle.hm_slab_meta.specs.Uses.{Live}
+use Rattle.hm_slab_meta.specs.Uses.{Live, was_given}
 use Rattle.hm_class.specs.Slabs.{Slabs}
 use Rattle.hm_class.specs.declared.slabs.Slot.{Slot}
 use Rattle.hm_class.specs.declared.slabs.Source.{Source}
@@ -13,7 +13,7 @@ use Rattle.hm_class.specs.declared.slabs.Verdict.TheVariants as verdict
 use Rattle.hm_class.specs.declared.slabs.Verdict.TheVariants.{Refused}
 use Rattle.hm_class.specs.declared.slabs.Refusal.{Refusal}
 use Rattle.hm_class.specs.declared.slabs.Refusal.TheVariants as refusal
-use Rattle.hm_class.specs.Uses.{Uses, SlabUse, slab_in, occupied, lives, was_given, use_at, passes_at}
+use Rattle.hm_class.specs.Uses.{Uses, SlabUse, slab_in, occupied, lives, use_at, passes_at}
 
 -- an available slot
 abbrev pub IsAvailable : Uses → Slot → Type 0

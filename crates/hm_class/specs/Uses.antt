@@ -5,8 +5,7 @@ use Rattle.std.specs.Option.{option_and_then, option_map_or}
 use Rattle.hm_sizes.specs.declared.shape.Shape.{Shape}
 use Rattle.hm_class_rules.specs.Kinds.{Kind, Partial, Empty, Neither}
 use Rattle.hm_slab_lists.specs.Numbers.{is_guard}
-use Rattle.hm_slab_meta.specs.Uses as meta
-use Rattle.hm_slab_meta.specs.Uses.{SlotUse, Never, Free, Live, Held, Condemned, is_available, first_from}
+use Rattle.hm_slab_meta.specs.Uses.{SlotUse, Never, Free, Live, Held, Condemned, was_given, is_available, first_from}
 
 -- ---- one slot
 abbrev pub lives : SlotUse → Bool
@@ -15,9 +14,6 @@ lives Free = false
 lives Live = true
 lives Held = false
 lives (Condemned given) = false
-
-abbrev pub was_given : SlotUse → Bool
-was_given u = meta.was_given u
 
 abbrev pub is_condemned : SlotUse → Bool
 is_condemned Never = false
@@ -35,11 +31,7 @@ is_held (Condemned given) = false
 
 -- it is live, held or condemned
 abbrev pub occupied : SlotUse → Bool
-occupied Never = false
-occupied Free = false
-occupied Live = true
-occupied Held = true
-occupied (Condemned given) = true
+occupied u = not (is_available u)
 
 -- ---- one slab
 -- how its slots are used, its canary, and whether it is open; the canary of one that is not is 0

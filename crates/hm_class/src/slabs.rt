@@ -4,10 +4,10 @@ ghost use Rattle.std.specs.Prelude.{◌≡◌, ℕ, ◌+◌, ◌<◌, ◌≤◌,
 ghost use Rattle.hm_sizes.specs.Shapes.{IsShape, place, slab_of, slot_of};
 ghost use Rattle.hm_class_rules.specs.Kinds.{Empty, same_kind};
 ghost use Rattle.hm_slab_lists.specs.Lists.{placed};
-ghost use Rattle.hm_slab_meta.specs.Uses.{Live, Held, Free};
+ghost use Rattle.hm_slab_meta.specs.Uses.{Live, Held, Free, was_given};
 ghost use Rattle.hm_class.specs.Slabs.{HasRoom, no_slabs, with_spare, taken_of, list_of, opened_lists, SameLists, SameSlots, Parks};
 ghost use Rattle.hm_class.specs.Sources.{IsAvailable, IsWithin, AreWhole, Sources, Judges};
-ghost use Rattle.hm_class.specs.Uses.{numbers_of, slab_in, open_at, kind_at, use_at, passes_at, lives, was_given, canary_at, first_at, with_use, with_condemned, with_open, with_canary_at, live_count};
+ghost use Rattle.hm_class.specs.Uses.{numbers_of, slab_in, open_at, kind_at, use_at, passes_at, lives, canary_at, first_at, with_use, with_condemned, with_open, with_canary_at, live_count};
 
 use hm_outside::NoMemory;
 use hm_sizes::{Shape, place_of};

@@ -2,10 +2,10 @@ use Rattle.std.proofs.Common.{◌≡◌, Bool, ◌∙◌, length, sym, ap, subst
 use Rattle.std.proofs.lemmas.List.{length-set}
 use Rattle.hm_slab_lists.specs.Table.{is_open}
 use Rattle.hm_slab_meta.specs.Uses as meta
-use Rattle.hm_slab_meta.specs.Uses.{Condemned}
+use Rattle.hm_slab_meta.specs.Uses.{Condemned, was_given}
 use Rattle.hm_class.specs.Slabs.{Slabs, IsFiled, uses_of, shown}
 use Rattle.hm_class.specs.Sources.{IsAvailable}
-use Rattle.hm_class.specs.Uses.{was_given, passes_at, with_slot, with_use, live_count}
+use Rattle.hm_class.specs.Uses.{passes_at, with_slot, with_use, live_count}
 use Rattle.hm_class.proofs.Counts.{mapped}
 use Rattle.hm_class.proofs.Tables.{lent_is, none_lent, none_used, given_slot, available_slot, uses_written, filed_written}
 use Rattle.hm_class.proofs.Used.{live_condemned}

@@ -1,9 +1,9 @@
 use Rattle.std.proofs.Common.{◌∙◌, Option, false, sym, ap, subst}
 use Rattle.std.specs.Option.{option_map_or}
-use Rattle.hm_slab_meta.specs.Uses.{SlotUse}
+use Rattle.hm_slab_meta.specs.Uses.{SlotUse, was_given}
 use Rattle.hm_class.specs.Slabs.{Slabs}
 use Rattle.hm_class.specs.Sources.{IsWithin}
-use Rattle.hm_class.specs.Uses.{passes_at, was_given}
+use Rattle.hm_class.specs.Uses.{passes_at}
 use Rattle.hm_class.proofs.KindsOf.{given_by}
 use Rattle.hm_class.proofs.Tables.{use_is, none_use, within_slots}
 use Rattle.hm_class.proofs.slabs.Slabs.was_given.Goals as goal
