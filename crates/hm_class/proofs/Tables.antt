@@ -8,7 +8,6 @@ use Rattle.std.specs.FinMap.{get-insert, get-empty}
 use Rattle.std.specs.Cmp.{nat_cmp_total}
 use Rattle.std.specs.Ordering.{nat_cmp, eq_by_cmp}
 use Rattle.std.proofs.lemmas.Bool.{cases_eq, cases_lt, cond-true, cond-false}
-use Rattle.std.proofs.lemmas.Bool.Decides.{nat_tests}
 use Rattle.std.proofs.lemmas.List.{length-set, get_or-set_same, get_or-set_other, same_lists}
 use Rattle.std.proofs.lemmas.List.FromFn.{get_or-map-range_with_len, length-map-range_with_len, map-range_with_len_more}
 use Rattle.std.proofs.lemmas.Option.{slice_get-get_or, slice_get_past, get_or_from_slice_get, none-some, same_Some}
@@ -16,6 +15,7 @@ use Rattle.hm_class_rules.specs.Kinds.{Neither}
 use Rattle.hm_slab_lists.specs.Numbers.{is_guard, after}
 use Rattle.hm_slab_lists.specs.Table.{Table, new_table, is_open}
 use Rattle.hm_slab_lists.specs.TableLending.{with_meta_of}
+use Rattle.hm_slab_lists.proofs.ByNumber.{is_tie, no_tie}
 use Rattle.hm_slab_meta.specs.Uses as meta
 use Rattle.hm_slab_meta.specs.Uses.{Never, Free, Live, Held, Condemned, was_given}
 use Rattle.hm_class.specs.Slabs.{Slabs, shown, slab_in_table, uses_of, slabs_of, IsFiled}
@@ -97,15 +97,9 @@ uses_grown t t' g b next here guard before =
     of false = one ∙ sym (append-nil (uses_of t ++ Some b ∷ []))
 
 -- ---- what is kept of one slab is written
-tie_is : (a b : ℕ) → a ≡ b → eq_by_cmp nat_cmp a b ≡ true
-tie_is a b e = grind (arith, nat_tests)
-
-no_tie : (a b : ℕ) → a ≢ b → eq_by_cmp nat_cmp a b ≡ false
-no_tie a b e = grind (arith, nat_tests)
-
 module _ (t : Table) (n : ℕ) (slab : meta.SlabUse) where
   pub written_here : finite.get (finite.insert t.metas n slab) n ≡ Some slab
-  written_here = get-insert nat_cmp_total t.metas n slab n ∙ cond-true (eq_by_cmp nat_cmp n n) (Some slab) (finite.get t.metas n) (tie_is n n refl)
+  written_here = get-insert nat_cmp_total t.metas n slab n ∙ cond-true (eq_by_cmp nat_cmp n n) (Some slab) (finite.get t.metas n) (is_tie n n refl)
 
   pub written_beside : (m : ℕ) → m ≢ n → finite.get (finite.insert t.metas n slab) m ≡ finite.get t.metas m
   written_beside m ne = get-insert nat_cmp_total t.metas n slab m ∙ cond-false (eq_by_cmp nat_cmp m n) (Some slab) (finite.get t.metas m) (no_tie m n ne)

@@ -21,10 +21,10 @@ tie_is a b e = grind (arith, nat_tests)
 tie_no : (a b : ℕ) → eq_by_cmp nat_cmp a b ≡ false → a ≢ b
 tie_no a b e same = grind (arith, nat_tests)
 
-is_tie : (a b : ℕ) → a ≡ b → eq_by_cmp nat_cmp a b ≡ true
+pub is_tie : (a b : ℕ) → a ≡ b → eq_by_cmp nat_cmp a b ≡ true
 is_tie a b e = grind (arith, nat_tests)
 
-no_tie : (a b : ℕ) → a ≢ b → eq_by_cmp nat_cmp a b ≡ false
+pub no_tie : (a b : ℕ) → a ≢ b → eq_by_cmp nat_cmp a b ≡ false
 no_tie a b e = grind (arith, nat_tests)
 
 here : (q k : ℕ) (v : SlabUse) (es : List (ℕ × SlabUse)) → q ≡ k → find nat_cmp q ((k, v) ∷ es) ≡ Some v
