@@ -98,7 +98,7 @@ fn serve_from<P: Pages>(
         unreachable!()
     };
     let outcome = give(slabs, pages, shape, Slot { slab, index });
-    slabs.settle(slab);
+    slabs.after_take(slab);
     (outcome, word)
 }
 

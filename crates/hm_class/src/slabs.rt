@@ -324,13 +324,22 @@ impl Slabs {
         }
     }
 
-    /// Puts an open slab of which a slot was given, condemned or released into the list of its kind.
-    pub fn settle(&mut self, slab: u64)
+    /// Puts an open slab of which a slot was given or condemned into the list of its kind.
+    pub fn after_take(&mut self, slab: u64)
         requires { open_at self.old.slabs slab ≡ true }
         ensures same { SameSlots self.old self.new }
         ensures lists { self.new.lists ≡ placed (list_of (kind_at self.old.slabs slab)) slab self.old.lists }
     {
         self.lists.after_take(slab);
+    }
+
+    /// Puts an open slab of which a slot was released into the list of its kind.
+    pub fn after_release(&mut self, slab: u64)
+        requires { open_at self.old.slabs slab ≡ true }
+        ensures same { SameSlots self.old self.new }
+        ensures lists { self.new.lists ≡ placed (list_of (kind_at self.old.slabs slab)) slab self.old.lists }
+    {
+        self.lists.after_release(slab);
     }
 
     /// Retires an open slab to a parking place, and answers the slab that stood there.

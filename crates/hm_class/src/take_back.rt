@@ -126,7 +126,7 @@ fn retire<P: Pages>(
         result }
 {
     if !drop_slab(pages, shape, slab) {
-        slabs.settle(slab);
+        slabs.after_release(slab);
         return Emptied::Purged { slab };
     }
     let (word, place) = stream.draw(park_length);
@@ -168,7 +168,7 @@ fn release<P: Pages>(
     if is_surplus(slabs, shape, slot.slab) {
         return retire(slabs, stream, pages, shape, park_length, slot.slab);
     }
-    slabs.settle(slot.slab);
+    slabs.after_release(slot.slab);
     Emptied::Kept
 }
 

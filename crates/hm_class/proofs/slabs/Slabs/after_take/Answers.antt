@@ -2,7 +2,7 @@ use Rattle.std.proofs.Common.{◌∙◌, sym, ap}
 use Rattle.hm_class.specs.Uses.{live_count}
 use Rattle.hm_class.proofs.Listing.{settled_uses, settled_filed, settled_slots, settled_lists}
 use Rattle.hm_class.proofs.Tables.{open_now}
-use Rattle.hm_class.proofs.slabs.Slabs.settle.Goals as goal
+use Rattle.hm_class.proofs.slabs.Slabs.after_take.Goals as goal
 
 pub after_take-requires : goal.after_take-requires
 after_take-requires c = open_now c.self.inside.lists c.args.slab c.args.self.now c.self.invariant.0 c.self.view_is c.requires
