@@ -22,7 +22,7 @@ use Rattle.hm_trace.proofs.Agreeing.{Agrees, PartAgrees, seen_of}
 use Rattle.hm_trace.proofs.Choices.{word_is}
 use Rattle.hm_trace.proofs.GoodLines.{after_step}
 use Rattle.hm_trace.proofs.Numerals.{a_thread, no_thread}
-use Rattle.hm_trace.proofs.Parts.{aligned_form, calloc_form, free_form, malloc_form, read_form, realloc_form, sfree_form, size_form, write_form}
+use Rattle.hm_trace.proofs.Parts.{free_form, malloc_form, read_form, realloc_form, sfree_form, size_form, two_sizes_form, write_form}
 use Rattle.hm_trace.proofs.Steps.{step_is}
 use Rattle.hm_trace.proofs.WrongWords.{aligned_agrees, calloc_agrees, free_agrees, malloc_agrees, read_agrees, realloc_agrees, sfree_agrees, size_step_agrees, write_agrees}
 
@@ -171,13 +171,13 @@ malloc_line (InScript t) p line (w0 ∷ w1 ∷ w2 ∷ ws) = refl
 calloc_line : (stage : Open) (p : Progress) (line : List ℕ) (rest : List (List ℕ))
     → Agrees (step_line_at (state stage p) (codes "calloc" ∷ rest)) (rows (state stage p) line (codes "calloc" ∷ rest))
 unfolding step_line_at next_step_at step_at calloc_at
-calloc_line Nothing p line rest = no_step (as_many rest calloc_form) _
-calloc_line InRound p line rest = no_step (as_many rest calloc_form) _
+calloc_line Nothing p line rest = no_step (as_many rest two_sizes_form) _
+calloc_line InRound p line rest = no_step (as_many rest two_sizes_form) _
 calloc_line (InScript t) p line [] = refl
 calloc_line (InScript t) p line (w0 ∷ []) = refl
 calloc_line (InScript t) p line (w0 ∷ w1 ∷ []) = refl
 calloc_line (InScript t) p line (w0 ∷ w1 ∷ w2 ∷ []) =
-    step_rows (calloc_at (w0 ∷ w1 ∷ w2 ∷ [])) (parts_fault (InScript t) calloc_form (w0 ∷ w1 ∷ w2 ∷ []))
+    step_rows (calloc_at (w0 ∷ w1 ∷ w2 ∷ [])) (parts_fault (InScript t) two_sizes_form (w0 ∷ w1 ∷ w2 ∷ []))
     (leb 200000 p.count) (is_set w0 p.scripts) p.scripts (after_step (state (InScript t) p))
     (calloc_agrees (InScript t) w0 w1 w2) (sets_same_at (state (InScript t) p) (codes "calloc" ∷ w0 ∷ w1 ∷ w2 ∷ []))
 calloc_line (InScript t) p line (w0 ∷ w1 ∷ w2 ∷ w3 ∷ ws) = refl
@@ -186,13 +186,13 @@ aligned_line : (stage : Open) (p : Progress) (line : List ℕ) (rest : List (Lis
     → Agrees (step_line_at (state stage p) (codes "aligned" ∷ rest))
     (rows (state stage p) line (codes "aligned" ∷ rest))
 unfolding step_line_at next_step_at step_at aligned_at
-aligned_line Nothing p line rest = no_step (as_many rest aligned_form) _
-aligned_line InRound p line rest = no_step (as_many rest aligned_form) _
+aligned_line Nothing p line rest = no_step (as_many rest two_sizes_form) _
+aligned_line InRound p line rest = no_step (as_many rest two_sizes_form) _
 aligned_line (InScript t) p line [] = refl
 aligned_line (InScript t) p line (w0 ∷ []) = refl
 aligned_line (InScript t) p line (w0 ∷ w1 ∷ []) = refl
 aligned_line (InScript t) p line (w0 ∷ w1 ∷ w2 ∷ []) =
-    step_rows (aligned_at (w0 ∷ w1 ∷ w2 ∷ [])) (parts_fault (InScript t) aligned_form (w0 ∷ w1 ∷ w2 ∷ []))
+    step_rows (aligned_at (w0 ∷ w1 ∷ w2 ∷ [])) (parts_fault (InScript t) two_sizes_form (w0 ∷ w1 ∷ w2 ∷ []))
     (leb 200000 p.count) (is_set w0 p.scripts) p.scripts (after_step (state (InScript t) p))
     (aligned_agrees (InScript t) w0 w1 w2)
     (sets_same_at (state (InScript t) p) (codes "aligned" ∷ w0 ∷ w1 ∷ w2 ∷ []))

@@ -5,7 +5,7 @@ use Rattle.hm_trace.specs.Lines.{BytePart, LengthPart, NamePart, Part, RefPart, 
 use Rattle.hm_trace.specs.Names.{is_name}
 use Rattle.hm_trace.specs.Traces.{is_length, is_offset, is_place, is_step, is_u64}
 use Rattle.hm_trace.specs.Views.{Aligned, At, Calloc, Free, Malloc, Named, Null, PlaceView, Read, Realloc, Sfree, Size, StepView, Write}
-use Rattle.hm_trace.proofs.Parts.{ByteOf, NameOf, NumberOf, PlaceOf, Value, aligned_form, calloc_form, free_form, malloc_form, read_form, realloc_form, sfree_form, size_form, write_form}
+use Rattle.hm_trace.proofs.Parts.{ByteOf, NameOf, NumberOf, PlaceOf, Value, free_form, malloc_form, read_form, realloc_form, sfree_form, size_form, two_sizes_form, write_form}
 
 abbrev pub FitsOffset : ℤ → Type 0
 FitsOffset (pos n) = n ≤ 1099511627776
@@ -34,8 +34,8 @@ FitValues _ _ = ⊥
 
 abbrev pub FitsStep : StepView → Type 0
 FitsStep (Malloc x0 x1) = FitValues malloc_form (NameOf x0 ∷ NumberOf x1 ∷ [])
-FitsStep (Calloc x0 x1 x2) = FitValues calloc_form (NameOf x0 ∷ NumberOf x1 ∷ NumberOf x2 ∷ [])
-FitsStep (Aligned x0 x1 x2) = FitValues aligned_form (NameOf x0 ∷ NumberOf x1 ∷ NumberOf x2 ∷ [])
+FitsStep (Calloc x0 x1 x2) = FitValues two_sizes_form (NameOf x0 ∷ NumberOf x1 ∷ NumberOf x2 ∷ [])
+FitsStep (Aligned x0 x1 x2) = FitValues two_sizes_form (NameOf x0 ∷ NumberOf x1 ∷ NumberOf x2 ∷ [])
 FitsStep (Realloc x0 x1 x2) = FitValues realloc_form (NameOf x0 ∷ PlaceOf x1 ∷ NumberOf x2 ∷ [])
 FitsStep (Free x0) = FitValues free_form (PlaceOf x0 ∷ [])
 FitsStep (Sfree x0 x1) = FitValues sfree_form (PlaceOf x0 ∷ NumberOf x1 ∷ [])

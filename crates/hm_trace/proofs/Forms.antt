@@ -4,7 +4,7 @@ use Rattle.hm_trace.specs.declared.fault.FaultKind.{FaultKind}
 use Rattle.hm_trace.specs.Gives.{◌>>=◌}
 use Rattle.hm_trace.specs.ReadWords.{aligned_at, byte_at, calloc_at, free_at, length_at, malloc_at, name_at, place_at, read_at, realloc_at, sfree_at, size_at, size_step_at, write_at}
 use Rattle.hm_trace.specs.Views.{Aligned, Calloc, Free, Malloc, Read, Realloc, Sfree, Size, StepView, Write}
-use Rattle.hm_trace.proofs.Parts.{ByteOf, NameOf, NumberOf, PlaceOf, Value, aligned_form, calloc_form, form_at, free_form, make_aligned, make_calloc, make_free, make_malloc, make_read, make_realloc, make_sfree, make_size, make_write, malloc_form, read_form, realloc_form, sfree_form, size_form, write_form}
+use Rattle.hm_trace.proofs.Parts.{ByteOf, NameOf, NumberOf, PlaceOf, Value, form_at, free_form, make_aligned, make_calloc, make_free, make_malloc, make_read, make_realloc, make_sfree, make_size, make_write, malloc_form, read_form, realloc_form, sfree_form, size_form, two_sizes_form, write_form}
 
 one : {A : Type 0} (r : Result A FaultKind) (v : A → Value) (step : A → StepView)
     (make : List Value → Result StepView FaultKind)
@@ -42,7 +42,7 @@ malloc_by_form (w0 ∷ []) = refl
 malloc_by_form (w0 ∷ w1 ∷ []) = two (name_at w0) (size_at w1) NameOf NumberOf Malloc make_malloc (λ x0 x1. refl)
 malloc_by_form (w0 ∷ w1 ∷ w2 ∷ ws) = refl
 
-pub calloc_by_form : (words : List (List ℕ)) → calloc_at words ≡ form_at calloc_form make_calloc words
+pub calloc_by_form : (words : List (List ℕ)) → calloc_at words ≡ form_at two_sizes_form make_calloc words
 unfolding calloc_at
 calloc_by_form [] = refl
 calloc_by_form (w0 ∷ []) = refl
@@ -51,7 +51,7 @@ calloc_by_form (w0 ∷ w1 ∷ w2 ∷ []) =
     three (name_at w0) (size_at w1) (size_at w2) NameOf NumberOf NumberOf Calloc make_calloc (λ x0 x1 x2. refl)
 calloc_by_form (w0 ∷ w1 ∷ w2 ∷ w3 ∷ ws) = refl
 
-pub aligned_by_form : (words : List (List ℕ)) → aligned_at words ≡ form_at aligned_form make_aligned words
+pub aligned_by_form : (words : List (List ℕ)) → aligned_at words ≡ form_at two_sizes_form make_aligned words
 unfolding aligned_at
 aligned_by_form [] = refl
 aligned_by_form (w0 ∷ []) = refl

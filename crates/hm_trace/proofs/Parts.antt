@@ -45,15 +45,13 @@ abbrev pub make_malloc : List Value → Result StepView FaultKind
 make_malloc (NameOf x0 ∷ NumberOf x1 ∷ []) = Ok (Malloc x0 x1)
 make_malloc _ = Err BadWord
 
-abbrev pub calloc_form : List Part
-calloc_form = NamePart ∷ SizePart ∷ SizePart ∷ []
+-- of calloc and of aligned
+abbrev pub two_sizes_form : List Part
+two_sizes_form = NamePart ∷ SizePart ∷ SizePart ∷ []
 
 abbrev pub make_calloc : List Value → Result StepView FaultKind
 make_calloc (NameOf x0 ∷ NumberOf x1 ∷ NumberOf x2 ∷ []) = Ok (Calloc x0 x1 x2)
 make_calloc _ = Err BadWord
-
-abbrev pub aligned_form : List Part
-aligned_form = NamePart ∷ SizePart ∷ SizePart ∷ []
 
 abbrev pub make_aligned : List Value → Result StepView FaultKind
 make_aligned (NameOf x0 ∷ NumberOf x1 ∷ NumberOf x2 ∷ []) = Ok (Aligned x0 x1 x2)

@@ -17,7 +17,7 @@ use Rattle.hm_trace.proofs.Fits.{FitsStep, step_fits}
 use Rattle.hm_trace.proofs.Lengths.{total}
 use Rattle.hm_trace.proofs.Numerals.{thread_again}
 use Rattle.hm_trace.proofs.Scripts.{steps_valid, thread_range}
-use Rattle.hm_trace.proofs.Stays.{Follows, test_follows}
+use Rattle.hm_trace.proofs.Stays.{Follows, at_stage, test_follows}
 use Rattle.hm_trace.proofs.Steps.{step_again}
 use Rattle.hm_trace.proofs.Written.{IsLine, line_plain, no_line_feed, round_line, step_line, thread_line, words_again}
 
@@ -58,9 +58,6 @@ reads n p q [] h = ap (λ (x : Progress). Ok (rounds_of x)) h
 reads n p q (w ∷ []) h = one_more n p h.1 w (codes "end") ([] ∷ []) (rounds_of q) h.0 h.2 (reads (n + 1) h.1 q [] h.3)
 reads n p q (w ∷ v ∷ vs) h =
     one_more n p h.1 w (line_of v) (map line_of vs ++ closing) (rounds_of q) h.0 h.2 (reads (n + 1) h.1 q (v ∷ vs) h.3)
-
-abbrev at_stage : Open → List (List ScriptView) → List ScriptView → List StepView → ℕ → Progress
-at_stage stage rs ss steps count = record { rounds = rs; scripts = ss; steps = steps; stage = stage; count = count }
 
 step_goes : (t : ℕ) (rs : List (List ScriptView)) (ss : List ScriptView) (steps : List StepView) (count : ℕ)
     (s : StepView)

@@ -114,14 +114,14 @@ round_stays p room h =
       count_fits = h.count_fits;
     }
 
-abbrev state : Open → List (List ScriptView) → List ScriptView → List StepView → ℕ → Progress
-state stage rs ss steps count = record { rounds = rs; scripts = ss; steps = steps; stage = stage; count = count }
+abbrev pub at_stage : Open → List (List ScriptView) → List ScriptView → List StepView → ℕ → Progress
+at_stage stage rs ss steps count = record { rounds = rs; scripts = ss; steps = steps; stage = stage; count = count }
 
 -- one more script in a round that is open
 opened : (rs : List (List ScriptView)) (ss : List ScriptView) (count n : ℕ) → list_all is_round rs ≡ true
     → is_round ss ≡ true → last_of 0 ss < n → n ≤ 16 → length (rs ++ ss ∷ []) ≤ 1024
     → step_count (rs ++ ss ∷ []) ≡ count → count ≤ 200000
-    → IsProgress (state (InScript n) rs ss [] count)
+    → IsProgress (at_stage (InScript n) rs ss [] count)
 opened rs ss count n closed round later small fit counted fits =
     let l = length-append rs (ss ∷ []) in
     let m = length-append rs ((ss ++ script n [] ∷ []) ∷ []) in
@@ -139,8 +139,8 @@ opened rs ss count n closed round later small fit counted fits =
 thread_stays_at : (stage : Open) (rs : List (List ScriptView)) (ss : List ScriptView) (steps : List StepView)
     (count n former : ℕ)
     → former_thread stage ≡ Ok former → former < n → n ≤ 16
-    → IsProgress (state stage rs ss steps count)
-    → IsProgress (state (InScript n) rs (scripts_after stage ss steps) [] count)
+    → IsProgress (at_stage stage rs ss steps count)
+    → IsProgress (at_stage (InScript n) rs (scripts_after stage ss steps) [] count)
 thread_stays_at Nothing rs ss steps count n former e later small h = absurd cc
 thread_stays_at InRound rs ss steps count n former e later small h =
     let none : last_of 0 ss ≡ 0 = ap (λ (l : List ScriptView). last_of 0 l) (h.fresh refl) in
@@ -155,7 +155,7 @@ thread_stays_at (InScript t) rs ss steps count n former e later small h =
 step_stays_at : (stage : Open) (rs : List (List ScriptView)) (ss : List ScriptView) (steps : List StepView) (count : ℕ)
     (s : StepView)
     → in_script stage ≡ Ok tt → sets_again ss s ≡ false → is_step s ≡ true → count < 200000
-    → IsProgress (state stage rs ss steps count) → IsProgress (state stage rs ss (steps ++ s ∷ []) (count + 1))
+    → IsProgress (at_stage stage rs ss steps count) → IsProgress (at_stage stage rs ss (steps ++ s ∷ []) (count + 1))
 step_stays_at Nothing rs ss steps count s e apart fits room h = absurd cc
 step_stays_at InRound rs ss steps count s e apart fits room h = absurd cc
 step_stays_at (InScript t) rs ss steps count s e apart fits room h =

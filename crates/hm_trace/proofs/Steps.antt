@@ -10,7 +10,7 @@ use Rattle.hm_trace.specs.Views.{Aligned, Calloc, Free, Malloc, Read, Realloc, S
 use Rattle.hm_trace.proofs.Choices.{chosen, ok_is, word_is}
 use Rattle.hm_trace.proofs.Fits.{FitValues, FitsStep}
 use Rattle.hm_trace.proofs.Forms.{aligned_by_form, calloc_by_form, free_by_form, malloc_by_form, read_by_form, realloc_by_form, sfree_by_form, size_step_by_form, write_by_form}
-use Rattle.hm_trace.proofs.Parts.{ByteOf, NameOf, NumberOf, PlaceOf, Value, aligned_form, calloc_form, free_form, make_aligned, make_calloc, make_free, make_malloc, make_read, make_realloc, make_sfree, make_size, make_write, malloc_form, read_form, realloc_form, sfree_form, size_form, value_word, write_form}
+use Rattle.hm_trace.proofs.Parts.{ByteOf, NameOf, NumberOf, PlaceOf, Value, free_form, make_aligned, make_calloc, make_free, make_malloc, make_read, make_realloc, make_sfree, make_size, make_write, malloc_form, read_form, realloc_form, sfree_form, size_form, two_sizes_form, value_word, write_form}
 use Rattle.hm_trace.proofs.Values.{form_again, form_is}
 
 -- the words are those of the step, which fits
@@ -32,27 +32,27 @@ malloc_is words s e =
     let m = malloc_made f.0 s f.3 in
     (ap (λ (x : List (List ℕ)). codes "malloc" ∷ x) f.1 ∙ m.0, m.1 f.2)
 
-calloc_made : (vs : List Value) (s : StepView) → make_calloc vs ≡ Ok s → Made (codes "calloc") calloc_form vs s
+calloc_made : (vs : List Value) (s : StepView) → make_calloc vs ≡ Ok s → Made (codes "calloc") two_sizes_form vs s
 calloc_made (NameOf x0 ∷ NumberOf x1 ∷ NumberOf x2 ∷ []) s e =
-    subst (Made (codes "calloc") calloc_form (NameOf x0 ∷ NumberOf x1 ∷ NumberOf x2 ∷ [])) (ok_is (Calloc x0 x1 x2) s e)
-    (refl, λ h. h)
+    subst (Made (codes "calloc") two_sizes_form (NameOf x0 ∷ NumberOf x1 ∷ NumberOf x2 ∷ []))
+    (ok_is (Calloc x0 x1 x2) s e) (refl, λ h. h)
 calloc_made _ s e = absurd cc
 
 calloc_is : (words : List (List ℕ)) (s : StepView) → calloc_at words ≡ Ok s → Reads (codes "calloc" ∷ words) s
 calloc_is words s e =
-    let f = form_is calloc_form make_calloc words s (sym (calloc_by_form words) ∙ e) in
+    let f = form_is two_sizes_form make_calloc words s (sym (calloc_by_form words) ∙ e) in
     let m = calloc_made f.0 s f.3 in
     (ap (λ (x : List (List ℕ)). codes "calloc" ∷ x) f.1 ∙ m.0, m.1 f.2)
 
-aligned_made : (vs : List Value) (s : StepView) → make_aligned vs ≡ Ok s → Made (codes "aligned") aligned_form vs s
+aligned_made : (vs : List Value) (s : StepView) → make_aligned vs ≡ Ok s → Made (codes "aligned") two_sizes_form vs s
 aligned_made (NameOf x0 ∷ NumberOf x1 ∷ NumberOf x2 ∷ []) s e =
-    subst (Made (codes "aligned") aligned_form (NameOf x0 ∷ NumberOf x1 ∷ NumberOf x2 ∷ []))
+    subst (Made (codes "aligned") two_sizes_form (NameOf x0 ∷ NumberOf x1 ∷ NumberOf x2 ∷ []))
     (ok_is (Aligned x0 x1 x2) s e) (refl, λ h. h)
 aligned_made _ s e = absurd cc
 
 aligned_is : (words : List (List ℕ)) (s : StepView) → aligned_at words ≡ Ok s → Reads (codes "aligned" ∷ words) s
 aligned_is words s e =
-    let f = form_is aligned_form make_aligned words s (sym (aligned_by_form words) ∙ e) in
+    let f = form_is two_sizes_form make_aligned words s (sym (aligned_by_form words) ∙ e) in
     let m = aligned_made f.0 s f.3 in
     (ap (λ (x : List (List ℕ)). codes "aligned" ∷ x) f.1 ∙ m.0, m.1 f.2)
 
@@ -181,10 +181,10 @@ step_again (Malloc x0 x1) h =
     ∙ form_again malloc_form make_malloc (NameOf x0 ∷ NumberOf x1 ∷ []) (Malloc x0 x1) h refl
 step_again (Calloc x0 x1 x2) h =
     calloc_by_form (map value_word (NameOf x0 ∷ NumberOf x1 ∷ NumberOf x2 ∷ []))
-    ∙ form_again calloc_form make_calloc (NameOf x0 ∷ NumberOf x1 ∷ NumberOf x2 ∷ []) (Calloc x0 x1 x2) h refl
+    ∙ form_again two_sizes_form make_calloc (NameOf x0 ∷ NumberOf x1 ∷ NumberOf x2 ∷ []) (Calloc x0 x1 x2) h refl
 step_again (Aligned x0 x1 x2) h =
     aligned_by_form (map value_word (NameOf x0 ∷ NumberOf x1 ∷ NumberOf x2 ∷ []))
-    ∙ form_again aligned_form make_aligned (NameOf x0 ∷ NumberOf x1 ∷ NumberOf x2 ∷ []) (Aligned x0 x1 x2) h refl
+    ∙ form_again two_sizes_form make_aligned (NameOf x0 ∷ NumberOf x1 ∷ NumberOf x2 ∷ []) (Aligned x0 x1 x2) h refl
 step_again (Realloc x0 x1 x2) h =
     realloc_by_form (map value_word (NameOf x0 ∷ PlaceOf x1 ∷ NumberOf x2 ∷ []))
     ∙ form_again realloc_form make_realloc (NameOf x0 ∷ PlaceOf x1 ∷ NumberOf x2 ∷ []) (Realloc x0 x1 x2) h refl

@@ -20,7 +20,7 @@ use Rattle.hm_trace.proofs.Decimals.{own}
 use Rattle.hm_trace.proofs.Fits.{FitValues, FitsOffset, FitsPlace, FitsStep, FitsValue}
 use Rattle.hm_trace.proofs.Hex.{glyph_read, hex_again}
 use Rattle.hm_trace.proofs.Numerals.{digits_parts}
-use Rattle.hm_trace.proofs.Parts.{ByteOf, NameOf, NumberOf, PlaceOf, Value, aligned_form, calloc_form, free_form, malloc_form, read_form, realloc_form, sfree_form, size_form, value_word, write_form}
+use Rattle.hm_trace.proofs.Parts.{ByteOf, NameOf, NumberOf, PlaceOf, Value, free_form, malloc_form, read_form, realloc_form, sfree_form, size_form, two_sizes_form, value_word, write_form}
 use Rattle.hm_trace.proofs.WrongWords.{digit_tells, hex_tells}
 
 abbrev pub is_graphic : ℕ → Bool
@@ -158,10 +158,10 @@ pub step_line : (s : StepView) → FitsStep s → IsLine (step_words s)
 step_line (Malloc x0 x1) h =
     values_line (codes "malloc") malloc_form (NameOf x0 ∷ NumberOf x1 ∷ []) refl (omega arith) (omega arith) h refl
 step_line (Calloc x0 x1 x2) h =
-    values_line (codes "calloc") calloc_form (NameOf x0 ∷ NumberOf x1 ∷ NumberOf x2 ∷ []) refl (omega arith)
+    values_line (codes "calloc") two_sizes_form (NameOf x0 ∷ NumberOf x1 ∷ NumberOf x2 ∷ []) refl (omega arith)
     (omega arith) h refl
 step_line (Aligned x0 x1 x2) h =
-    values_line (codes "aligned") aligned_form (NameOf x0 ∷ NumberOf x1 ∷ NumberOf x2 ∷ []) refl (omega arith)
+    values_line (codes "aligned") two_sizes_form (NameOf x0 ∷ NumberOf x1 ∷ NumberOf x2 ∷ []) refl (omega arith)
     (omega arith) h refl
 step_line (Realloc x0 x1 x2) h =
     values_line (codes "realloc") realloc_form (NameOf x0 ∷ PlaceOf x1 ∷ NumberOf x2 ∷ []) refl (omega arith)

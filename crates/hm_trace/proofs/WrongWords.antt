@@ -15,7 +15,7 @@ use Rattle.hm_trace.specs.ReadWords.{aligned_at, byte_at, calloc_at, distance_at
 use Rattle.hm_trace.specs.Views.{At, Named, Null}
 use Rattle.hm_trace.proofs.Agreeing.{PartAgrees}
 use Rattle.hm_trace.proofs.Numerals.{a_number, no_number}
-use Rattle.hm_trace.proofs.Parts.{aligned_form, calloc_form, free_form, malloc_form, read_form, realloc_form, sfree_form, size_form, write_form}
+use Rattle.hm_trace.proofs.Parts.{free_form, malloc_form, read_form, realloc_form, sfree_form, size_form, two_sizes_form, write_form}
 
 name_agrees : (stage : Open) (word : List ℕ) → PartAgrees (name_at word) (part_fault stage NamePart word)
 name_agrees stage word = by (is_name word)
@@ -190,7 +190,7 @@ malloc_agrees stage w0 w1 =
     (λ x0. then_agrees (size_at w1) _ _ _ (size_agrees stage w1) (λ x1. refl))
 
 pub calloc_agrees : (stage : Open) (w0 w1 w2 : List ℕ)
-    → PartAgrees (calloc_at (w0 ∷ w1 ∷ w2 ∷ [])) (parts_fault stage calloc_form (w0 ∷ w1 ∷ w2 ∷ []))
+    → PartAgrees (calloc_at (w0 ∷ w1 ∷ w2 ∷ [])) (parts_fault stage two_sizes_form (w0 ∷ w1 ∷ w2 ∷ []))
 unfolding calloc_at
 calloc_agrees stage w0 w1 w2 =
     then_agrees (name_at w0) _ _ _ (name_agrees stage w0)
@@ -199,7 +199,7 @@ calloc_agrees stage w0 w1 w2 =
     (λ x1. then_agrees (size_at w2) _ _ _ (size_agrees stage w2) (λ x2. refl)))
 
 pub aligned_agrees : (stage : Open) (w0 w1 w2 : List ℕ)
-    → PartAgrees (aligned_at (w0 ∷ w1 ∷ w2 ∷ [])) (parts_fault stage aligned_form (w0 ∷ w1 ∷ w2 ∷ []))
+    → PartAgrees (aligned_at (w0 ∷ w1 ∷ w2 ∷ [])) (parts_fault stage two_sizes_form (w0 ∷ w1 ∷ w2 ∷ []))
 unfolding aligned_at
 aligned_agrees stage w0 w1 w2 =
     then_agrees (name_at w0) _ _ _ (name_agrees stage w0)

@@ -4,7 +4,7 @@ ghost use Rattle.std.specs.Prelude.{◌≡◌, ◌≤◌, true, length};
 ghost use Rattle.std.specs.List.{list_all};
 ghost use Rattle.hm_trace.specs.Limits.{max_steps, max_threads};
 ghost use Rattle.hm_trace.specs.Traces.{is_step, is_script, is_round, IsTrace};
-ghost use Rattle.hm_trace.specs.Views.{ScriptView, steps_view};
+ghost use Rattle.hm_trace.specs.Views.{steps_view};
 
 use crate::step::Step;
 use hm_outside::List;
