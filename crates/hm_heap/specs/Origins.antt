@@ -2,6 +2,7 @@
 use Rattle.std.specs.Prelude.{ℕ, ◌==◌, Bool, if◌then◌else◌, List, [], ◌∷◌, slice_index_or}
 use Rattle.hm_sizes.specs.Origins.{Origin}
 
+-- a flag as a number
 abbrev pub bit : Bool → ℕ
 bit b = if b then 1 else 0
 

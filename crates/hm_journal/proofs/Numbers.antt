@@ -7,8 +7,9 @@ use Rattle.std.proofs.lemmas.Bool.{cases_Bool, ltb-true, ltb-false, lt-ltb, le-l
 use Rattle.std.proofs.lemmas.Bool.Decides.{nat_tests}
 use Rattle.std.proofs.lemmas.Fmt.{decimal_is_IsNumeral}
 use Rattle.std.proofs.lemmas.Str.Parse.{digit_from_value}
+use Rattle.hm_heap.specs.Origins.{bit}
 use Rattle.hm_journal.specs.Ranges.{Fits8, Fits64, OptionFits, RunFits}
-use Rattle.hm_journal.specs.Words.{byte_word, flag, option_word, run_word, runs_word}
+use Rattle.hm_journal.specs.Words.{byte_word, option_word, run_word, runs_word}
 use Rattle.hm_journal.proofs.Each.{Each, each_append, each_by}
 use Rattle.hm_journal.proofs.Splits.{High, Lacks, lacks, split_joined}
 
@@ -54,7 +55,7 @@ option_is (Some n) h = rw (not_dash (decimal n) (high_decimal n h), number_is n 
 pub flag_of : List ℕ → Bool
 flag_of word = eqb (number word) 1
 
-pub flag_is : (b : Bool) → flag_of (decimal (flag b)) ≡ b
+pub flag_is : (b : Bool) → flag_of (decimal (bit b)) ≡ b
 unfolding flag_of
 flag_is true = rw (number_is 1 (omega arith)) refl
 flag_is false = rw (number_is 0 (omega arith)) refl
@@ -147,7 +148,7 @@ pub clean_option : (o : Option ℕ) → OptionFits o → High 33 (option_word o)
 clean_option None h = (omega arith, tt)
 clean_option (Some n) h = clean_number n h
 
-pub clean_flag : (b : Bool) → High 33 (decimal (flag b))
+pub clean_flag : (b : Bool) → High 33 (decimal (bit b))
 clean_flag true = clean_number 1 (omega arith)
 clean_flag false = clean_number 0 (omega arith)
 

@@ -4,7 +4,8 @@ use Rattle.std.specs.List.{flat_map}
 use Rattle.std.specs.Fmt.{decimal}
 use Rattle.hm_sizes.specs.declared.config.Config.{Config}
 use Rattle.hm_heap.specs.declared.close.History.{History}
-use Rattle.hm_journal.specs.Words.{flag, lines_text}
+use Rattle.hm_heap.specs.Origins.{bit}
+use Rattle.hm_journal.specs.Words.{lines_text}
 use Rattle.hm_journal.specs.Entries.{entry_words}
 
 -- `config` and the nine fields
@@ -12,7 +13,7 @@ abbrev pub config_words : Config → List (List ℕ)
 config_words c =
     codes "config" ∷ decimal c.arenas ∷ decimal c.class_region ∷ decimal c.large_space ∷ decimal c.guard_interval
     ∷ decimal c.array_base ∷ decimal c.ring_base ∷ decimal c.park_length
-    ∷ decimal (flag c.check_reuse) ∷ decimal (flag c.random_slots) ∷ []
+    ∷ decimal (bit c.check_reuse) ∷ decimal (bit c.random_slots) ∷ []
 
 -- `region R FIRST COUNT`
 abbrev pub region_words : History → List (List ℕ)

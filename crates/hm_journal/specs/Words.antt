@@ -1,5 +1,5 @@
--- The words of a journal: numbers, `-` for None, flags, bytes, and runs of bytes; and lines of words.
-use Rattle.std.specs.Prelude.{ℕ, ◌/◌, ◌%◌, Bool, true, false, List, [], ◌∷◌, ◌++◌, map, codes, Option, Some, None}
+-- The words of a journal: numbers, `-` for None, bytes, and runs of bytes; and lines of words.
+use Rattle.std.specs.Prelude.{ℕ, ◌/◌, ◌%◌, false, List, [], ◌∷◌, ◌++◌, map, codes, Option, Some, None}
 use Rattle.std.specs.List.{flat_map, join_with_byte}
 use Rattle.std.specs.Fmt.{decimal, digit_glyph}
 
@@ -7,11 +7,6 @@ use Rattle.std.specs.Fmt.{decimal, digit_glyph}
 abbrev pub option_word : Option ℕ → List ℕ
 option_word None = codes "-"
 option_word (Some n) = decimal n
-
--- a flag as a number
-abbrev pub flag : Bool → ℕ
-flag false = 0
-flag true = 1
 
 -- two lower-case hexadecimal digits
 abbrev pub byte_word : ℕ → List ℕ
