@@ -19,7 +19,7 @@ use hm_sizes::{Config, Kind, class_of};
 use std::sync::Wait;
 
 /// A block that may have to move: its address, the place of its region, and that of the region of a new block.
-#[derive(Clone, Copy, Debug, PartialEq, Eq, Drop)]
+#[derive(Clone, Copy, Drop)]
 struct Source {
     home: usize,
     place: usize,
@@ -27,7 +27,7 @@ struct Source {
 }
 
 /// A block that is moved, and the new block.
-#[derive(Clone, Copy, Debug, PartialEq, Eq, Drop)]
+#[derive(Clone, Copy, Drop)]
 struct Move {
     source: Source,
     new: u64,
