@@ -1,20 +1,13 @@
--- The words of a journal: numbers, `-` for None, bytes, and runs of bytes; and lines of words.
-use Rattle.std.specs.Prelude.{ℕ, ◌/◌, ◌%◌, false, List, [], ◌∷◌, ◌++◌, map, codes, Option, Some, None}
+-- The words of a journal: numbers, `-` for None, and runs of bytes; and lines of words.
+use Rattle.std.specs.Prelude.{ℕ, List, [], ◌∷◌, ◌++◌, map, codes, Option, Some, None}
 use Rattle.std.specs.List.{flat_map, join_with_byte}
-use Rattle.std.specs.Fmt.{decimal, digit_glyph}
+use Rattle.std.specs.Fmt.{decimal}
+use Rattle.hm_outside.specs.Bytes.{run_word}
 
 -- a number, or `-` for None
 abbrev pub option_word : Option ℕ → List ℕ
 option_word None = codes "-"
 option_word (Some n) = decimal n
-
--- two lower-case hexadecimal digits
-abbrev pub byte_word : ℕ → List ℕ
-byte_word byte = digit_glyph false (byte / 16) ∷ digit_glyph false (byte % 16) ∷ []
-
--- BYTE*LENGTH
-abbrev pub run_word : ℕ × ℕ → List ℕ
-run_word run = byte_word run.0 ++ codes "*" ++ decimal run.1
 
 -- the runs with a comma between each two, or `-` where there are none
 abbrev pub runs_word : List (ℕ × ℕ) → List ℕ

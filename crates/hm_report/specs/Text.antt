@@ -1,7 +1,8 @@
 -- The text of a report: one line for each step.
-use Rattle.std.specs.Prelude.{ℕ, ◌+◌, ◌-◌, ◌/◌, ◌%◌, ◌==◌, false, if◌then◌else◌, List, [], ◌∷◌, ◌++◌, codes, Option, Some, None}
+use Rattle.std.specs.Prelude.{ℕ, ◌+◌, ◌-◌, ◌==◌, if◌then◌else◌, List, [], ◌∷◌, ◌++◌, codes, Option, Some, None}
 use Rattle.std.specs.List.{flat_map}
-use Rattle.std.specs.Fmt.{decimal, digit_glyph}
+use Rattle.std.specs.Fmt.{decimal}
+use Rattle.hm_outside.specs.Bytes.{byte_word, run_word}
 use Rattle.std.specs.Int.{w64, to_le_bytes}
 use Rattle.hm_model.specs.declared.entry.Reply.{Reply}
 use Rattle.hm_model.specs.declared.entry.Reply.TheVariants.{Given, Overwritten, Exhausted, NoSpace, PagesFailed, Freed, NoSlot, Unused, DoubleFree, WrongSize, Canary, Usable, Bytes, Filled, Trap, NotLive}
@@ -10,17 +11,9 @@ use Rattle.hm_model.specs.declared.answer.Answer.TheVariants.{Reply as Replied, 
 use Rattle.hm_report.specs.declared.results.StepResult.{StepResult}
 use Rattle.hm_report.specs.declared.results.Results.{Results}
 
--- a byte as two lower-case hexadecimal digits
-abbrev pub byte_text : ℕ → List ℕ
-byte_text b = digit_glyph false (b / 16) ∷ digit_glyph false (b % 16) ∷ []
-
--- a byte, a star, and how often it stands there
-abbrev pub run_text : ℕ × ℕ → List ℕ
-run_text run = byte_text run.0 ++ 42 ∷ decimal run.1
-
 -- runs, each behind a space
 abbrev pub runs_text : List (ℕ × ℕ) → List ℕ
-runs_text runs = flat_map (λ run. 32 ∷ run_text run) runs
+runs_text runs = flat_map (λ run. 32 ∷ run_word run) runs
 
 -- how many bytes at the front of two lists are equal: the place of the first that differs
 abbrev pub first_difference : List ℕ → List ℕ → ℕ
@@ -34,7 +27,7 @@ canary_place kept found = first_difference (to_le_bytes w64 kept) (to_le_bytes w
 
 -- where a byte of an available slot was not zero, and which byte it was
 abbrev pub overwritten_text : ℕ → ℕ → List ℕ
-overwritten_text at found = codes "overwritten at " ++ decimal at ++ codes " found " ++ byte_text found
+overwritten_text at found = codes "overwritten at " ++ decimal at ++ codes " found " ++ byte_word found
 
 -- what a region replied to a step that referred to the address base
 abbrev pub reply_text : ℕ → Reply → List ℕ

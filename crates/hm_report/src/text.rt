@@ -1,6 +1,7 @@
 //! The texts of answers: what a line of a report says behind its number.
 ghost use Rattle.std.specs.Prelude.{◌≡◌, ◌++◌, ◌∷◌, length, OnOk, string_bytes};
-ghost use Rattle.hm_report.specs.Text.{byte_text, run_text, runs_text, first_difference, canary_place, overwritten_text, reply_text, cause_text, answer_text, result_text};
+ghost use Rattle.hm_outside.specs.Bytes.{byte_word, run_word};
+ghost use Rattle.hm_report.specs.Text.{runs_text, first_difference, canary_place, overwritten_text, reply_text, cause_text, answer_text, result_text};
 
 use crate::StepResult;
 use hm_model::{Answer, Reply};
@@ -9,14 +10,14 @@ use std::fmt::Write;
 
 #[tactic(auto, using(std::proofs::lemmas::Fmt::hex_byte))]
 fn push_byte(out: &mut String, byte: u8) -> Result<(), AllocError>
-    ensures { OnOk result (string_bytes out.new ≡ string_bytes out.old ++ byte_text byte) }
+    ensures { OnOk result (string_bytes out.new ≡ string_bytes out.old ++ byte_word byte) }
 {
     write!(out, "{byte:02x}")
 }
 
 #[tactic(auto, using(std::proofs::lemmas::Fmt::hex_byte))]
 fn push_run(out: &mut String, byte: u8, len: u64) -> Result<(), AllocError>
-    ensures { OnOk result (string_bytes out.new ≡ string_bytes out.old ++ 32 ∷ run_text (byte, len)) }
+    ensures { OnOk result (string_bytes out.new ≡ string_bytes out.old ++ 32 ∷ run_word (byte, len)) }
 {
     write!(out, " {byte:02x}*{len}")
 }

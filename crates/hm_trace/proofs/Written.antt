@@ -13,7 +13,8 @@ use Rattle.hm_trace.specs.Faults.{is_plain}
 use Rattle.hm_trace.specs.Lines.{BytePart, LengthPart, NamePart, Part, RefPart, SizePart, words_at}
 use Rattle.hm_trace.specs.Names.{is_name_byte, is_word}
 use Rattle.hm_trace.specs.Numbers.{is_hex, is_hex_digit}
-use Rattle.hm_trace.specs.Spelling.{byte_word, hexadecimal, line_of, offset_word, place_word, step_words}
+use Rattle.hm_outside.specs.Bytes.{byte_word}
+use Rattle.hm_trace.specs.Spelling.{hexadecimal, line_of, offset_word, place_word, step_words}
 use Rattle.hm_trace.specs.Views.{Aligned, At, Calloc, Free, Malloc, Named, Null, PlaceView, Read, Realloc, Sfree, Size, StepView, Write}
 use Rattle.hm_trace.proofs.Again.{name_bytes}
 use Rattle.hm_trace.proofs.Decimals.{own}

@@ -1,16 +1,13 @@
 -- The one spelling of each trace.
-use Rattle.std.specs.Prelude.{ℕ, ◌/◌, ◌%◌, suc, zero, false, List, [], ◌∷◌, ◌++◌, map, codes, ℤ, pos, negsuc}
+use Rattle.std.specs.Prelude.{ℕ, suc, zero, false, List, [], ◌∷◌, ◌++◌, map, codes, ℤ, pos, negsuc}
 use Rattle.std.specs.List.{flat_map, join_with_byte}
-use Rattle.std.specs.Fmt.{decimal, digits, digit_glyph}
+use Rattle.std.specs.Fmt.{decimal, digits}
+use Rattle.hm_outside.specs.Bytes.{byte_word}
 use Rattle.hm_trace.specs.Views.{PlaceView, Null, At, Named, StepView, Malloc, Calloc, Aligned, Realloc, Free, Sfree, Write, Read, Size, ScriptView}
 
 -- lower-case digits with no zero before them
 abbrev pub hexadecimal : ℕ → List ℕ
 hexadecimal n = digits 16 false n
-
--- two digits
-abbrev pub byte_word : ℕ → List ℕ
-byte_word byte = digit_glyph false (byte / 16) ∷ digit_glyph false (byte % 16) ∷ []
 
 -- nothing, `+K` or `-K`
 abbrev pub offset_word : ℤ → List ℕ

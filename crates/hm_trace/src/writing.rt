@@ -2,7 +2,8 @@
 ghost use Rattle.std.specs.Prelude.{◌≡◌, ◌++◌, ◌∷◌, [], map, OnOk, IfOk};
 ghost use Rattle.std.specs.List.{flat_map};
 ghost use Rattle.std.specs.Fmt.{decimal};
-ghost use Rattle.hm_trace.specs.Spelling.{hexadecimal, byte_word, offset_word, place_word, step_words, script_lines, round_lines, trace_lines, lines_text, spelling};
+ghost use Rattle.hm_outside.specs.Bytes.{byte_word};
+ghost use Rattle.hm_trace.specs.Spelling.{hexadecimal, offset_word, place_word, step_words, script_lines, round_lines, trace_lines, lines_text, spelling};
 ghost use Rattle.hm_trace.specs.Views.{name_view, place_view, step_view, steps_view};
 
 use crate::names::Name;
