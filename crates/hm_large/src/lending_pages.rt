@@ -35,7 +35,7 @@ impl LendingPages {
 }
 
 impl Pages for LendingPages {
-    ghost use Rattle.std.specs.Prelude.{◌≡◌, false, refl};
+    ghost use Rattle.std.specs.Prelude.{false, refl};
     ghost use Rattle.std.specs.FinMap as map;
     ghost use Rattle.std.proofs.lemmas.Bool.{false≢true};
     ghost use Rattle.hm_outside.specs.RunLists.{CanWrite};
