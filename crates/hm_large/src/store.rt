@@ -18,9 +18,10 @@ use std::alloc::Global;
 // The number of the region's stream.
 const STREAM: u64 = 196;
 
-/// The lengths of the quarantine's array and ring.
+/// The length of the quarantine's array.
 pub const ARRAY_LENGTH: u32 = 256;
 
+/// The length of its ring.
 const RING_LENGTH: u32 = 1024;
 
 /// The blocks, the free ranges, the quarantine and the words of a large region.
