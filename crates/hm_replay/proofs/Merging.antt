@@ -1,7 +1,7 @@
 -- The names that steps set are gathered, and those that a script leaves are listed.
-use Rattle.hm_replay.specs.Names.{Names, is_one_of, merged, settled, with_name, AreSetBy, seen_in, with_all, AreLeft, Settles}
+use Rattle.hm_replay.specs.Names.{Names, is_one_of, settled, with_name, AreSetBy, seen_in, with_all, AreLeft, Settles}
 use Rattle.hm_replay.proofs.Held.{by_bytes}
-use Rattle.hm_replay.specs.Workers.{all_settled, LeavesNames}
+use Rattle.hm_replay.specs.Workers.{LeavesNames}
 use Rattle.hm_replay.specs.declared.left.NameLeft.{NameLeft}
 use Rattle.hm_replay.specs.declared.round.Worker.{Worker}
 use Rattle.hm_trace.specs.Names.{is_word}
@@ -18,6 +18,15 @@ use Rattle.std.specs.Result.{result_ok}
 use Rattle.std.specs.declared.alloc.Global.{Global}
 use Rattle.std.specs.declared.cmp.Ordering.TheVariants.{Less, Equal, Greater}
 use Rattle.std.specs.declared.cmp.Ordering.{Ordering}
+
+-- each of these names holds what it holds in these last names
+abbrev pub merged : Names → List Name → Names → Names
+merged names these last name = cond (is_one_of name these) (last name) (names name)
+
+-- the names that each worker's script sets, among others
+abbrev pub all_settled : Names → List Worker → Names
+all_settled names [] = names
+all_settled names (w ∷ ws) = all_settled (settled names w.script.now.steps (seen_in w.scope)) ws
 
 -- ---- one more name is gathered
 joined : (k n : Name) (ns : List Name) (q : List ℕ) (o : Ordering) → by_bytes k n ≡ o

@@ -24,10 +24,10 @@ use Rattle.hm_replay.specs.RoundOf.{calls_in, ended_in, IsGathered, Stays, SeesM
 use Rattle.hm_replay.specs.Rounds.{AreOfCallers, RunsRound}
 use Rattle.hm_replay.specs.Scripts.{IsRun}
 use Rattle.hm_replay.specs.Uses.{Own}
-use Rattle.hm_replay.specs.Workers.{AllCalledBy, HasRun, HasMade, KeepsMade, HasParted, IsBegun, FinishedTo, after_joins, all_settled}
+use Rattle.hm_replay.specs.Workers.{AllCalledBy, HasRun, HasMade, KeepsMade, HasParted, IsBegun, FinishedTo, after_joins}
 use Rattle.hm_replay.proofs.Ends.{InOrder, joins_keep, keeps, knows, own_stays, these_end}
 use Rattle.hm_replay.proofs.Gaining.{starts_trans}
-use Rattle.hm_replay.proofs.Merging.{kept_ok}
+use Rattle.hm_replay.proofs.Merging.{all_settled, kept_ok}
 use Rattle.hm_replay.proofs.Order.{AllJoined, has_one, none_after, seen_calls}
 use Rattle.hm_replay.proofs.Turns.{read_alike, some_of}
 

@@ -50,10 +50,6 @@ GivenInReach entries = (name : List ℕ) → IfSome (held entries name) (λ give
 abbrev pub is_one_of : List ℕ → List Name → Bool
 is_one_of name these = list_any (λ (n : Name). is_word (name_view n) name) these
 
--- each of these names holds what it holds in these last names
-abbrev pub merged : Names → List Name → Names → Names
-merged names these last name = if is_one_of name these then last name else names name
-
 -- these are the names that the steps set
 pub record AreSetBy (steps : List StepView) (these : List Name) : Type 0 where
   pub each : (name : List ℕ) → is_one_of name these ≡ list_any (sets_name name) steps

@@ -8,7 +8,7 @@ use Rattle.hm_turn.specs.Known.{Lock, Known}
 use Rattle.hm_heap.specs.Passes.{PassView, AreOf, AllKnow, all_met}
 use Rattle.hm_replay.specs.declared.round.Worker.{Worker}
 use Rattle.hm_replay.specs.Gains.{mine_of, AllGrew}
-use Rattle.hm_replay.specs.Names.{Names, seen_in, settled, AreLeft}
+use Rattle.hm_replay.specs.Names.{Names, seen_in, AreLeft}
 use Rattle.hm_replay.specs.Scripts.{IsFront, IsRun}
 
 -- ---- one worker
@@ -88,8 +88,3 @@ pub record FinishedTo (locks : List Lock) (p q : PassView) (workers : List Worke
 -- where memory was found, the worker has listed what its script leaves of its names
 abbrev pub LeavesNames : Worker → Type 0
 LeavesNames w = IfSome w.left (λ left. AreLeft w.script.now.steps (seen_in w.scope) left.items)
-
--- the names that each worker's script sets, among others
-abbrev pub all_settled : Names → List Worker → Names
-all_settled names [] = names
-all_settled names (w ∷ ws) = all_settled (settled names w.script.now.steps (seen_in w.scope)) ws

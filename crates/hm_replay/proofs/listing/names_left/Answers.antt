@@ -2,8 +2,8 @@ use Rattle.std.proofs.Common.{arith, ◌≡◌, ◌∷◌, List, length, sym, �
 use Rattle.hm_trace.specs.declared.names.Name.{Name}
 use Rattle.hm_trace.specs.Views.{StepView, steps_view}
 use Rattle.hm_replay.specs.declared.left.NameLeft.{NameLeft}
-use Rattle.hm_replay.specs.Names.{Names, merged, settled, with_all}
-use Rattle.hm_replay.proofs.Merging.{listed_more, merged_settled}
+use Rattle.hm_replay.specs.Names.{Names, settled, with_all}
+use Rattle.hm_replay.proofs.Merging.{merged, listed_more, merged_settled}
 use Rattle.hm_replay.proofs.listing.names_left.Goals as goal
 
 pub loop-name-init : goal.loop-name-init

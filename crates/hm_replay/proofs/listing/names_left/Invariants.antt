@@ -1,6 +1,7 @@
 use Rattle.std.proofs.Common.{◌≡◌, ◌+◌, ◌≤◌, length, vec_len, vec_capacity}
 use Rattle.hm_trace.specs.Views.{steps_view}
-use Rattle.hm_replay.specs.Names.{Names, merged, settled, with_all}
+use Rattle.hm_replay.specs.Names.{Names, settled, with_all}
+use Rattle.hm_replay.proofs.Merging.{merged}
 use Rattle.hm_replay.proofs.listing.names_left.Given as goal
 
 abbrev pub invariant-loop-name : goal.invariant-loop-name

@@ -9,9 +9,8 @@ use Rattle.hm_replay.specs.Names.{Names, held, Settles, with_all}
 use Rattle.hm_replay.specs.declared.left.NameLeft.{NameLeft}
 use Rattle.hm_replay.specs.RoundOf.{ended_in}
 use Rattle.hm_replay.specs.Rounds.{RunsRound}
-use Rattle.hm_replay.specs.Workers.{all_settled}
 use Rattle.hm_replay.proofs.Begun.{begins_begun, begins_run}
-use Rattle.hm_replay.proofs.Merging.{settles_all}
+use Rattle.hm_replay.proofs.Merging.{all_settled, settles_all}
 use Rattle.hm_replay.proofs.Rounding.{IsStartedBy, is_made, leaves_begun, leaves_run, runs_round, scripts_are, started_by}
 use Rattle.hm_replay.proofs.round.run_round.Goals as goal
 
