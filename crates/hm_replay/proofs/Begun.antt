@@ -1,5 +1,6 @@
 -- How far the scripts of a round were run.
-use Rattle.std.proofs.Common.{◌≡◌, ℕ, ◌+◌, ◌-◌, ◌<◌, ◌≤◌, List, [], ◌∷◌, length, slice_index_or, map, Option, Result, Ok, Err, IfOk, OnErr, take, arith, refl, ap, ◌∙◌, sym, subst, suc}
+use Rattle.std.proofs.Common.{◌≡◌, ℕ, ◌+◌, ◌-◌, ◌<◌, ◌≤◌, List, [], ◌∷◌, length, slice_index_or, map, Option, Result, Ok, Err, IfOk, OnErr, take, Vec, vec_len, arith, refl, ap, ◌∙◌, sym, subst, suc}
+use Rattle.std.specs.declared.alloc.Global.{Global}
 use Rattle.std.proofs.lemmas.List.{append-nil, get_or-take, length-take-le}
 use mathlib.Core.Path.{fun_ext, transport}
 use Rattle.hm_outside.specs.declared.memory.NoMemory.{NoMemory}
@@ -7,7 +8,7 @@ use Rattle.hm_report.specs.declared.results.Results.{Results}
 use Rattle.hm_sizes.specs.declared.config.Config.{Config}
 use Rattle.hm_trace.specs.Views.{ScriptView, StepView}
 use Rattle.hm_turn.specs.Known.{Lock}
-use Rattle.hm_heap.specs.Passes.{PassView}
+use Rattle.hm_heap.specs.Passes.{PassView, AreOf}
 use Rattle.hm_replay.specs.declared.round.Worker.{Worker}
 use Rattle.hm_replay.specs.Gains.{mine_of}
 use Rattle.hm_replay.specs.Names.{Names, seen_in}
@@ -16,9 +17,9 @@ use Rattle.hm_replay.specs.Rounds.{AreFronts}
 use Rattle.hm_replay.specs.Scripts.{IsFront, IsRun}
 use Rattle.hm_replay.specs.Steps.{Terms}
 use Rattle.hm_replay.specs.Uses.{Own, used_up}
-use Rattle.hm_replay.specs.Workers.{FinishedTo, MakesFront}
+use Rattle.hm_replay.specs.Workers.{HasParted, IsBegun, FinishedTo, MakesFront}
 use Rattle.hm_replay.proofs.Fronts.{stops_none}
-use Rattle.hm_replay.proofs.Rounding.{AllRan, AllSame, IsStartedBy, ended_is, leaves_begun, leaves_run, parted_run, scripts_are, worked, worked_begun}
+use Rattle.hm_replay.proofs.Rounding.{AllRan, AllSame, IsStartedBy, ended_is, leaves_begun, leaves_run, parted_run, scripts_are, started_by, worked, worked_begun}
 
 pub record IsFrontMade (c : Config) (round : ℕ) (names : Names) (caller : ℕ) (own : Own) (w : Worker) : Type 0 where
   pub last : Names
@@ -144,3 +145,46 @@ module _ (c : Config) (locks : List Lock) (round total : ℕ) (p q z : PassView)
       alone = subst (λ (k : ℕ). LeavesRoot k p z) (sym (splits_of vs f)) (leaves_run locks round (length ws) p q names ws exact vs n ran z found f);
       fronts = fronts_run vs n ran fronts same f;
     }
+
+-- ---- what a round has of its parts
+-- the passes were split off, for the first of these scripts
+module _ (locks : List Lock) (round : ℕ) (p q : PassView) (names : Names) (ws : Vec Worker Global)
+    (scripts theirs : List ScriptView) (all : theirs ≡ scripts) (of : AreOf locks p.turns)
+    (parted : HasParted locks (vec_len ws) p q)
+    (begun : (i : ℕ) (w : Worker) → i < vec_len ws → IsBegun locks (p.splits + 1 + i) round p names (slice_index_or ws.items i w))
+    (few : vec_len ws ≤ length theirs) where
+  pub started : IsStartedBy locks round (length scripts) p q names ws.items
+  started =
+      started_by locks round (length theirs) (length scripts) p q names ws.items (vec_len ws) ws.ok.0 of parted begun few
+      (ap (λ (l : List ScriptView). length l) all)
+
+  pub unrun_root : (z : PassView) (found : List (Option Results)) → FinishedTo locks q z ws.items found
+      → LeavesRoot (length scripts) p z
+  unrun_root = leaves_begun locks round (length scripts) p q names ws.items started
+
+  module _ (vs : Vec Worker Global) (len : vec_len vs ≡ vec_len ws) (ran : AllRan locks ws.items vs.items) where
+    as_many : length vs.items ≡ length ws.items
+    as_many = sym vs.ok.0 ∙ len ∙ ws.ok.0
+
+    pub run_root : (z : PassView) (found : List (Option Results)) → FinishedTo locks q z vs.items found
+        → LeavesRoot (length scripts) p z
+    run_root = leaves_run locks round (length scripts) p q names ws.items started vs.items as_many ran
+
+  module _ (c : Config)
+      (is : (i : ℕ) (w : Worker) (x : ScriptView) → i < vec_len ws → (slice_index_or ws.items i w).script.now ≡ slice_index_or theirs i x)
+    where
+      of_round : (i : ℕ) (w : Worker) (x : ScriptView) → i < length ws.items
+          → (slice_index_or ws.items i w).script.now ≡ slice_index_or scripts i x
+      of_round i w x l = is i w x (omega (arith, l, ws.ok.0)) ∙ ap (λ (y : List ScriptView). slice_index_or y i x) all
+
+      pub unrun_begins : (z : PassView) (found : List (Option Results)) → FinishedTo locks q z ws.items found
+          → BeginsRound c round names scripts p z
+      unrun_begins z found =
+          begins_begun c locks round (length scripts) p q z names ws.items found started scripts refl of_round
+
+      pub run_begins : (vs : Vec Worker Global) → vec_len vs ≡ vec_len ws → AllRan locks ws.items vs.items
+          → AllFronts c ws.items vs.items → AllSame ws.items vs.items → (z : PassView) (found : List (Option Results))
+          → FinishedTo locks q z vs.items found → BeginsRound c round names scripts p z
+      run_begins vs len ran fronts same z found =
+          begins_run c locks round (length scripts) p q z names ws.items found started scripts refl of_round vs.items
+          (sym vs.ok.0 ∙ len ∙ ws.ok.0) ran fronts same

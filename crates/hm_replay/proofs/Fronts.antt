@@ -20,7 +20,7 @@ use Rattle.hm_replay.specs.Names.{Names}
 use Rattle.hm_replay.specs.Scripts.{Runs, RunsFront, StopsAt}
 use Rattle.hm_replay.specs.Steps.{Terms, Answers, BreaksOff, Fronts, IsStepPlan, base_of, who_at}
 use Rattle.hm_replay.specs.Uses.{Own, TakesPart, Uses, UsesFront}
-use Rattle.hm_replay.proofs.Gaining.{gains_as, gains_then, part_gains}
+use Rattle.hm_replay.proofs.Gaining.{gains_as, gains_none, gains_then, part_gains}
 use Rattle.hm_replay.proofs.Trying.{Idles}
 
 pub on_err : {T E : Type 0} {X : Type 0} (r : Result T E) → X → OnErr r X
@@ -139,6 +139,18 @@ gains_unnamed ts us t number base step o a is g =
       uses = uses_all (λ part. who_at t number part) 1 answers.plan a xs ys answers.uses;
     }) g)
 
+-- the step was not begun
+pub stop_none : (ts : List Known) (t : Terms) (number : ℕ) (names : Names) (step : StepView)
+    → Gains ts ts (StopsAt t number names (step ∷ []))
+stop_none ts t number names step = gains_none ts ts (StopsAt t number names (step ∷ [])) refl (λ xs. inl (λ place. refl))
+
+-- or not run to its end
+pub stop_broken : (ts us : List Known) (t : Terms) (number : ℕ) (names : Names) (step : StepView)
+    → Gains ts us (BreaksOff t number step (base_of names step)) → Gains ts us (StopsAt t number names (step ∷ []))
+stop_broken ts us t number names step =
+    gains_as ts us (BreaksOff t number step (base_of names step)) (StopsAt t number names (step ∷ []))
+    (λ xs ys broken. inr broken)
+
 -- ---- a script
 -- the step at a place, between those before it and those after it
 pub split_at : (steps : List Step) (i : ℕ) (s : Step) → i < length steps → s ≡ get_or steps i s
@@ -167,19 +179,19 @@ ran_front ts us t names last steps done later rs is g =
       stops = stops_none t (1 + length done) last later ys;
     }) g
 
--- so many steps were run, and the next one was not run to its end
-pub broken_front : (ts us vs : List Known) (t : Terms) (names last : Names) (steps done later : List StepView) (s : StepView)
+-- so many steps were run, and the next one was not begun, or not run to its end
+pub stopped_front : (ts us vs : List Known) (t : Terms) (names last : Names) (steps done later : List StepView) (s : StepView)
     (rs : List StepResult) (number : ℕ) → number ≡ 1 + length done
     → steps ≡ done ++ s ∷ later → Gains ts us (Runs t 1 names done rs last)
-    → Gains us vs (BreaksOff t number s (base_of last s)) → Gains ts vs (RunsFront t names steps last)
-broken_front ts us vs t names last steps done later s rs number number_is is g b =
-    gains_then ts us vs (Runs t 1 names done rs last) (BreaksOff t number s (base_of last s)) (RunsFront t names steps last)
-    (λ xs ys zs runs broken. record {
+    → Gains us vs (StopsAt t number last (s ∷ [])) → Gains ts vs (RunsFront t names steps last)
+stopped_front ts us vs t names last steps done later s rs number number_is is g b =
+    gains_then ts us vs (Runs t 1 names done rs last) (StopsAt t number last (s ∷ [])) (RunsFront t names steps last)
+    (λ xs ys zs runs stops. record {
       done = done;
       later = s ∷ later;
       steps_are = is;
       results = rs;
       left = ys;
       runs = runs;
-      stops = inr (subst (λ (n : ℕ). BreaksOff t n s (base_of last s) ys zs) number_is broken);
+      stops = subst (λ (n : ℕ). StopsAt t n last (s ∷ []) ys zs) number_is stops;
     }) g b

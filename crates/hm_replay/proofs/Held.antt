@@ -1,18 +1,18 @@
 -- Addresses by names, searched by the order of names, are searched by their bytes.
 use Rattle.std.proofs.Common.{◌≡◌, ◌⊎◌, inl, inr, ℕ, Bool, true, false, cond, List, [], ◌∷◌, Option, Some, None, Result, Ok, Err, nat_eq, refl, sym, ◌∙◌, ap, subst}
-use Rattle.std.specs.Prelude.{IfSome, OnOk, OnErr}
+use Rattle.std.specs.Prelude.{◌||◌, IfSome, OnOk, OnErr}
 use Rattle.std.proofs.lemmas.Bool.{cond_both}
 use mathlib.Core.Path.{fun_ext}
 use Rattle.std.specs.BTreeMap.{is_at}
 use Rattle.std.specs.Map.{lookup}
 use Rattle.std.specs.Cmp.Lexicographic.{pointwise, same_text, slice_cmp, texts_ties}
-use Rattle.std.specs.Option.{option_map_or}
+use Rattle.std.specs.Option.{is_some, option_map_or}
 use Rattle.std.specs.Ordering.{nat_cmp, eq_by_cmp}
 use Rattle.std.specs.declared.cmp.Ordering.{Ordering}
 use Rattle.hm_trace.specs.declared.names.Name.{Name}
 use Rattle.hm_trace.specs.Names.{is_word}
 use Rattle.hm_trace.specs.Views.{name_view}
-use Rattle.hm_replay.specs.Names.{held, seen_in, with_name}
+use Rattle.hm_replay.specs.Names.{held, own_names, seen_in, touched_too, with_name}
 
 -- the order of names, which is that of their bytes
 abbrev pub by_bytes : Name → Name → Ordering
@@ -109,3 +109,16 @@ pub set_over : (round : List (Name × ℕ)) (own after : List (Name × Option �
 set_over round own after name given says = fun_ext (λ q.
     ap (λ (o : Option (Option ℕ)). option_map_or (λ (o : Option ℕ). o) o (held round q)) (updated own after name (Some given) says q)
     ∙ over (is_word (name_view name) q) given (held round q) (held own q))
+
+some_or : {X : Type 0} (b : Bool) (x : X) (o : Option X) → is_some (cond b (Some x) o) ≡ (is_some o || b)
+some_or true x None = refl
+some_or true x (Some y) = refl
+some_or false x None = refl
+some_or false x (Some y) = refl
+
+pub own_more : (round : List (Name × ℕ)) (own after : List (Name × Option ℕ)) (name : Name) (given : Option ℕ)
+    → Updated own after name (Some given)
+    → own_names (round, after) ≡ touched_too (own_names (round, own)) (name_view name)
+own_more round own after name given says = fun_ext (λ q.
+    ap (λ (o : Option (Option ℕ)). is_some o) (updated own after name (Some given) says q)
+    ∙ some_or (is_word (name_view name) q) given (held own q))

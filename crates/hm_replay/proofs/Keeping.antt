@@ -1,6 +1,7 @@
 -- What is set among names that have room, and what an insertion does to it.
-use Rattle.std.proofs.Common.{◌≡◌, ℕ, Bool, true, false, cond, List, [], ◌∷◌, ◌++◌, Option, Some, None, Result, Ok, Err, refl, sym, ◌∙◌, ap, subst}
+use Rattle.std.proofs.Common.{◌≡◌, ℕ, Bool, true, false, ◌&&◌, cond, List, [], ◌∷◌, ◌++◌, Option, Some, None, Result, Ok, Err, refl, sym, ◌∙◌, ap, subst}
 use Rattle.std.specs.Prelude.{IfSome, IsSome, OnOk, OnErr}
+use Rattle.std.proofs.lemmas.Bool.{eq-eqb}
 use mathlib.Core.Path.{fun_ext}
 use Rattle.std.specs.BTreeMap.{insert_entry}
 use Rattle.std.specs.Map.{keys_of}
@@ -17,7 +18,7 @@ use Rattle.hm_trace.specs.Views.{name_view}
 use Rattle.hm_heap.specs.Requests.{IsInReach}
 use Rattle.hm_replay.specs.declared.left.NameLeft.{NameLeft}
 use Rattle.hm_replay.specs.Names.{held, seen_in, with_name}
-use Rattle.hm_replay.specs.Rooms.{set_also, set_in, Once, AreRooms, HaveRooms}
+use Rattle.hm_replay.specs.Rooms.{set_also, set_in, Once, AreRooms, AreOwn, HaveRooms}
 use Rattle.hm_replay.proofs.Held.{Updated, by_bytes, by_order, inserted_each, looked, set_over, updated}
 use Rattle.hm_replay.proofs.Starts.{each_pushed}
 
@@ -77,6 +78,10 @@ pub none_of : {X : Type 0} (o : Option X) → is_some o ≡ false → o ≡ None
 none_of None is = refl
 none_of (Some x) is = absurd cc
 
+word_itself : (text : List ℕ) → is_word text text ≡ true
+word_itself [] = refl
+word_itself (c ∷ text) = ap (λ (b : Bool). b && is_word text text) (eq-eqb c c refl) ∙ word_itself text
+
 -- ---- an insertion
 module _ (es fs : List (Name × Option ℕ)) (name : Name) (given : Option ℕ) where
   pub are_rooms : {A B U : Type 0} (r : Result A B) → (U → Updated es fs name (Some given)) → OnOk r U
@@ -102,6 +107,17 @@ module _ (es fs : List (Name × Option ℕ)) (name : Name) (given : Option ℕ) 
       the_some : (g : Option ℕ) → IsSome (Some g)
       the_some g = refl
 
+  -- it is what was set last
+  pub own_set : Updated es fs name (Some given) → AreRooms fs → (n : NameLeft) → n.name ≡ name → n.address ≡ given
+      → AreOwn fs (Some n)
+  own_set says rooms n name_is given_is = record {
+    rooms = rooms;
+    last_is =
+        ap (λ (k : Name). held fs (name_view k)) name_is ∙ updated es fs name (Some given) says (name_view name)
+        ∙ ap (λ (b : Bool). cond b (Some given) (held es (name_view name))) (word_itself (name_view name))
+        ∙ sym (ap (λ (o : Option ℕ). Some o) given_is);
+  }
+
   pub is_set : Updated es fs name (Some given) → Once es → Once fs
       → held (set_in fs) ≡ with_name (held (set_in es)) (name_view name) given
   is_set says was now = fun_ext (λ q.
@@ -117,6 +133,25 @@ module _ (es fs : List (Name × Option ℕ)) (name : Name) (given : Option ℕ) 
     where
       no : IsSome {T = Option ℕ} None → ⊥
       no is = absurd cc
+
+-- ---- names one after another
+module _ (e : Name × Option ℕ) (es : List (Name × Option ℕ)) (rooms : AreRooms (e ∷ es)) where
+  pub first_reach : IfSome e.1 IsInReach
+  first_reach =
+      subst (λ (b : Bool). IfSome (cond b (Some e.1) (held es (name_view e.0))) (λ (given : Option ℕ). IfSome given IsInReach))
+      (word_itself (name_view e.0)) (rooms.reach (name_view e.0))
+
+  pub rooms_later : AreRooms es
+  rooms_later = record { once = rooms.once.1; reach = λ q. by q (is_word q (name_view e.0)) refl }
+    where
+      by : (q : List ℕ) (b : Bool) → is_word q (name_view e.0) ≡ b
+          → IfSome (held es q) (λ (given : Option ℕ). IfSome given IsInReach)
+      by q true is =
+          subst (λ (o : Option (Option ℕ)). IfSome o (λ (given : Option ℕ). IfSome given IsInReach))
+          (sym (ap (λ (n : List ℕ). held es n) (same_text q (name_view e.0) (sym is)) ∙ rooms.once.0)) tt
+      by q false is =
+          subst (λ (b : Bool). IfSome (cond b (Some e.1) (held es q)) (λ (given : Option ℕ). IfSome given IsInReach)) is
+          (rooms.reach q)
 
 -- ---- room for names
 pub rooms_more : (es fs : List (Name × Option ℕ)) (left : List NameLeft) (n : NameLeft) → HaveRooms es left

@@ -1,105 +1,80 @@
--- The names that steps set are gathered, and those that a script leaves are listed.
-use Rattle.hm_replay.specs.Names.{Names, is_one_of, settled, with_name, AreSetBy, seen_in, with_all, AreLeft, Settles}
-use Rattle.hm_replay.proofs.Held.{by_bytes}
+-- The names that the scripts of a round leave.
+use Rattle.hm_replay.specs.Names.{Names, ScopeView, Touched, held, no_name, own_names, seen_in, settled, touched_all, with_all, with_name, with_own, AreLeft, Settles}
 use Rattle.hm_replay.specs.Workers.{LeavesNames}
 use Rattle.hm_replay.specs.declared.left.NameLeft.{NameLeft}
 use Rattle.hm_replay.specs.declared.round.Worker.{Worker}
 use Rattle.hm_trace.specs.Names.{is_word}
-use Rattle.hm_trace.specs.Traces.{name_set, sets_name}
 use Rattle.hm_trace.specs.Views.{StepView, name_view}
 use Rattle.hm_trace.specs.declared.names.Name.{Name}
-use Rattle.std.proofs.Common.{◌≡◌, ℕ, ◌||◌, Bool, true, false, cond, List, [], ◌∷◌, ◌++◌, Option, Some, None, Result, Ok, Err, IfOk, IfSome, refl, sym, ◌∙◌, ap, subst, ◌<◌, length, slice_index_or, map, Vec, arith, suc}
-use Rattle.std.proofs.Math.Bool.{or-false, or_assoc, or_comm, or_self_left}
-use Rattle.std.specs.BTreeSet.{insert_key}
-use Rattle.std.specs.Cmp.Lexicographic.{same_text, texts_ties}
-use Rattle.std.specs.Option.{option_map_or}
-use Rattle.std.specs.Ordering.{is_eq, match_ordering}
+use Rattle.std.proofs.Common.{◌≡◌, ℕ, Bool, true, false, cond, List, [], ◌∷◌, ◌++◌, Option, Some, None, Result, Ok, Err, IfOk, IfSome, refl, sym, ◌∙◌, ap, subst, ◌<◌, length, slice_index_or, map, Vec, arith, suc}
+use Rattle.std.specs.Cmp.Lexicographic.{same_text}
+use Rattle.std.specs.Option.{is_some, option_map_or}
+use mathlib.Core.Path.{fun_ext}
 use Rattle.std.specs.Result.{result_ok}
 use Rattle.std.specs.declared.alloc.Global.{Global}
-use Rattle.std.specs.declared.cmp.Ordering.TheVariants.{Less, Equal, Greater}
-use Rattle.std.specs.declared.cmp.Ordering.{Ordering}
-
--- each of these names holds what it holds in these last names
-abbrev pub merged : Names → List Name → Names → Names
-merged names these last name = cond (is_one_of name these) (last name) (names name)
 
 -- the names that each worker's script sets, among others
 abbrev pub all_settled : Names → List Worker → Names
 all_settled names [] = names
 all_settled names (w ∷ ws) = all_settled (settled names w.script.now.steps (seen_in w.scope)) ws
 
--- ---- one more name is gathered
-joined : (k n : Name) (ns : List Name) (q : List ℕ) (o : Ordering) → by_bytes k n ≡ o
-    → is_one_of q (insert_key by_bytes ns k) ≡ (is_word (name_view k) q || is_one_of q ns)
-    → is_one_of q (match_ordering o (k ∷ n ∷ ns) (n ∷ ns) (n ∷ insert_key by_bytes ns k))
-    ≡ (is_word (name_view k) q || is_one_of q (n ∷ ns))
-joined k n ns q Less is later = refl
-joined k n ns q Equal is later =
-    let same : name_view k ≡ name_view n =
-    same_text (name_view k) (name_view n) (sym (texts_ties (name_view k) (name_view n) ∙ ap is_eq is)) in
-    sym (or_self_left (is_word (name_view n) q) (is_one_of q ns))
-    ∙ ap (λ (w : List ℕ). is_word w q || is_one_of q (n ∷ ns)) (sym same)
-joined k n ns q Greater is later =
-    let here : Bool = is_word (name_view k) q in
-    let there : Bool = is_word (name_view n) q in
-    let rest : Bool = is_one_of q ns in
-    ap (λ (b : Bool). there || b) later ∙ sym (or_assoc there here rest)
-    ∙ ap (λ (b : Bool). b || rest) (or_comm there here)
-    ∙ or_assoc here there rest
+-- ---- what a script leaves of its names
+word_sym : (name other : List ℕ) → is_word name other ≡ is_word other name
+word_sym name other = by (is_word name other) (is_word other name) refl refl
+  where
+    turned : (n m : List ℕ) → n ≡ m → is_word n m ≡ is_word m n
+    turned n m is = λ i. is_word (is i) (sym is i)
 
-inserted : (k : Name) (ns : List Name) (q : List ℕ)
-    → is_one_of q (insert_key by_bytes ns k) ≡ (is_word (name_view k) q || is_one_of q ns)
-inserted k [] q = refl
-inserted k (n ∷ ns) q = joined k n ns q (by_bytes k n) refl (inserted k ns q)
+    by : (b d : Bool) → is_word name other ≡ b → is_word other name ≡ d → is_word name other ≡ is_word other name
+    by true d is that = turned name other (same_text name other (sym is))
+    by false true is that = sym (turned other name (same_text other name (sym that)))
+    by false false is that = is ∙ sym that
 
-taken_by : (ns : List Name) (s : StepView) (q : List ℕ) (o : Option (List ℕ)) → o ≡ name_set s
-    → (is_one_of q ns || option_map_or (λ (n : List ℕ). is_word n q) o false) ≡ (is_one_of q ns || sets_name q s)
-taken_by ns s q o = ap (λ (o : Option (List ℕ)). is_one_of q ns || option_map_or (λ (n : List ℕ). is_word n q) o false)
+-- the first of the names that a script has set, which it has not set otherwise
+pub own_one : (names : Names) (round : List (Name × ℕ)) (e : Name × Option ℕ) (es : List (Name × Option ℕ))
+    → held es (name_view e.0) ≡ None
+    → with_own (with_name names (name_view e.0) e.1) (round, es) ≡ with_own names (round, e ∷ es)
+own_one names round e es none = fun_ext (λ q. by q (is_word q (name_view e.0)) refl)
+  where
+    by : (q : List ℕ) (b : Bool) → is_word q (name_view e.0) ≡ b
+        → with_own (with_name names (name_view e.0) e.1) (round, es) q
+        ≡ option_map_or (λ (given : Option ℕ). given) (cond b (Some e.1) (held es q)) (names q)
+    by q true is =
+        ap (λ (o : Option (Option ℕ)). option_map_or (λ (given : Option ℕ). given) o (with_name names (name_view e.0) e.1 q))
+        (ap (λ (n : List ℕ). held es n) (same_text q (name_view e.0) (sym is)) ∙ none)
+        ∙ ap (λ (b : Bool). cond b e.1 (names q)) (word_sym (name_view e.0) q ∙ is)
+    by q false is =
+        ap (λ (b : Bool). option_map_or (λ (given : Option ℕ). given) (held es q) (cond b e.1 (names q)))
+        (word_sym (name_view e.0) q ∙ is)
 
--- a step that sets none
-pub none_taken : (ns : List Name) (s : StepView) (q : List ℕ) → None ≡ name_set s
-    → is_one_of q ns ≡ (is_one_of q ns || sets_name q s)
-none_taken ns s q is = sym (or-false (is_one_of q ns)) ∙ taken_by ns s q None is
+-- where a script has touched what its steps set, these are settled
+pub own_settled : (names : Names) (s : ScopeView) (steps : List StepView) → own_names s ≡ touched_all no_name steps
+    → with_own names s ≡ settled names steps (seen_in s)
+own_settled names s steps is = fun_ext (λ q.
+    by (held s.1 q) (held s.0 q) (names q)
+    ∙ ap (λ (touched : Touched). cond (touched q) (seen_in s q) (names q)) is)
+  where
+    by : (o : Option (Option ℕ)) (round name : Option ℕ) → option_map_or (λ (given : Option ℕ). given) o name
+        ≡ cond (is_some o) (option_map_or (λ (given : Option ℕ). given) o round) name
+    by None round name = refl
+    by (Some given) round name = refl
 
--- a step that sets this name
-pub one_taken : (ns ms : List Name) (k : Name) (s : StepView) (q : List ℕ) → Some (name_view k) ≡ name_set s
-    → ms ≡ insert_key by_bytes ns k → is_one_of q ms ≡ (is_one_of q ns || sets_name q s)
-one_taken ns ms k s q is keys =
-    ap (λ (l : List Name). is_one_of q l) keys ∙ inserted k ns q ∙ or_comm (is_word (name_view k) q) (is_one_of q ns)
-    ∙ taken_by ns s q (Some (name_view k)) is
+pub all_left : {E : Type 0} (s : ScopeView) (steps : List StepView) (r : Result (Vec NameLeft Global) E)
+    → IfOk r (λ left. (names : Names) → with_all names left.items ≡ with_own names s)
+    → own_names s ≡ touched_all no_name steps → IfOk r (λ left. AreLeft steps (seen_in s) left.items)
+all_left s steps (Err e) left touched = tt
+all_left s steps (Ok v) left touched = record { settle = λ names. left names ∙ own_settled names s steps touched }
 
--- ---- one more name is merged
-chosen : (names last : Names) (name q : List ℕ) (b rest : Bool) → is_word name q ≡ b
-    → cond rest (last q) (cond b (last name) (names q)) ≡ cond (b || rest) (last q) (names q)
-chosen names last name q true true is = refl
-chosen names last name q true false is = ap last (same_text name q (sym is))
-chosen names last name q false true is = refl
-chosen names last name q false false is = refl
+-- what was answered, and what is known of it
+pub was_ok : {X E P : Type 0} {x : X} (r : Result X E) → result_ok r ≡ Some x → IfOk r (λ y. P) → P
+was_ok (Err e) is p = absurd cc
+was_ok (Ok y) is p = p
 
-pub merged_one : (names last : Names) (k : Name) (ns : List Name)
-    → merged (with_name names (name_view k) (last (name_view k))) ns last ≡ merged names (k ∷ ns) last
-merged_one names last k ns = λ i q. chosen names last (name_view k) q (is_word (name_view k) q) (is_one_of q ns) refl i
-
--- the names that the steps set, merged, are settled
-pub merged_settled : (names last : Names) (steps : List StepView) (ns : List Name) → AreSetBy steps ns
-    → merged names ns last ≡ settled names steps last
-merged_settled names last steps ns all = λ i q. ap (λ (b : Bool). cond b (last q) (names q)) (all.each q) i
-
--- ---- one more name is listed
+-- ---- lists one after another
 pub with_all_then : (names : Names) (left more : List NameLeft)
     → with_all names (left ++ more) ≡ with_all (with_all names left) more
 with_all_then names [] more = refl
 with_all_then names (m ∷ left) more = with_all_then (with_name names (name_view m.name) m.address) left more
-
-pub listed_more : (names last : Names) (steps : List StepView) (left : List NameLeft) (n : NameLeft) (rest : List Name)
-    → n.address ≡ last (name_view n.name)
-    → merged (with_all names left) (n.name ∷ rest) last ≡ settled names steps last
-    → merged (with_all names (left ++ n ∷ [])) rest last ≡ settled names steps last
-listed_more names last steps left n rest address is =
-    ap (λ (z : Names). merged z rest last)
-    (with_all_then names left (n ∷ [])
-    ∙ ap (λ (o : Option ℕ). with_name (with_all names left) (name_view n.name) o) address)
-    ∙ merged_one (with_all names left) last n.name rest ∙ is
 
 -- ---- the lists of all workers
 -- what was answered, as a worker keeps it

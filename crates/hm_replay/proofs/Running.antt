@@ -1,18 +1,20 @@
 -- One more step of a script.
-use Rattle.std.proofs.Common.{◌≡◌, ℕ, ◌+◌, ◌<◌, zero, suc, Bool, true, get_or, List, [], ◌∷◌, ◌++◌, append-nil, length, take, Option, Some, None, Result, refl, sym, ◌∙◌, ap, subst, arith}
+use Rattle.std.proofs.Common.{◌≡◌, ℕ, ◌+◌, ◌<◌, ◌||◌, zero, suc, Bool, true, get_or, List, [], ◌∷◌, ◌++◌, append-nil, length, take, Option, Some, None, Result, refl, sym, ◌∙◌, ap, subst, arith}
 use Rattle.std.specs.Prelude.{IfOk}
-use Rattle.std.specs.List.{list_all}
+use Rattle.std.specs.List.{list_all, list_any}
+use Rattle.std.proofs.Math.Bool.{or-false, or_assoc}
 use Rattle.std.proofs.lemmas.Bool.{and_parts}
 use Rattle.std.proofs.lemmas.List.{length-map, length-take-le}
 use mathlib.Core.Path.{fun_ext, transport}
 use Rattle.hm_outside.specs.declared.memory.NoMemory.{NoMemory}
 use Rattle.hm_model.specs.declared.answer.Answer.{Answer}
 use Rattle.hm_report.specs.declared.results.StepResult.{StepResult}
+use Rattle.hm_trace.specs.Traces.{sets_name}
 use Rattle.hm_trace.specs.Views.{StepView, step_view, steps_view}
 use Rattle.hm_trace.specs.declared.step.Step.{Step}
 use Rattle.hm_turn.specs.Known.{Known}
 use Rattle.hm_heap.specs.Passes.{HeapView, PassView}
-use Rattle.hm_replay.specs.Names.{Names}
+use Rattle.hm_replay.specs.Names.{Names, Touched, touched_all, touched_by}
 use Rattle.hm_replay.specs.Uses.{Own, used_up}
 use Rattle.hm_replay.specs.Steps.{Terms, who_at, Answers, skipped, IsStepPlan, Steps, base_of, names_after}
 use Rattle.hm_replay.specs.Scripts.{Runs}
@@ -93,6 +95,23 @@ ran_more h p m q names last steps i s rs r lt same ran one =
     pushed t 1 names last before (step_view s) rs r xs ys zs runs
     (subst (λ (k : ℕ). One k ys zs) (steps_before steps i lt) this))
     ran step
+
+-- ---- the names that a script touches
+pub touched_none : (touched : Touched) → touched ≡ touched_all touched []
+touched_none touched = fun_ext (λ q. sym (or-false (touched q)))
+
+pub touched_more : (touched : Touched) (steps : List StepView) (s : StepView)
+    → touched_by (touched_all touched steps) s ≡ touched_all touched (steps ++ s ∷ [])
+touched_more touched steps s = fun_ext (λ q.
+    or_assoc (touched q) (list_any (sets_name q) steps) (sets_name q s)
+    ∙ ap (λ (b : Bool). touched q || b) (any_last q steps))
+  where
+    any_last : (q : List ℕ) (steps : List StepView)
+        → (list_any (sets_name q) steps || sets_name q s) ≡ list_any (sets_name q) (steps ++ s ∷ [])
+    any_last q [] = sym (or-false (sets_name q s))
+    any_last q (u ∷ steps) =
+        or_assoc (sets_name q u) (list_any (sets_name q) steps) (sets_name q s)
+        ∙ ap (λ (b : Bool). sets_name q u || b) (any_last q steps)
 
 -- what every step passes, the step at a place passes
 pub passes_at : (test : StepView → Bool) (steps : List Step) (i : ℕ) (s : Step) → list_all test (steps_view steps) ≡ true

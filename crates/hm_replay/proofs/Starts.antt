@@ -10,7 +10,7 @@ use Rattle.hm_turn.specs.Callers.{is_among}
 use Rattle.hm_heap.specs.Passes.{PassView, AreOf, cut, born, with_split_off, split_off}
 use Rattle.hm_heap.proofs.Splitting.{map_long, of_cut, of_born}
 use Rattle.hm_trace.specs.Views.{ScriptView}
-use Rattle.hm_replay.specs.Names.{Names, seen_in}
+use Rattle.hm_replay.specs.Names.{Names, no_name, own_names, seen_in}
 use Rattle.hm_replay.specs.Gains.{mine_of}
 use Rattle.hm_replay.specs.declared.round.Worker.{Worker}
 use Rattle.hm_replay.specs.Workers.{IsReady, HasParted, IsBegun, HasCut}
@@ -88,8 +88,9 @@ pub started_more : (locks : List Lock) (round : ℕ) (p q q' : PassView) (script
     (workers : List Worker) (w : Worker) → StartedTo locks round p q scripts names workers
     → q' ≡ with_split_off q → w.pass ≡ split_off q round w.script.now.thread
     → ((s : ScriptView) → w.script.now ≡ slice_index_or scripts (length workers) s) → seen_in w.scope ≡ names
+    → own_names w.scope ≡ no_name
     → StartedTo locks round p q' scripts names (workers ++ w ∷ [])
-started_more locks round p q q' scripts names workers w i e k here agree =
+started_more locks round p q q' scripts names workers w i e k here agree untouched =
     let m : length (workers ++ w ∷ []) ≡ length workers + 1 = length-append workers (w ∷ []) in
     let n : q.splits ≡ p.splits + length workers = ap (λ (z : PassView). z.splits) i.parted.same in
     let kc : w.pass.caller ≡ q.splits + 1 = ap (λ (z : PassView). z.caller) k in
@@ -109,6 +110,7 @@ started_more locks round p q q' scripts names workers w i e k here agree =
             ready =
                 ready_born locks q w.pass (q.splits + 1) w.script.now i.parted.of kc (ap (λ (z : PassView). z.thread) k) kt;
             names_are = agree;
+            untouched = untouched;
           });
       scripts_are = λ j d x b.
           each_pushed (λ (j : ℕ) (z : Worker). z.script.now ≡ slice_index_or scripts j x) workers w

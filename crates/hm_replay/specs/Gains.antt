@@ -1,5 +1,5 @@
 -- What the calls of a pass add to its own entries, and what they leave.
-use Rattle.std.specs.Prelude.{◌≡◌, Bool, true, false, ℕ, ◌++◌, List, [], length, map, slice_index_or}
+use Rattle.std.specs.Prelude.{◌≡◌, Bool, true, false, ℕ, ◌++◌, List, [], ◌∷◌, length, map, slice_index_or}
 use Rattle.hm_model.specs.declared.answer.Answer.{Answer}
 use Rattle.hm_model.specs.declared.answer.Answer.TheVariants as answer
 use Rattle.hm_turn.specs.Histories.{StartsWith}
@@ -10,8 +10,8 @@ use Rattle.hm_heap.specs.Plans.{Plan}
 use Rattle.hm_report.specs.declared.results.StepResult.{StepResult}
 use Rattle.hm_trace.specs.Views.{StepView}
 use Rattle.hm_replay.specs.Names.{Names}
-use Rattle.hm_replay.specs.Scripts.{Runs, RunsFront}
-use Rattle.hm_replay.specs.Steps.{Terms, Answers, Steps, Fronts, BreaksOff, base_of}
+use Rattle.hm_replay.specs.Scripts.{Runs, RunsFront, StopsAt}
+use Rattle.hm_replay.specs.Steps.{Terms, Answers, Steps, Fronts, base_of}
 use Rattle.hm_replay.specs.Uses.{Own}
 
 -- what a script is run on
@@ -45,10 +45,9 @@ GainsResults h p q names steps rs last = Gains p.turns q.turns (Runs (terms_of h
 abbrev pub GainsFront : (Plan → Type 0) → PassView → PassView → ℕ → Type 0
 GainsFront IsPlan p q number = Gains p.turns q.turns (Fronts IsPlan (λ part. who_of p number part))
 
--- a step was not run to its end
-abbrev pub GainsBroken : HeapView → PassView → PassView → ℕ → Names → StepView → Type 0
-GainsBroken h p q number names step =
-    Gains p.turns q.turns (BreaksOff (terms_of h p) number step (base_of names step))
+-- a step was not begun, or not run to its end
+abbrev pub GainsStop : HeapView → PassView → PassView → ℕ → Names → StepView → Type 0
+GainsStop h p q number names step = Gains p.turns q.turns (StopsAt (terms_of h p) number names (step ∷ []))
 
 -- the first steps were run, and left these names
 abbrev pub GainsFrontOf : HeapView → PassView → PassView → Names → List StepView → Names → Type 0

@@ -1,5 +1,5 @@
 -- Names, and the addresses that they hold.
-use Rattle.std.specs.Prelude.{◌≡◌, ℕ, Bool, if◌then◌else◌, List, [], ◌∷◌, Option, Some, None, IfSome, Vec}
+use Rattle.std.specs.Prelude.{◌≡◌, ℕ, Bool, true, false, ◌||◌, if◌then◌else◌, List, [], ◌∷◌, Option, Some, None, is_some, IfSome, Vec}
 use Rattle.std.specs.List.{list_any}
 use Rattle.std.specs.Option.{option_map_or}
 use Rattle.std.specs.declared.alloc.Global.{Global}
@@ -26,6 +26,28 @@ with_name names name given other = if is_word name other then given else names o
 abbrev pub settled : Names → List StepView → Names → Names
 settled names steps last name = if list_any (sets_name name) steps then last name else names name
 
+-- ---- which names were set or unset
+abbrev pub Touched : Type 0
+Touched = List ℕ → Bool
+
+abbrev pub no_name : Touched
+no_name name = false
+
+abbrev pub any_name : Touched
+any_name name = true
+
+-- this name too
+abbrev pub touched_too : Touched → List ℕ → Touched
+touched_too touched name other = touched other || is_word name other
+
+-- that of a step too, where it sets one
+abbrev pub touched_by : Touched → StepView → Touched
+touched_by touched step name = touched name || sets_name name step
+
+-- those of all steps too
+abbrev pub touched_all : Touched → List StepView → Touched
+touched_all touched steps name = touched name || list_any (sets_name name) steps
+
 -- ---- names as they are kept
 -- what is kept for each name
 abbrev pub held : {X : Type 0} → List (Name × X) → List ℕ → Option X
@@ -37,22 +59,19 @@ held (e ∷ entries) name = if is_word name (name_view e.0) then Some e.1 else h
 abbrev pub ScopeView : Type 0
 ScopeView = List (Name × ℕ) × List (Name × Option ℕ)
 
--- what the script has set or unset comes first
+-- what the script has set or unset stands over any names
+abbrev pub with_own : Names → ScopeView → Names
+with_own names s name = option_map_or (λ given. given) (held s.1 name) (names name)
+
 abbrev pub seen_in : ScopeView → Names
-seen_in s name = option_map_or (λ given. given) (held s.1 name) (held s.0 name)
+seen_in s = with_own (held s.0) s
+
+abbrev pub own_names : ScopeView → Touched
+own_names s name = is_some (held s.1 name)
 
 -- blocks lie there
 abbrev pub GivenInReach : List (Name × Option ℕ) → Type 0
 GivenInReach entries = (name : List ℕ) → IfSome (held entries name) (λ given. IfSome given IsInReach)
-
--- ---- the names that steps set
--- one of these names
-abbrev pub is_one_of : List ℕ → List Name → Bool
-is_one_of name these = list_any (λ (n : Name). is_word (name_view n) name) these
-
--- these are the names that the steps set
-pub record AreSetBy (steps : List StepView) (these : List Name) : Type 0 where
-  pub each : (name : List ℕ) → is_one_of name these ≡ list_any (sets_name name) steps
 
 -- ---- the names that a script leaves
 -- each of these names in turn is set to its address, or unset

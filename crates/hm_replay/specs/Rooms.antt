@@ -1,5 +1,5 @@
 -- Rooms for names, and which of them are set.
-use Rattle.std.specs.Prelude.{◌≡◌, ◌<◌, ℕ, List, [], ◌∷◌, length, slice_index_or, Option, Some, None, IsSome, ⊤}
+use Rattle.std.specs.Prelude.{◌≡◌, ◌<◌, ℕ, List, [], ◌∷◌, length, slice_index_or, Option, Some, None, IfSome, IsSome, ⊤}
 use Rattle.hm_trace.specs.declared.names.Name.{Name}
 use Rattle.hm_trace.specs.Views.{name_view}
 use Rattle.hm_replay.specs.declared.left.NameLeft.{NameLeft}
@@ -22,6 +22,11 @@ Once (e ∷ rooms) = (held rooms (name_view e.0) ≡ None) × Once rooms
 pub record AreRooms (rooms : List (Name × Option ℕ)) : Type 0 where
   pub once : Once rooms
   pub reach : GivenInReach rooms
+
+-- the names that a script has set or unset, and the one that it set last
+pub record AreOwn (own : List (Name × Option ℕ)) (last : Option NameLeft) : Type 0 where
+  pub rooms : AreRooms own
+  pub last_is : IfSome last (λ n. held own (name_view n.name) ≡ Some n.address)
 
 -- each of these names has room
 pub record HaveRooms (rooms : List (Name × Option ℕ)) (left : List NameLeft) : Type 0 where

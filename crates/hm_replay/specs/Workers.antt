@@ -8,7 +8,7 @@ use Rattle.hm_turn.specs.Known.{Lock, Known}
 use Rattle.hm_heap.specs.Passes.{PassView, AreOf, AllKnow, all_met}
 use Rattle.hm_replay.specs.declared.round.Worker.{Worker}
 use Rattle.hm_replay.specs.Gains.{mine_of, AllGrew}
-use Rattle.hm_replay.specs.Names.{Names, seen_in, AreLeft}
+use Rattle.hm_replay.specs.Names.{Names, ScopeView, seen_in, no_name, own_names, AreLeft}
 use Rattle.hm_replay.specs.Scripts.{IsFront, IsRun}
 
 -- ---- one worker
@@ -22,6 +22,10 @@ pub record IsReady (locks : List Lock) (p : PassView) (s : ScriptView) : Type 0 
   pub callers : AllCalledBy p
   pub thread : p.thread ≡ s.thread
   pub fresh : (place : ℕ) → mine_of p.turns place ≡ []
+
+-- a worker with such a pass, whose script has touched no name
+abbrev pub IsToRun : List Lock → Worker → Type 0
+IsToRun locks w = IsReady locks w.pass w.script.now × (own_names w.scope ≡ no_name)
 
 -- and after it was run
 pub record HasRun (locks : List Lock) (p q : PassView) : Type 0 where
@@ -59,17 +63,18 @@ pub record HasParted (locks : List Lock) (count : ℕ) (p q : PassView) : Type 0
       → HasCut (p.splits + 1) count (slice_index_or p.turns r t) (slice_index_or q.turns r t)
 
 -- the pass of a script that has not begun
-pub record IsStarted (locks : List Lock) (caller round : ℕ) (root p : PassView) (s : ScriptView) (names now : Names)
-    : Type 0 where
+pub record IsStarted (locks : List Lock) (caller round : ℕ) (root p : PassView) (s : ScriptView) (names : Names)
+    (scope : ScopeView) : Type 0 where
   pub seen : (r : ℕ) (t : Known) → r < length locks
       → (slice_index_or p.turns r t).knows.seen ≡ (slice_index_or root.turns r t).knows.seen
   pub caller_is : p.caller ≡ caller
   pub round_is : p.round ≡ round
   pub ready : IsReady locks p s
-  pub names_are : now ≡ names
+  pub names_are : seen_in scope ≡ names
+  pub untouched : own_names scope ≡ no_name
 
 abbrev pub IsBegun : List Lock → ℕ → ℕ → PassView → Names → Worker → Type 0
-IsBegun locks caller round root names w = IsStarted locks caller round root w.pass w.script.now names (seen_in w.scope)
+IsBegun locks caller round root names w = IsStarted locks caller round root w.pass w.script.now names w.scope
 
 -- ---- passes are joined
 -- the turns after the passes are joined, in order

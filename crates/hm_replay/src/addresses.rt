@@ -2,7 +2,7 @@
 ghost use Rattle.std.specs.Prelude.{◌≡◌, IfSome, OnOk, OnErr};
 ghost use Rattle.hm_trace.specs.Views.{name_view};
 ghost use Rattle.hm_heap.specs.Requests.{IsInReach};
-ghost use Rattle.hm_replay.specs.Names.{Names, with_name};
+ghost use Rattle.hm_replay.specs.Names.{Names, Touched, touched_too, with_name};
 
 use hm_outside::NoMemory;
 use hm_trace::Name;
@@ -11,6 +11,9 @@ use hm_trace::Name;
 pub(crate) trait Addresses {
     /// What each name holds.
     ghost names: { Self → Names };
+
+    /// Which names were set or unset, as far as that is kept.
+    ghost touched: { Self → Touched };
 
     /// The address that a name holds.
     fn get(&self, name: &Name) -> Option<u64>
@@ -21,5 +24,6 @@ pub(crate) trait Addresses {
     fn set(&mut self, name: Name, given: Option<u64>) -> Result<(), NoMemory>
         requires reach { IfSome given IsInReach }
         ensures value { OnOk result (names self.new ≡ with_name (names self.old) (name_view name) given) }
+        ensures touched { OnOk result (touched self.new ≡ touched_too (touched self.old) (name_view name)) }
         ensures memory { OnErr result (self.new ≡ self.old) };
 }

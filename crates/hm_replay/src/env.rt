@@ -1,6 +1,6 @@
 //! The addresses that names hold from round to round.
 ghost use Rattle.std.specs.Prelude.{◌≡◌, OnOk, OnErr};
-ghost use Rattle.hm_replay.specs.Names.{no_names, held, with_all};
+ghost use Rattle.hm_replay.specs.Names.{no_names, held, any_name, with_all};
 
 use crate::addresses::Addresses;
 use crate::left::NameLeft;
@@ -52,6 +52,8 @@ impl Env {
 
 impl Addresses for Env {
     ghost names = { λ e. held e };
+
+    ghost touched = { λ e. any_name };
 
     fn get(&self, name: &Name) -> Option<u64> {
         match self.addresses.get(name).copied() {

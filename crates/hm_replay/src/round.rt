@@ -4,11 +4,11 @@ ghost use Rattle.hm_heap.specs.Passes.{AreOf};
 ghost use Rattle.hm_replay.specs.Names.{held};
 ghost use Rattle.hm_replay.specs.RoundOf.{BeginsRound, LeavesRoot, ended_in};
 ghost use Rattle.hm_replay.specs.Rounds.{RunsRound};
-ghost use Rattle.hm_replay.specs.Workers.{IsReady, HasRun, KeepsMade, MakesFront, LeavesNames, HasParted, IsBegun, FinishedTo};
+ghost use Rattle.hm_replay.specs.Workers.{IsToRun, HasRun, KeepsMade, MakesFront, LeavesNames, HasParted, IsBegun, FinishedTo};
 
 use crate::env::Env;
 use crate::left::NameLeft;
-use crate::listing::{all_left, names_left};
+use crate::listing::all_left;
 use crate::scope::Scope;
 use crate::script::run_with;
 use hm_heap::{Heap, Pass};
@@ -31,7 +31,7 @@ struct Worker<'s, 'e> {
 
 impl<'s, 'e> Worker<'s, 'e> {
     fn run<R: Wait, P: Pages, G: Gate>(&mut self, rt: &R, alloc: Global, heap: &Heap<'_, P, G>)
-        requires { IsReady heap.now.locks self.old.pass self.old.script.now }
+        requires { IsToRun heap.now.locks self.old }
         ensures script { self.new.script ≡ self.old.script }
         ensures run { HasRun heap.now.locks self.old.pass self.new.pass }
         ensures made { KeepsMade heap.now.config self.old self.new }
@@ -45,9 +45,13 @@ impl<'s, 'e> Worker<'s, 'e> {
             &mut self.pass,
             self.script,
             &mut self.scope,
-        );
-        self.results = results.ok();
-        self.left = names_left(alloc, self.script.steps(), &self.scope).ok();
+        )
+        .ok();
+        self.left = match &results {
+            Some(_) => self.scope.left(alloc).ok(),
+            None => None,
+        };
+        self.results = results;
     }
 }
 
@@ -61,8 +65,7 @@ fn work<R: Threads + Wait + Sync, P: Pages, G: Gate>(
 )
     requires threads { 0 < threads }
     requires ready { (i : ℕ) (w : _) → i < length workers.old.items
-        → IsReady heap.now.locks (slice_index_or workers.old.items i w).pass
-        (slice_index_or workers.old.items i w).script.now }
+        → IsToRun heap.now.locks (slice_index_or workers.old.items i w) }
     ensures len { vec_len workers.new ≡ vec_len workers.old }
     ensures script { (i : ℕ) (w : _) → i < length workers.old.items
         → (slice_index_or workers.new.items i w).script ≡ (slice_index_or workers.old.items i w).script }
@@ -81,7 +84,7 @@ fn work<R: Threads + Wait + Sync, P: Pages, G: Gate>(
         workers,
         threads,
         &|_, w: &mut Worker<'_, '_>|
-            requires { IsReady heap.now.locks w.old.pass w.old.script.now }
+            requires { IsToRun heap.now.locks w.old }
         { w.run(rt, alloc, heap) },
     );
 }

@@ -5,15 +5,15 @@ ghost use Rattle.hm_trace.specs.Limits.{max_steps};
 ghost use Rattle.hm_trace.specs.Traces.{is_step};
 ghost use Rattle.hm_trace.specs.Views.{step_view, steps_view};
 ghost use Rattle.hm_heap.specs.Passes.{AreOf};
-ghost use Rattle.hm_replay.specs.Gains.{GainsResult, GainsResults, GainsBroken, GainsFrontOf, AllGrew, terms_of, mine_of};
-ghost use Rattle.hm_replay.specs.Names.{held};
+ghost use Rattle.hm_replay.specs.Gains.{GainsResult, GainsResults, GainsStop, GainsFrontOf, AllGrew, terms_of, mine_of};
+ghost use Rattle.hm_replay.specs.Names.{held, touched_all, touched_by};
 ghost use Rattle.hm_replay.specs.Scripts.{IsFront, IsRun};
 ghost use Rattle.hm_replay.specs.Steps.{names_after};
 
 use crate::addresses::Addresses;
 use crate::calls::call;
 use crate::env::Env;
-use crate::naming::name;
+use crate::naming::{name, skip};
 use crate::places::base_of;
 use hm_heap::{Heap, Pass};
 use hm_outside::{Gate, List, NoMemory, Pages};
@@ -40,11 +40,13 @@ fn run_step<R: Wait, P: Pages, G: Gate, E: Addresses>(
     ensures ran { IfOk result
         (GainsResult heap.now pass.old pass.new step_number (E.names env.old) (step_view step.now)) }
     ensures names { IfOk result (λ r. E.names env.new ≡ names_after (E.names env.old) (step_view step.now) r.answer) }
+    ensures touched { IfOk result (λ _. E.touched env.new ≡ touched_by (E.touched env.old) (step_view step.now)) }
     ensures stops { OnErr result
-        (GainsBroken heap.now pass.old pass.new step_number (E.names env.old) (step_view step.now)) }
+        (GainsStop heap.now pass.old pass.new step_number (E.names env.old) (step_view step.now)) }
     ensures kept { OnErr result (env.new ≡ env.old) }
 {
     let Some(base) = base_of(env, step) else {
+        skip(env, step)?;
         return Ok(StepResult {
             base: 0,
             answer: None,
@@ -75,6 +77,7 @@ fn run_steps<R: Wait, P: Pages, G: Gate, E: Addresses>(
     ensures grew { AllGrew pass.old.turns pass.new.turns }
     ensures ran { IfOk result (λ rs. GainsResults heap.now pass.old pass.new (E.names env.old) (steps_view steps.now)
         rs.items (E.names env.new)) }
+    ensures touched { IfOk result (λ _. E.touched env.new ≡ touched_all (E.touched env.old) (steps_view steps.now)) }
     ensures stops { OnErr result
         (GainsFrontOf heap.now pass.old pass.new (E.names env.old) (steps_view steps.now) (E.names env.new)) }
 {
@@ -104,6 +107,7 @@ pub(crate) fn run_with<R: Wait, P: Pages, G: Gate, E: Addresses>(
     ensures results { IfOk result (λ rs. (rs.round ≡ pass.old.round) × (rs.thread ≡ script.now.thread)) }
     ensures ran { IfOk result (λ rs. IsRun (terms_of heap.now pass.old) (E.names env.old) script.now.steps rs.items
         (E.names env.new) (mine_of pass.new.turns)) }
+    ensures touched { IfOk result (λ _. E.touched env.new ≡ touched_all (E.touched env.old) script.now.steps) }
     ensures stops { OnErr result (IsFront (terms_of heap.now pass.old) (E.names env.old) script.now.steps
         (E.names env.new) (mine_of pass.new.turns)) }
 {

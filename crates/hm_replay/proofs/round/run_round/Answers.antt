@@ -1,4 +1,4 @@
-use Rattle.std.proofs.Common.{arith, ◌≡◌, ℕ, ◌+◌, List, length, map, slice_index_or, vec_len, subst, refl, sym, ◌∙◌, ap}
+use Rattle.std.proofs.Common.{arith, ◌≡◌, ℕ, ◌+◌, List, length, map, vec_len, subst, sym, ◌∙◌, ap}
 use mathlib.Core.Path.{transport}
 use Rattle.hm_report.specs.declared.results.Results.{Results}
 use Rattle.hm_trace.specs.Views.{ScriptView}
@@ -9,92 +9,88 @@ use Rattle.hm_replay.specs.Names.{Names, held, Settles, with_all}
 use Rattle.hm_replay.specs.declared.left.NameLeft.{NameLeft}
 use Rattle.hm_replay.specs.RoundOf.{ended_in}
 use Rattle.hm_replay.specs.Rounds.{RunsRound}
-use Rattle.hm_replay.proofs.Begun.{begins_begun, begins_run}
+use Rattle.hm_replay.proofs.Begun.{run_begins, run_root, started, unrun_begins, unrun_root}
 use Rattle.hm_replay.proofs.Merging.{all_settled, settles_all}
-use Rattle.hm_replay.proofs.Rounding.{IsStartedBy, is_made, leaves_begun, leaves_run, runs_round, scripts_are, started_by}
+use Rattle.hm_replay.proofs.Rounding.{IsStartedBy, is_made, runs_round, scripts_are}
 use Rattle.hm_replay.proofs.round.run_round.Goals as goal
 
 pub returns-then-is_err-clause-root : goal.returns-then-is_err-clause-root
 returns-then-is_err-clause-root g c =
     let s = c.start.ensures in
-    let ws = c.start.new.workers in
-    let locks : List Lock = c.args.heap.now.locks in
-    let total : ℕ = length c.args.round.now in
-    let p : PassView = c.args.root.now in
-    let q : PassView = c.start.new.root in
-    let names : Names = held c.args.env.now in
-    let started : IsStartedBy locks c.args.number total p q names ws.items =
-    started_by locks c.args.number _ total p q names ws.items (vec_len ws) ws.ok.0 c.requires.of s.root s.workers s.some
-    (ap (λ (l : List ScriptView). length l) c.scripts-scripts.ensures.all) in
-    leaves_begun locks c.args.number total p q names ws.items started c.finish.new.root _ c.finish.ensures.passes
+    unrun_root c.args.heap.now.locks c.args.number c.args.root.now c.start.new.root (held c.args.env.now)
+    c.start.new.workers c.args.round.now c.scripts-scripts.result.now c.scripts-scripts.ensures.all c.requires.of s.root
+    s.workers s.some c.finish.new.root _ c.finish.ensures.passes
+
+pub returns-then-is_err-clause-begun : goal.returns-then-is_err-clause-begun
+returns-then-is_err-clause-begun g c =
+    let s = c.start.ensures in
+    unrun_begins c.args.heap.now.locks c.args.number c.args.root.now c.start.new.root (held c.args.env.now)
+    c.start.new.workers c.args.round.now c.scripts-scripts.result.now c.scripts-scripts.ensures.all c.requires.of s.root
+    s.workers s.some c.args.heap.now.config s.scripts c.finish.new.root _ c.finish.ensures.passes
 
 pub returns-in_err-results-clause-root : goal.returns-in_err-results-clause-root
 returns-in_err-results-clause-root g c =
     let s = c.start.ensures in
-    let ws = c.start.new.workers in
-    let locks : List Lock = c.args.heap.now.locks in
-    let total : ℕ = length c.args.round.now in
-    let p : PassView = c.args.root.now in
-    let q : PassView = c.start.new.root in
-    let names : Names = held c.args.env.now in
-    let started : IsStartedBy locks c.args.number total p q names ws.items =
-    started_by locks c.args.number _ total p q names ws.items (vec_len ws) ws.ok.0 c.requires.of s.root s.workers s.some
-    (ap (λ (l : List ScriptView). length l) c.scripts-scripts.ensures.all) in
-    let vs = c.work.new.workers in
-    leaves_run locks c.args.number total p q names ws.items started vs.items
-    (sym vs.ok.0 ∙ c.work.ensures.len ∙ ws.ok.0) c.work.ensures.run
-    c.finish-2.new.root _ c.finish-2.ensures.passes
+    run_root c.args.heap.now.locks c.args.number c.args.root.now c.start.new.root (held c.args.env.now)
+    c.start.new.workers c.args.round.now c.scripts-scripts.result.now c.scripts-scripts.ensures.all c.requires.of s.root
+    s.workers s.some c.work.new.workers c.work.ensures.len c.work.ensures.run c.finish-2.new.root _
+    c.finish-2.ensures.passes
+
+pub returns-in_err-results-clause-begun : goal.returns-in_err-results-clause-begun
+returns-in_err-results-clause-begun g c =
+    let s = c.start.ensures in
+    run_begins c.args.heap.now.locks c.args.number c.args.root.now c.start.new.root (held c.args.env.now)
+    c.start.new.workers c.args.round.now c.scripts-scripts.result.now c.scripts-scripts.ensures.all c.requires.of s.root
+    s.workers s.some c.args.heap.now.config s.scripts c.work.new.workers c.work.ensures.len c.work.ensures.run
+    c.work.ensures.fronts c.work.ensures.script c.finish-2.new.root _ c.finish-2.ensures.passes
 
 pub returns-in_err-left-clause-root : goal.returns-in_err-left-clause-root
 returns-in_err-left-clause-root g c =
     let s = c.start.ensures in
-    let ws = c.start.new.workers in
-    let locks : List Lock = c.args.heap.now.locks in
-    let total : ℕ = length c.args.round.now in
-    let p : PassView = c.args.root.now in
-    let q : PassView = c.start.new.root in
-    let names : Names = held c.args.env.now in
-    let started : IsStartedBy locks c.args.number total p q names ws.items =
-    started_by locks c.args.number _ total p q names ws.items (vec_len ws) ws.ok.0 c.requires.of s.root s.workers s.some
-    (ap (λ (l : List ScriptView). length l) c.scripts-scripts.ensures.all) in
-    let vs = c.work.new.workers in
-    leaves_run locks c.args.number total p q names ws.items started vs.items
-    (sym vs.ok.0 ∙ c.work.ensures.len ∙ ws.ok.0) c.work.ensures.run
-    c.finish-2.new.root _ c.finish-2.ensures.passes
+    run_root c.args.heap.now.locks c.args.number c.args.root.now c.start.new.root (held c.args.env.now)
+    c.start.new.workers c.args.round.now c.scripts-scripts.result.now c.scripts-scripts.ensures.all c.requires.of s.root
+    s.workers s.some c.work.new.workers c.work.ensures.len c.work.ensures.run c.finish-2.new.root _
+    c.finish-2.ensures.passes
+
+pub returns-in_err-left-clause-begun : goal.returns-in_err-left-clause-begun
+returns-in_err-left-clause-begun g c =
+    let s = c.start.ensures in
+    run_begins c.args.heap.now.locks c.args.number c.args.root.now c.start.new.root (held c.args.env.now)
+    c.start.new.workers c.args.round.now c.scripts-scripts.result.now c.scripts-scripts.ensures.all c.requires.of s.root
+    s.workers s.some c.args.heap.now.config s.scripts c.work.new.workers c.work.ensures.len c.work.ensures.run
+    c.work.ensures.fronts c.work.ensures.script c.finish-2.new.root _ c.finish-2.ensures.passes
 
 pub returns-in_err-set_all-clause-root : goal.returns-in_err-set_all-clause-root
 returns-in_err-set_all-clause-root g c =
     let s = c.start.ensures in
-    let ws = c.start.new.workers in
-    let locks : List Lock = c.args.heap.now.locks in
-    let total : ℕ = length c.args.round.now in
-    let p : PassView = c.args.root.now in
-    let q : PassView = c.start.new.root in
-    let names : Names = held c.args.env.now in
-    let started : IsStartedBy locks c.args.number total p q names ws.items =
-    started_by locks c.args.number _ total p q names ws.items (vec_len ws) ws.ok.0 c.requires.of s.root s.workers s.some
-    (ap (λ (l : List ScriptView). length l) c.scripts-scripts.ensures.all) in
-    let vs = c.work.new.workers in
-    leaves_run locks c.args.number total p q names ws.items started vs.items
-    (sym vs.ok.0 ∙ c.work.ensures.len ∙ ws.ok.0) c.work.ensures.run
-    c.finish-2.new.root _ c.finish-2.ensures.passes
+    run_root c.args.heap.now.locks c.args.number c.args.root.now c.start.new.root (held c.args.env.now)
+    c.start.new.workers c.args.round.now c.scripts-scripts.result.now c.scripts-scripts.ensures.all c.requires.of s.root
+    s.workers s.some c.work.new.workers c.work.ensures.len c.work.ensures.run c.finish-2.new.root _
+    c.finish-2.ensures.passes
+
+pub returns-in_err-set_all-clause-begun : goal.returns-in_err-set_all-clause-begun
+returns-in_err-set_all-clause-begun g c =
+    let s = c.start.ensures in
+    run_begins c.args.heap.now.locks c.args.number c.args.root.now c.start.new.root (held c.args.env.now)
+    c.start.new.workers c.args.round.now c.scripts-scripts.result.now c.scripts-scripts.ensures.all c.requires.of s.root
+    s.workers s.some c.args.heap.now.config s.scripts c.work.new.workers c.work.ensures.len c.work.ensures.run
+    c.work.ensures.fronts c.work.ensures.script c.finish-2.new.root _ c.finish-2.ensures.passes
 
 pub returns-clause-root : goal.returns-clause-root
 returns-clause-root g c =
     let s = c.start.ensures in
-    let ws = c.start.new.workers in
-    let locks : List Lock = c.args.heap.now.locks in
-    let total : ℕ = length c.args.round.now in
-    let p : PassView = c.args.root.now in
-    let q : PassView = c.start.new.root in
-    let names : Names = held c.args.env.now in
-    let started : IsStartedBy locks c.args.number total p q names ws.items =
-    started_by locks c.args.number _ total p q names ws.items (vec_len ws) ws.ok.0 c.requires.of s.root s.workers s.some
-    (ap (λ (l : List ScriptView). length l) c.scripts-scripts.ensures.all) in
-    let vs = c.work.new.workers in
-    leaves_run locks c.args.number total p q names ws.items started vs.items
-    (sym vs.ok.0 ∙ c.work.ensures.len ∙ ws.ok.0) c.work.ensures.run
-    c.finish-2.new.root _ c.finish-2.ensures.passes
+    run_root c.args.heap.now.locks c.args.number c.args.root.now c.start.new.root (held c.args.env.now)
+    c.start.new.workers c.args.round.now c.scripts-scripts.result.now c.scripts-scripts.ensures.all c.requires.of s.root
+    s.workers s.some c.work.new.workers c.work.ensures.len c.work.ensures.run c.finish-2.new.root _
+    c.finish-2.ensures.passes
+
+pub returns-clause-begun : goal.returns-clause-begun
+returns-clause-begun g c =
+    let s = c.start.ensures in
+    run_begins c.args.heap.now.locks c.args.number c.args.root.now c.start.new.root (held c.args.env.now)
+    c.start.new.workers c.args.round.now c.scripts-scripts.result.now c.scripts-scripts.ensures.all c.requires.of s.root
+    s.workers s.some c.args.heap.now.config s.scripts c.work.new.workers c.work.ensures.len c.work.ensures.run
+    c.work.ensures.fronts c.work.ensures.script c.finish-2.new.root _ c.finish-2.ensures.passes
 
 pub returns-clause-ran : goal.returns-clause-ran
 returns-clause-ran g c =
@@ -106,8 +102,8 @@ returns-clause-ran g c =
     let q : PassView = c.start.new.root in
     let names : Names = held c.args.env.now in
     let started : IsStartedBy locks c.args.number total p q names ws.items =
-    started_by locks c.args.number _ total p q names ws.items (vec_len ws) ws.ok.0 c.requires.of s.root s.workers s.some
-    (ap (λ (l : List ScriptView). length l) c.scripts-scripts.ensures.all) in
+    started locks c.args.number p q names ws c.args.round.now c.scripts-scripts.result.now c.scripts-scripts.ensures.all
+    c.requires.of s.root s.workers s.some in
     let vs = c.work.new.workers in
     let z : PassView = c.finish-2.new.root in
     let config = c.args.heap.now.config in
@@ -134,101 +130,3 @@ returns-clause-ran g c =
     (is_made config locks c.args.number total p q z names ws.items vs.items _ started same c.work.ensures.run
     c.work.ensures.made c.work.ensures.script
     c.finish-2.ensures.passes)))
-
-pub returns-then-is_err-clause-begun : goal.returns-then-is_err-clause-begun
-returns-then-is_err-clause-begun g c =
-    let s = c.start.ensures in
-    let ws = c.start.new.workers in
-    let locks : List Lock = c.args.heap.now.locks in
-    let total : ℕ = length c.args.round.now in
-    let p : PassView = c.args.root.now in
-    let q : PassView = c.start.new.root in
-    let names : Names = held c.args.env.now in
-    let all = c.scripts-scripts.ensures.all in
-    let started : IsStartedBy locks c.args.number total p q names ws.items =
-    started_by locks c.args.number _ total p q names ws.items (vec_len ws) ws.ok.0 c.requires.of s.root s.workers s.some
-    (ap (λ (l : List ScriptView). length l) all) in
-    begins_begun c.args.heap.now.config locks c.args.number total p q c.finish.new.root names ws.items _ started
-    c.args.round.now refl
-    (λ i w x l. s.scripts i w x (omega (arith, l, ws.ok.0)) ∙ ap (λ (y : List ScriptView). slice_index_or y i x) all)
-    c.finish.ensures.passes
-
-pub returns-in_err-results-clause-begun : goal.returns-in_err-results-clause-begun
-returns-in_err-results-clause-begun g c =
-    let s = c.start.ensures in
-    let ws = c.start.new.workers in
-    let locks : List Lock = c.args.heap.now.locks in
-    let total : ℕ = length c.args.round.now in
-    let p : PassView = c.args.root.now in
-    let q : PassView = c.start.new.root in
-    let names : Names = held c.args.env.now in
-    let all = c.scripts-scripts.ensures.all in
-    let started : IsStartedBy locks c.args.number total p q names ws.items =
-    started_by locks c.args.number _ total p q names ws.items (vec_len ws) ws.ok.0 c.requires.of s.root s.workers s.some
-    (ap (λ (l : List ScriptView). length l) all) in
-    let vs = c.work.new.workers in
-    begins_run c.args.heap.now.config locks c.args.number total p q c.finish-2.new.root names ws.items _ started
-    c.args.round.now refl
-    (λ i w x l. s.scripts i w x (omega (arith, l, ws.ok.0)) ∙ ap (λ (y : List ScriptView). slice_index_or y i x) all)
-    vs.items (sym vs.ok.0 ∙ c.work.ensures.len ∙ ws.ok.0) c.work.ensures.run c.work.ensures.fronts c.work.ensures.script
-    c.finish-2.ensures.passes
-
-pub returns-in_err-left-clause-begun : goal.returns-in_err-left-clause-begun
-returns-in_err-left-clause-begun g c =
-    let s = c.start.ensures in
-    let ws = c.start.new.workers in
-    let locks : List Lock = c.args.heap.now.locks in
-    let total : ℕ = length c.args.round.now in
-    let p : PassView = c.args.root.now in
-    let q : PassView = c.start.new.root in
-    let names : Names = held c.args.env.now in
-    let all = c.scripts-scripts.ensures.all in
-    let started : IsStartedBy locks c.args.number total p q names ws.items =
-    started_by locks c.args.number _ total p q names ws.items (vec_len ws) ws.ok.0 c.requires.of s.root s.workers s.some
-    (ap (λ (l : List ScriptView). length l) all) in
-    let vs = c.work.new.workers in
-    begins_run c.args.heap.now.config locks c.args.number total p q c.finish-2.new.root names ws.items _ started
-    c.args.round.now refl
-    (λ i w x l. s.scripts i w x (omega (arith, l, ws.ok.0)) ∙ ap (λ (y : List ScriptView). slice_index_or y i x) all)
-    vs.items (sym vs.ok.0 ∙ c.work.ensures.len ∙ ws.ok.0) c.work.ensures.run c.work.ensures.fronts c.work.ensures.script
-    c.finish-2.ensures.passes
-
-pub returns-in_err-set_all-clause-begun : goal.returns-in_err-set_all-clause-begun
-returns-in_err-set_all-clause-begun g c =
-    let s = c.start.ensures in
-    let ws = c.start.new.workers in
-    let locks : List Lock = c.args.heap.now.locks in
-    let total : ℕ = length c.args.round.now in
-    let p : PassView = c.args.root.now in
-    let q : PassView = c.start.new.root in
-    let names : Names = held c.args.env.now in
-    let all = c.scripts-scripts.ensures.all in
-    let started : IsStartedBy locks c.args.number total p q names ws.items =
-    started_by locks c.args.number _ total p q names ws.items (vec_len ws) ws.ok.0 c.requires.of s.root s.workers s.some
-    (ap (λ (l : List ScriptView). length l) all) in
-    let vs = c.work.new.workers in
-    begins_run c.args.heap.now.config locks c.args.number total p q c.finish-2.new.root names ws.items _ started
-    c.args.round.now refl
-    (λ i w x l. s.scripts i w x (omega (arith, l, ws.ok.0)) ∙ ap (λ (y : List ScriptView). slice_index_or y i x) all)
-    vs.items (sym vs.ok.0 ∙ c.work.ensures.len ∙ ws.ok.0) c.work.ensures.run c.work.ensures.fronts c.work.ensures.script
-    c.finish-2.ensures.passes
-
-pub returns-clause-begun : goal.returns-clause-begun
-returns-clause-begun g c =
-    let s = c.start.ensures in
-    let ws = c.start.new.workers in
-    let locks : List Lock = c.args.heap.now.locks in
-    let total : ℕ = length c.args.round.now in
-    let p : PassView = c.args.root.now in
-    let q : PassView = c.start.new.root in
-    let names : Names = held c.args.env.now in
-    let all = c.scripts-scripts.ensures.all in
-    let started : IsStartedBy locks c.args.number total p q names ws.items =
-    started_by locks c.args.number _ total p q names ws.items (vec_len ws) ws.ok.0 c.requires.of s.root s.workers s.some
-    (ap (λ (l : List ScriptView). length l) all) in
-    let vs = c.work.new.workers in
-    begins_run c.args.heap.now.config locks c.args.number total p q c.finish-2.new.root names ws.items _ started
-    c.args.round.now refl
-    (λ i w x l. s.scripts i w x (omega (arith, l, ws.ok.0)) ∙ ap (λ (y : List ScriptView). slice_index_or y i x) all)
-    vs.items (sym vs.ok.0 ∙ c.work.ensures.len ∙ ws.ok.0) c.work.ensures.run c.work.ensures.fronts c.work.ensures.script
-    c.finish-2.ensures.passes

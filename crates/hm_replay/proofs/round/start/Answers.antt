@@ -19,6 +19,6 @@ loop-script-preserved g c =
           scripts (held c.args.env.now) c.loop-script.workers.items _ i.0 h.root
           (grind (arith, h.pass, c.thread.ensures.thread))
           (λ s. c.script-item.is ∙ (get_or_default scripts k d s b ∙ ap (λ m. slice_index_or scripts m s) (sym n)))
-          c.build.ensures),
+          c.build.ensures.names c.build.ensures.untouched),
       (grind arith, grind arith),
     )

@@ -3,15 +3,15 @@ use Rattle.std.proofs.lemmas.List.{map-append, take_all, take_more}
 use mathlib.Core.Path.{transport}
 use Rattle.hm_trace.specs.declared.step.Step.{Step}
 use Rattle.hm_trace.specs.Traces.{is_step}
-use Rattle.hm_trace.specs.Views.{step_view, steps_view}
+use Rattle.hm_trace.specs.Views.{StepView, step_view, steps_view}
 use Rattle.hm_heap.specs.Passes.{PassView}
 use Rattle.hm_replay.specs.Gains.{Gains, GainsFrontOf, GainsResults, terms_of}
-use Rattle.hm_replay.specs.Names.{Names}
-use Rattle.hm_replay.specs.Scripts.{Runs}
-use Rattle.hm_replay.specs.Steps.{Terms, BreaksOff, base_of, names_after}
-use Rattle.hm_replay.proofs.Fronts.{broken_front, on_err, ran_front, split_at}
+use Rattle.hm_replay.specs.Names.{Names, Touched, touched_all, touched_by}
+use Rattle.hm_replay.specs.Scripts.{Runs, StopsAt}
+use Rattle.hm_replay.specs.Steps.{Terms, names_after}
+use Rattle.hm_replay.proofs.Fronts.{on_err, ran_front, split_at, stopped_front}
 use Rattle.hm_replay.proofs.Gaining.{all_grew_none, all_grew_then, gains_none}
-use Rattle.hm_replay.proofs.Running.{passes_at, ran_more, steps_before}
+use Rattle.hm_replay.proofs.Running.{passes_at, ran_more, steps_before, touched_more, touched_none}
 use Rattle.hm_replay.proofs.script.run_steps.Goals as goal
 
 pub run_step-requires-clause-valid : goal.run_step-requires-clause-valid
@@ -45,6 +45,10 @@ loop-index-preserved g c =
       ran = transport
           (λ j. GainsResults c.args.heap.now p q names (sym taken j) (sym c.in_ok-push.ensures.items j)
           (sym c.in_ok-result.ensures.names j)) both;
+      touched =
+          c.in_ok-result.ensures.touched ∙ ap (λ (z : Touched). touched_by z (step_view s)) old.touched
+          ∙ touched_more (g.E.Addresses.touched c.args.env.now) (steps_view (take i steps)) (step_view s)
+          ∙ ap (λ (l : List StepView). touched_all (g.E.Addresses.touched c.args.env.now) l) (sym taken);
     }
 
 pub loop-index-init : goal.loop-index-init
@@ -59,6 +63,7 @@ loop-index-init g c =
       ran =
           gains_none p.turns p.turns (Runs t 1 names [] c.in_ok-results.results.items names) refl
           (λ xs. (c.in_ok-results.ensures.items, refl, λ place. refl));
+      touched = touched_none (g.E.Addresses.touched c.args.env.now);
     }
 
 pub returns-in_err-result-clause-grew : goal.returns-in_err-result-clause-grew
@@ -78,6 +83,11 @@ returns-clause-ran g c =
     subst (λ (l : List Step). GainsResults c.args.heap.now c.args.pass.now c.loop-index.pass names (steps_view l) rs
     (g.E.Addresses.names c.loop-index.env))
     (take_all c.loop-index.index c.args.steps.now (omega arith)) c.loop-index.invariant.ran
+
+pub returns-clause-touched : goal.returns-clause-touched
+returns-clause-touched g c =
+    subst (λ (l : List Step). g.E.Addresses.touched c.loop-index.env ≡ touched_all (g.E.Addresses.touched c.args.env.now) (steps_view l))
+    (take_all c.loop-index.index c.args.steps.now (omega arith)) c.loop-index.invariant.touched
 
 pub returns-in_err-results-clause-grew : goal.returns-in_err-results-clause-grew
 returns-in_err-results-clause-grew g c = all_grew_none c.args.pass.now.turns c.args.pass.now.turns refl
@@ -104,10 +114,10 @@ returns-in_err-result-clause-stops g c =
     let last : Names = g.E.Addresses.names c.loop-index.env in
     on_err c.from_residual-in_err-result.result
     (subst (λ e. GainsFrontOf c.args.heap.now p q names (steps_view steps) (g.E.Addresses.names e)) (sym c.in_err-result.ensures.kept)
-    (broken_front p.turns m.turns q.turns (terms_of c.args.heap.now p) names last (steps_view steps)
+    (stopped_front p.turns m.turns q.turns (terms_of c.args.heap.now p) names last (steps_view steps)
     (steps_view (take i steps)) (steps_view (drop (suc i) steps)) (step_view s) c.loop-index.results.items (i + 1)
     (steps_before steps i (omega arith)) (split_at steps i s (omega arith) c.index-steps-index.is) old.ran
-    (subst (λ (z : Terms). Gains m.turns q.turns (BreaksOff z (i + 1) (step_view s) (base_of last (step_view s))))
+    (subst (λ (z : Terms). Gains m.turns q.turns (StopsAt z (i + 1) last (step_view s ∷ [])))
     (ap (λ (z : PassView). terms_of c.args.heap.now z) old.same) c.in_err-result.ensures.stops)))
 
 pub returns-in_err-push-clause-stops : goal.returns-in_err-push-clause-stops

@@ -2,6 +2,7 @@ use Rattle.std.proofs.Common.{◌≡◌, take}
 use Rattle.hm_trace.specs.Views.{steps_view}
 use Rattle.hm_heap.specs.Passes.{AreOf}
 use Rattle.hm_replay.specs.Gains.{GainsResults, AllGrew}
+use Rattle.hm_replay.specs.Names.{touched_all}
 use Rattle.hm_replay.proofs.script.run_steps.Given as goal
 
 -- the steps so far were run
@@ -11,4 +12,5 @@ invariant-loop-index g l = record {
   of : AreOf l.fn.heap.locks l.pass.turns;
   grew : AllGrew l.fn.pass.turns l.pass.turns;
   ran : GainsResults l.fn.heap l.fn.pass l.pass (g.E.Addresses.names l.fn.env) (steps_view (take l.index l.steps)) l.results.items (g.E.Addresses.names l.env);
+  touched : g.E.Addresses.touched l.env ≡ touched_all (g.E.Addresses.touched l.fn.env) (steps_view (take l.index l.steps));
 }

@@ -1,8 +1,8 @@
-use Rattle.std.proofs.Common.{List, sym, subst}
+use Rattle.std.proofs.Common.{List, sym, ◌∙◌, ap, subst}
 use mathlib.Core.Path.{transport}
 use Rattle.hm_trace.specs.Views.{StepView}
 use Rattle.hm_replay.specs.Gains.{Gains, terms_of, mine_of}
-use Rattle.hm_replay.specs.Names.{Names}
+use Rattle.hm_replay.specs.Names.{Names, touched_all}
 use Rattle.hm_replay.specs.Scripts.{Runs, RunsFront, IsRun}
 use Rattle.hm_replay.proofs.Fronts.{on_err}
 use Rattle.hm_replay.proofs.Running.{gained_all}
@@ -29,3 +29,8 @@ returns-in_err-items-clause-stops g c =
     (gained_all p.turns q.turns (RunsFront t names c.args.script.now.steps last) c.requires.fresh
     (subst (λ (l : List StepView). Gains p.turns q.turns (RunsFront t names l last)) c.steps.ensures.all
     c.in_err-items.ensures.stops))
+
+pub returns-clause-touched : goal.returns-clause-touched
+returns-clause-touched g c =
+    c.in_ok-items.ensures.touched
+    ∙ ap (λ (l : List StepView). touched_all (g.E.Addresses.touched c.args.env.now) l) c.steps.ensures.all

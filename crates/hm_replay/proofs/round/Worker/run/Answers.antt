@@ -1,28 +1,38 @@
-use Rattle.std.proofs.Common.{List, IfSome, subst}
-use Rattle.hm_trace.specs.Views.{StepView, steps_view}
+use Rattle.std.proofs.Common.{Option, Vec, IfSome, sym, ◌∙◌, ap, subst}
+use Rattle.std.specs.declared.alloc.Global.{Global}
+use Rattle.hm_replay.specs.declared.left.NameLeft.{NameLeft}
 use Rattle.hm_replay.specs.Gains.{mine_of, terms_of}
-use Rattle.hm_replay.specs.Names.{seen_in, AreLeft}
+use Rattle.hm_replay.specs.Names.{Touched, seen_in, touched_all, AreLeft}
 use Rattle.hm_replay.proofs.Begun.{front_made}
-use Rattle.hm_replay.proofs.Merging.{kept_ok}
+use Rattle.hm_replay.proofs.Merging.{all_left, kept_ok, was_ok}
 use Rattle.hm_replay.proofs.Rounding.{made_of}
+use Rattle.hm_replay.proofs.round.Worker.run.Goals.{in-Some, in-None}
 use Rattle.hm_replay.proofs.round.Worker.run.Goals as goal
 
 pub returns-clause-made : goal.returns-clause-made
 returns-clause-made g c =
-    made_of c.run_with-results.result c.ok.result c.args.heap.now.config c.args.self.now.pass
-    c.run_with-results.new.pass c.args.self.now.script.now (seen_in c.args.self.now.scope)
-    (seen_in c.run_with-results.new.env)
-    c.ok.ensures.value c.run_with-results.ensures.results c.run_with-results.ensures.ran
+    made_of c.run_with.result c.ok-results.result c.args.heap.now.config c.args.self.now.pass c.run_with.new.pass
+    c.args.self.now.script.now (seen_in c.args.self.now.scope) (seen_in c.run_with.new.env)
+    c.ok-results.ensures.value c.run_with.ensures.results c.run_with.ensures.ran
 
 pub returns-clause-names : goal.returns-clause-names
 returns-clause-names g c =
-    let last = seen_in c.run_with-results.new.env in
-    subst (λ (steps : List StepView). IfSome c.ok-2.result (λ left. AreLeft steps last left.items)) c.steps.ensures.all
-    (kept_ok c.names_left.result c.ok-2.result (λ left. AreLeft (steps_view c.steps.result.now) last left.items)
-    c.ok-2.ensures.value c.names_left.ensures)
+    let steps = c.args.self.now.script.now.steps in
+    let scope = c.run_with.new.env in
+    let Left : Option (Vec NameLeft Global) → Type 0 =
+    λ o. IfSome o (λ left. AreLeft steps (seen_in scope) left.items) in
+    elim c.match-results.branch [
+      | in-Some w ↦
+          subst Left (sym w.t-13-is)
+          (kept_ok w.left.result w.ok.result (λ left. AreLeft steps (seen_in scope) left.items) w.ok.ensures.value
+          (all_left scope steps w.left.result w.left.ensures
+          (was_ok c.run_with.result (sym c.ok-results.ensures.value ∙ w.in-Some.is) c.run_with.ensures.touched
+          ∙ ap (λ (touched : Touched). touched_all touched steps) c.requires.1)))
+      | in-None w ↦ subst Left (sym w.t-13-is) tt
+    ]
 
 pub returns-clause-front : goal.returns-clause-front
 returns-clause-front g c =
-    front_made c.run_with-results.result (terms_of c.args.heap.now c.args.self.now.pass) (seen_in c.args.self.now.scope)
-    (seen_in c.run_with-results.new.env) c.args.self.now.script.now.steps (mine_of c.run_with-results.new.pass.turns)
-    c.run_with-results.ensures.ran c.run_with-results.ensures.stops
+    front_made c.run_with.result (terms_of c.args.heap.now c.args.self.now.pass) (seen_in c.args.self.now.scope)
+    (seen_in c.run_with.new.env) c.args.self.now.script.now.steps (mine_of c.run_with.new.pass.turns)
+    c.run_with.ensures.ran c.run_with.ensures.stops
