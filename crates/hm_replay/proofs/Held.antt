@@ -1,7 +1,7 @@
 -- Addresses by names, searched by the order of names, are searched by their bytes.
 use Rattle.std.proofs.Common.{◌≡◌, ◌⊎◌, inl, inr, ℕ, Bool, true, false, cond, List, [], ◌∷◌, Option, Some, None, Result, Ok, Err, nat_eq, refl, sym, ◌∙◌, ap, subst}
-use Rattle.std.specs.Prelude.{◌||◌, IfSome, OnOk, OnErr}
-use Rattle.std.proofs.lemmas.Bool.{cond_both}
+use Rattle.std.specs.Prelude.{◌&&◌, ◌||◌, IfSome, OnOk, OnErr}
+use Rattle.std.proofs.lemmas.Bool.{cond_both, eq-eqb}
 use mathlib.Core.Path.{fun_ext}
 use Rattle.std.specs.BTreeMap.{is_at}
 use Rattle.std.specs.Map.{lookup}
@@ -18,6 +18,23 @@ use Rattle.hm_replay.specs.Names.{held, own_names, seen_in, touched_too, with_na
 abbrev pub by_bytes : Name → Name → Ordering
 by_bytes n m = slice_cmp nat_cmp (name_view n) (name_view m)
 
+-- ---- one text is another
+pub word_itself : (text : List ℕ) → is_word text text ≡ true
+word_itself [] = refl
+word_itself (c ∷ text) = ap (λ (b : Bool). b && is_word text text) (eq-eqb c c refl) ∙ word_itself text
+
+pub word_sym : (name other : List ℕ) → is_word name other ≡ is_word other name
+word_sym name other = by (is_word name other) (is_word other name) refl refl
+  where
+    turned : (n m : List ℕ) → n ≡ m → is_word n m ≡ is_word m n
+    turned n m is = λ i. is_word (is i) (sym is i)
+
+    by : (b d : Bool) → is_word name other ≡ b → is_word other name ≡ d → is_word name other ≡ is_word other name
+    by true d is that = turned name other (same_text name other (sym is))
+    by false true is that = sym (turned other name (same_text other name (sym that)))
+    by false false is that = is ∙ sym that
+
+-- ---- what is held
 module _ {X : Type 0} where
   -- a lookup by the order is a lookup by the text
   abbrev pub by_order : List ℕ → List (Name × X) → Option X

@@ -1,7 +1,6 @@
 -- What is set among names that have room, and what an insertion does to it.
-use Rattle.std.proofs.Common.{◌≡◌, ℕ, Bool, true, false, ◌&&◌, cond, List, [], ◌∷◌, ◌++◌, Option, Some, None, Result, Ok, Err, refl, sym, ◌∙◌, ap, subst}
+use Rattle.std.proofs.Common.{◌≡◌, ℕ, Bool, true, false, cond, List, [], ◌∷◌, ◌++◌, Option, Some, None, Result, Ok, Err, refl, sym, ◌∙◌, ap, subst}
 use Rattle.std.specs.Prelude.{IfSome, IsSome, OnOk, OnErr}
-use Rattle.std.proofs.lemmas.Bool.{eq-eqb}
 use mathlib.Core.Path.{fun_ext}
 use Rattle.std.specs.BTreeMap.{insert_entry}
 use Rattle.std.specs.Map.{keys_of}
@@ -19,7 +18,7 @@ use Rattle.hm_heap.specs.Requests.{IsInReach}
 use Rattle.hm_replay.specs.declared.left.NameLeft.{NameLeft}
 use Rattle.hm_replay.specs.Names.{held, seen_in, with_name}
 use Rattle.hm_replay.specs.Rooms.{set_also, set_in, Once, AreRooms, AreOwn, HaveRooms}
-use Rattle.hm_replay.proofs.Held.{Updated, by_bytes, by_order, inserted_each, looked, set_over, updated}
+use Rattle.hm_replay.proofs.Held.{Updated, by_bytes, by_order, inserted_each, looked, set_over, updated, word_itself}
 use Rattle.hm_replay.proofs.Starts.{each_pushed}
 
 -- ---- what is set is what is held
@@ -77,10 +76,6 @@ module _ (k : Name) where
 pub none_of : {X : Type 0} (o : Option X) → is_some o ≡ false → o ≡ None
 none_of None is = refl
 none_of (Some x) is = absurd cc
-
-word_itself : (text : List ℕ) → is_word text text ≡ true
-word_itself [] = refl
-word_itself (c ∷ text) = ap (λ (b : Bool). b && is_word text text) (eq-eqb c c refl) ∙ word_itself text
 
 -- ---- an insertion
 module _ (es fs : List (Name × Option ℕ)) (name : Name) (given : Option ℕ) where

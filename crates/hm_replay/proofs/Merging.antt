@@ -1,6 +1,7 @@
 -- The names that the scripts of a round leave.
 use Rattle.hm_replay.specs.Names.{Names, ScopeView, Touched, held, no_name, own_names, seen_in, settled, touched_all, with_all, with_name, with_own, AreLeft, Settles}
 use Rattle.hm_replay.specs.Workers.{LeavesNames}
+use Rattle.hm_replay.proofs.Held.{word_sym}
 use Rattle.hm_replay.specs.declared.left.NameLeft.{NameLeft}
 use Rattle.hm_replay.specs.declared.round.Worker.{Worker}
 use Rattle.hm_trace.specs.Names.{is_word}
@@ -19,17 +20,6 @@ all_settled names [] = names
 all_settled names (w ∷ ws) = all_settled (settled names w.script.now.steps (seen_in w.scope)) ws
 
 -- ---- what a script leaves of its names
-word_sym : (name other : List ℕ) → is_word name other ≡ is_word other name
-word_sym name other = by (is_word name other) (is_word other name) refl refl
-  where
-    turned : (n m : List ℕ) → n ≡ m → is_word n m ≡ is_word m n
-    turned n m is = λ i. is_word (is i) (sym is i)
-
-    by : (b d : Bool) → is_word name other ≡ b → is_word other name ≡ d → is_word name other ≡ is_word other name
-    by true d is that = turned name other (same_text name other (sym is))
-    by false true is that = sym (turned other name (same_text other name (sym that)))
-    by false false is that = is ∙ sym that
-
 -- the first of the names that a script has set, which it has not set otherwise
 pub own_one : (names : Names) (round : List (Name × ℕ)) (e : Name × Option ℕ) (es : List (Name × Option ℕ))
     → held es (name_view e.0) ≡ None
@@ -59,11 +49,11 @@ own_settled names s steps is = fun_ext (λ q.
     by None round name = refl
     by (Some given) round name = refl
 
-pub all_left : {E : Type 0} (s : ScopeView) (steps : List StepView) (r : Result (Vec NameLeft Global) E)
+pub left_settled : {E : Type 0} (s : ScopeView) (steps : List StepView) (r : Result (Vec NameLeft Global) E)
     → IfOk r (λ left. (names : Names) → with_all names left.items ≡ with_own names s)
     → own_names s ≡ touched_all no_name steps → IfOk r (λ left. AreLeft steps (seen_in s) left.items)
-all_left s steps (Err e) left touched = tt
-all_left s steps (Ok v) left touched = record { settle = λ names. left names ∙ own_settled names s steps touched }
+left_settled s steps (Err e) left touched = tt
+left_settled s steps (Ok v) left touched = record { settle = λ names. left names ∙ own_settled names s steps touched }
 
 -- what was answered, and what is known of it
 pub was_ok : {X E P : Type 0} {x : X} (r : Result X E) → result_ok r ≡ Some x → IfOk r (λ y. P) → P

@@ -4,7 +4,7 @@ use Rattle.hm_replay.specs.declared.left.NameLeft.{NameLeft}
 use Rattle.hm_replay.specs.Gains.{mine_of, terms_of}
 use Rattle.hm_replay.specs.Names.{Touched, seen_in, touched_all, AreLeft}
 use Rattle.hm_replay.proofs.Begun.{front_made}
-use Rattle.hm_replay.proofs.Merging.{all_left, kept_ok, was_ok}
+use Rattle.hm_replay.proofs.Merging.{kept_ok, left_settled, was_ok}
 use Rattle.hm_replay.proofs.Rounding.{made_of}
 use Rattle.hm_replay.proofs.round.Worker.run.Goals.{in-Some, in-None}
 use Rattle.hm_replay.proofs.round.Worker.run.Goals as goal
@@ -25,7 +25,7 @@ returns-clause-names g c =
       | in-Some w ↦
           subst Left (sym w.t-13-is)
           (kept_ok w.left.result w.ok.result (λ left. AreLeft steps (seen_in scope) left.items) w.ok.ensures.value
-          (all_left scope steps w.left.result w.left.ensures
+          (left_settled scope steps w.left.result w.left.ensures
           (was_ok c.run_with.result (sym c.ok-results.ensures.value ∙ w.in-Some.is) c.run_with.ensures.touched
           ∙ ap (λ (touched : Touched). touched_all touched steps) c.requires.1)))
       | in-None w ↦ subst Left (sym w.t-13-is) tt
