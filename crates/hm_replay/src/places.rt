@@ -29,10 +29,10 @@ fn referred<E: Addresses>(env: &E, place: &Place) -> Option<u64>
     match place {
         Place::Null => Some(0),
         Place::At(addr) => Some(*addr),
-        Place::Named { name, offset } => match env.get(name) {
-            Some(addr) => Some(moved(addr, *offset)),
-            None => None,
-        },
+        Place::Named { name, offset } => {
+            let addr = env.get(name)?;
+            Some(moved(addr, *offset))
+        }
     }
 }
 
