@@ -56,10 +56,7 @@ impl Addresses for Env {
     ghost touched = { λ e. any_name };
 
     fn get(&self, name: &Name) -> Option<u64> {
-        match self.addresses.get(name).copied() {
-            Some(given) => given,
-            None => None,
-        }
+        self.addresses.get(name).copied().flatten()
     }
 
     fn set(&mut self, name: Name, given: Option<u64>) -> Result<(), NoMemory> {
