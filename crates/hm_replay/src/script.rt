@@ -119,8 +119,9 @@ pub(crate) fn run_with<R: Wait, P: Pages, G: Gate, E: Addresses>(
     })
 }
 
-/// Runs a script under a pass that has made no call yet. For want of memory it ends at a step in the middle, of which
-/// the first parts may have been made: the names are then as the steps before have left them.
+/// Runs a script under a pass that has made no call yet. For want of memory it ends after any number of its steps, none
+/// or all among them, and the first parts of the next one may have been made: the names are then as the steps before
+/// have left them.
 pub fn run_script<R: Wait, P: Pages, G: Gate>(
     rt: &R,
     alloc: Global,
