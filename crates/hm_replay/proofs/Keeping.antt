@@ -1,5 +1,5 @@
 -- What is set among names that have room, and what an insertion does to it.
-use Rattle.std.proofs.Common.{◌≡◌, ℕ, Bool, true, false, cond, List, [], ◌∷◌, ◌++◌, Option, Some, None, Result, Ok, Err, refl, sym, ◌∙◌, ap, subst}
+use Rattle.std.proofs.Common.{◌≡◌, ℕ, Bool, true, false, cond, List, [], ◌∷◌, ◌++◌, Option, Some, None, Result, Ok, Err, Vec, slice_index_or, refl, sym, ◌∙◌, ap, subst}
 use Rattle.std.specs.Prelude.{IfSome, IsSome, OnOk, OnErr}
 use mathlib.Core.Path.{fun_ext}
 use Rattle.std.specs.BTreeMap.{insert_entry}
@@ -9,6 +9,7 @@ use Rattle.std.specs.List.Sorted.{IsStrictlySortedBy}
 use Rattle.std.specs.Cmp.Lexicographic.{same_text, texts_ties}
 use Rattle.std.specs.Option.{is_some, option_map_or}
 use Rattle.std.specs.Ordering.{is_eq, match_ordering}
+use Rattle.std.specs.declared.alloc.Global.{Global}
 use Rattle.std.specs.declared.cmp.Ordering.{Ordering}
 use Rattle.std.specs.declared.cmp.Ordering.TheVariants.{Less, Equal, Greater}
 use Rattle.hm_trace.specs.declared.names.Name.{Name}
@@ -17,7 +18,7 @@ use Rattle.hm_trace.specs.Views.{name_view}
 use Rattle.hm_heap.specs.Requests.{IsInReach}
 use Rattle.hm_replay.specs.declared.left.NameLeft.{NameLeft}
 use Rattle.hm_replay.specs.Names.{held, seen_in, with_name}
-use Rattle.hm_replay.specs.Rooms.{set_also, set_in, Once, AreRooms, AreOwn, HaveRooms}
+use Rattle.hm_replay.specs.Rooms.{set_also, set_in, Once, AreRooms, AreOwn, HaveRooms, HaveAllRooms}
 use Rattle.hm_replay.proofs.Held.{Updated, by_bytes, by_order, inserted_each, looked, set_over, updated, word_itself}
 use Rattle.hm_replay.proofs.Starts.{each_pushed}
 
@@ -156,4 +157,17 @@ rooms_more es fs left n have stay this = record {
   each =
       each_pushed (λ (i : ℕ) (m : NameLeft). IsSome (held fs (name_view m.name))) left n
       (λ i m l. stay _ (have.each i m l)) this;
+}
+
+pub rooms_stay : (es fs : List (Name × Option ℕ)) (left : List NameLeft) → HaveRooms es left
+    → ((q : List ℕ) → IsSome (held es q) → IsSome (held fs q)) → HaveRooms fs left
+rooms_stay es fs left have stay = record { each = λ i n l. stay _ (have.each i n l) }
+
+pub all_rooms_more : (es fs : List (Name × Option ℕ)) (lists : List (Vec NameLeft Global)) (left : Vec NameLeft Global)
+    → HaveAllRooms es lists → ((q : List ℕ) → IsSome (held es q) → IsSome (held fs q)) → HaveRooms fs left.items
+    → HaveAllRooms fs (lists ++ left ∷ [])
+all_rooms_more es fs lists left have stay this = record {
+  each =
+      each_pushed (λ (i : ℕ) (v : Vec NameLeft Global). HaveRooms fs v.items) lists left
+      (λ i v l. rooms_stay es fs (slice_index_or lists i v).items (have.each i v l) stay) this;
 }

@@ -1,5 +1,5 @@
 -- The names that the scripts of a round leave.
-use Rattle.hm_replay.specs.Names.{Names, ScopeView, Touched, held, no_name, own_names, seen_in, settled, touched_all, with_all, with_name, with_own, AreLeft, Settles}
+use Rattle.hm_replay.specs.Names.{Names, ScopeView, Touched, held, no_name, own_names, seen_in, settled, touched_all, with_all, with_name, with_own, with_lists, AreLeft}
 use Rattle.hm_replay.specs.Workers.{LeavesNames}
 use Rattle.hm_replay.proofs.Held.{word_sym}
 use Rattle.hm_replay.specs.declared.left.NameLeft.{NameLeft}
@@ -75,25 +75,20 @@ kept_ok {X} {E} r o P is all = subst (λ (x : Option X). IfSome x P) (sym is) (b
     by (Err e) all = tt
     by (Ok x) all = all
 
--- the names of one more script are settled
-settles_one : (names last : Names) (w : Worker) (o : Option (Vec NameLeft Global)) (lists : List (Option (Vec NameLeft Global)))
-    → IfSome o (λ left. AreLeft w.script.now.steps (seen_in w.scope) left.items) → Settles names (o ∷ lists) last
-    → Settles (settled names w.script.now.steps (seen_in w.scope)) lists last
-settles_one names last w None lists left s = absurd s
-settles_one names last w (Some v) lists left s = subst (λ (z : Names). Settles z lists last) (left.settle names) s
-
-pub settles_all : (names last : Names) (ws : List Worker)
+-- the names of all scripts are settled, list by list
+pub settles_all : (names : Names) (ws : List Worker) (lists : List (Vec NameLeft Global))
     → ((i : ℕ) (w : Worker) → i < length ws → LeavesNames (slice_index_or ws i w))
-    → Settles names (map (λ (w : Worker). w.left) ws) last → last ≡ all_settled names ws
-settles_all names last [] left s = s
-settles_all names last (w ∷ ws) left s =
-    settles_all (settled names w.script.now.steps (seen_in w.scope)) last ws
-    (λ i v l. left (suc i) v (omega (arith, l)))
-    (settles_one names last w w.left (map (λ (w : Worker). w.left) ws) (left 0 w (omega arith)) s)
-
--- one script more
-pub settles_then : (names last after : Names) (lists : List (Option (Vec NameLeft Global))) (o : Option (Vec NameLeft Global))
-    → Settles names lists last → Settles last (o ∷ []) after → Settles names (lists ++ o ∷ []) after
-settles_then names last after [] o is one = subst (λ (z : Names). Settles z (o ∷ []) after) is one
-settles_then names last after (None ∷ lists) o is one = absurd is
-settles_then names last after (Some v ∷ lists) o is one = settles_then (with_all names v.items) last after lists o is one
+    → map (λ (v : Vec NameLeft Global). Some v) lists ≡ map (λ (w : Worker). w.left) ws
+    → with_lists names lists ≡ all_settled names ws
+settles_all names [] [] left is = refl
+settles_all names [] (v ∷ lists) left is = absurd cc
+settles_all names (w ∷ ws) [] left is = absurd cc
+settles_all names (w ∷ ws) (v ∷ lists) left is =
+    let first : Some v ≡ w.left = cc in
+    let others : map (λ (v : Vec NameLeft Global). Some v) lists ≡ map (λ (w : Worker). w.left) ws = cc in
+    let this : AreLeft w.script.now.steps (seen_in w.scope) v.items =
+    subst (λ (o : Option (Vec NameLeft Global)). IfSome o (λ left. AreLeft w.script.now.steps (seen_in w.scope) left.items))
+    (sym first) (left 0 w (omega arith)) in
+    ap (λ (z : Names). with_lists z lists) (this.settle names)
+    ∙ settles_all (settled names w.script.now.steps (seen_in w.scope)) ws lists
+    (λ i x l. left (suc i) x (omega (arith, l))) others

@@ -79,12 +79,11 @@ abbrev pub with_all : Names → List NameLeft → Names
 with_all names [] = names
 with_all names (n ∷ left) = with_all (with_name names (name_view n.name) n.address) left
 
+-- those of each list in turn
+abbrev pub with_lists : Names → List (Vec NameLeft Global) → Names
+with_lists names [] = names
+with_lists names (left ∷ lists) = with_lists (with_all names left.items) lists
+
 -- among any names, these make each name that one of the steps sets hold what it holds in the last ones
 pub record AreLeft (steps : List StepView) (last : Names) (left : List NameLeft) : Type 0 where
   pub settle : (names : Names) → with_all names left ≡ settled names steps last
-
--- the names that each script left are set in turn: these are the last names
-abbrev pub Settles : Names → List (Option (Vec NameLeft Global)) → Names → Type 0
-Settles names [] last = last ≡ names
-Settles names (None ∷ lists) last = ⊥
-Settles names (Some left ∷ lists) last = Settles (with_all names left.items) lists last

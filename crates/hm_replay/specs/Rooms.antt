@@ -1,5 +1,6 @@
 -- Rooms for names, and which of them are set.
-use Rattle.std.specs.Prelude.{◌≡◌, ◌<◌, ℕ, List, [], ◌∷◌, length, slice_index_or, Option, Some, None, IfSome, IsSome, ⊤}
+use Rattle.std.specs.Prelude.{◌≡◌, ◌<◌, ℕ, List, [], ◌∷◌, length, slice_index_or, Option, Some, None, IfSome, IsSome, Vec, ⊤}
+use Rattle.std.specs.declared.alloc.Global.{Global}
 use Rattle.hm_trace.specs.declared.names.Name.{Name}
 use Rattle.hm_trace.specs.Views.{name_view}
 use Rattle.hm_replay.specs.declared.left.NameLeft.{NameLeft}
@@ -31,3 +32,8 @@ pub record AreOwn (own : List (Name × Option ℕ)) (last : Option NameLeft) : T
 -- each of these names has room
 pub record HaveRooms (rooms : List (Name × Option ℕ)) (left : List NameLeft) : Type 0 where
   pub each : (i : ℕ) (n : NameLeft) → i < length left → IsSome (held rooms (name_view (slice_index_or left i n).name))
+
+-- and each of those of all lists
+pub record HaveAllRooms (rooms : List (Name × Option ℕ)) (lists : List (Vec NameLeft Global)) : Type 0 where
+  pub each : (i : ℕ) (left : Vec NameLeft Global) → i < length lists
+      → HaveRooms rooms (slice_index_or lists i left).items

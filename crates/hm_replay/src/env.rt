@@ -1,10 +1,10 @@
 //! The addresses that names hold from round to round.
 ghost use Rattle.std.specs.Prelude.{◌≡◌, OnOk, OnErr};
-ghost use Rattle.hm_replay.specs.Names.{no_names, held, any_name, with_all};
+ghost use Rattle.hm_replay.specs.Names.{no_names, held, any_name, with_lists};
 
 use crate::addresses::Addresses;
 use crate::left::NameLeft;
-use crate::rooms::{put_all, take_rooms};
+use crate::rooms::{put_lists, take_all_rooms};
 use hm_outside::NoMemory;
 use hm_trace::Name;
 use std::alloc::Global;
@@ -39,13 +39,14 @@ impl Env {
         }
     }
 
-    /// Sets all of these names or, for want of memory, none. Only names that were never set before take memory.
-    pub(crate) fn set_all(&mut self, left: &[NameLeft]) -> Result<(), NoMemory>
-        ensures value { OnOk result (held self.new ≡ with_all (held self.old) left.now) }
+    /// Sets the names of all these lists in turn or, for want of memory, none. Only names that were never set before take
+    /// memory.
+    pub(crate) fn set_all(&mut self, lists: &[Vec<NameLeft>]) -> Result<(), NoMemory>
+        ensures value { OnOk result (held self.new ≡ with_lists (held self.old) lists.now) }
         ensures memory { OnErr result (self.new ≡ self.old) }
     {
-        take_rooms(&mut self.addresses, left)?;
-        put_all(&mut self.addresses, left);
+        take_all_rooms(&mut self.addresses, lists)?;
+        put_lists(&mut self.addresses, lists);
         Ok(())
     }
 }

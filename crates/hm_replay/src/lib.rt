@@ -6,7 +6,6 @@ mod calls;
 mod env;
 mod laws;
 mod left;
-mod listing;
 mod naming;
 mod places;
 mod rooms;

@@ -1,8 +1,8 @@
 //! Rooms for names: all that may take memory is done before the first name is set.
 ghost use Rattle.std.specs.Prelude.{◌≡◌, List, ℕ, OnOk, IsSome};
 ghost use Rattle.hm_trace.specs.Views.{name_view};
-ghost use Rattle.hm_replay.specs.Names.{held, with_name, with_all};
-ghost use Rattle.hm_replay.specs.Rooms.{set_in, AreRooms, HaveRooms};
+ghost use Rattle.hm_replay.specs.Names.{held, with_name, with_all, with_lists};
+ghost use Rattle.hm_replay.specs.Rooms.{set_in, AreRooms, HaveRooms, HaveAllRooms};
 
 use crate::left::NameLeft;
 use hm_outside::NoMemory;
@@ -24,18 +24,32 @@ fn take_room(rooms: &mut BTreeMap<Name, Option<u64>>, name: Name) -> Result<(), 
     Ok(())
 }
 
-/// Takes room for each of these names. None is set or unset by it.
-pub(crate) fn take_rooms(
-    rooms: &mut BTreeMap<Name, Option<u64>>,
-    left: &[NameLeft],
-) -> Result<(), NoMemory>
+// Takes room for each of these names, which stay as they are.
+fn take_rooms(rooms: &mut BTreeMap<Name, Option<u64>>, left: &[NameLeft]) -> Result<(), NoMemory>
     requires rooms { AreRooms rooms.old.entries }
     ensures rooms { AreRooms rooms.new.entries }
     ensures same { set_in rooms.new.entries ≡ set_in rooms.old.entries }
     ensures room { OnOk result (HaveRooms rooms.new.entries left.now) }
+    ensures others { (q : List ℕ) → IsSome (held rooms.old.entries q) → IsSome (held rooms.new.entries q) }
 {
     for name in left {
         take_room(rooms, name.name)?;
+    }
+    Ok(())
+}
+
+/// Takes room for each name of these lists. None is set or unset by it.
+pub(crate) fn take_all_rooms(
+    rooms: &mut BTreeMap<Name, Option<u64>>,
+    lists: &[Vec<NameLeft>],
+) -> Result<(), NoMemory>
+    requires rooms { AreRooms rooms.old.entries }
+    ensures rooms { AreRooms rooms.new.entries }
+    ensures same { set_in rooms.new.entries ≡ set_in rooms.old.entries }
+    ensures room { OnOk result (HaveAllRooms rooms.new.entries lists.now) }
+{
+    for left in lists {
+        take_rooms(rooms, left)?;
     }
     Ok(())
 }
@@ -53,14 +67,27 @@ fn put(rooms: &mut BTreeMap<Name, Option<u64>>, left: &NameLeft)
     let _ = rooms.insert(left.name, left.address);
 }
 
-/// Sets or unsets each of these names, which all have room.
-pub(crate) fn put_all(rooms: &mut BTreeMap<Name, Option<u64>>, left: &[NameLeft])
+// Sets or unsets each of these names, which all have room.
+fn put_all(rooms: &mut BTreeMap<Name, Option<u64>>, left: &[NameLeft])
     requires rooms { AreRooms rooms.old.entries }
     requires room { HaveRooms rooms.old.entries left.now }
     ensures rooms { AreRooms rooms.new.entries }
     ensures value { held (set_in rooms.new.entries) ≡ with_all (held (set_in rooms.old.entries)) left.now }
+    ensures others { (q : List ℕ) → IsSome (held rooms.old.entries q) → IsSome (held rooms.new.entries q) }
 {
     for name in left {
         put(rooms, name);
+    }
+}
+
+/// Sets or unsets the names of each list in turn, which all have room.
+pub(crate) fn put_lists(rooms: &mut BTreeMap<Name, Option<u64>>, lists: &[Vec<NameLeft>])
+    requires rooms { AreRooms rooms.old.entries }
+    requires room { HaveAllRooms rooms.old.entries lists.now }
+    ensures rooms { AreRooms rooms.new.entries }
+    ensures value { held (set_in rooms.new.entries) ≡ with_lists (held (set_in rooms.old.entries)) lists.now }
+{
+    for left in lists {
+        put_all(rooms, left);
     }
 }

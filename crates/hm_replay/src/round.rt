@@ -8,7 +8,6 @@ ghost use Rattle.hm_replay.specs.Workers.{IsToRun, HasRun, KeepsMade, MakesFront
 
 use crate::env::Env;
 use crate::left::NameLeft;
-use crate::listing::all_left;
 use crate::scope::Scope;
 use crate::script::run_with;
 use hm_heap::{Heap, Pass};
@@ -155,18 +154,18 @@ fn finish<P: Pages, G: Gate>(
     }
 }
 
-// The results of all scripts, unless one found no memory.
-fn all_found(alloc: Global, found: Vec<Option<Results>>) -> Result<Vec<Results>, NoMemory>
-    ensures { IfOk result (λ results. map Some results.items ≡ found.items) }
+// What all scripts gave, unless one found no memory.
+fn all_found<T: Drop>(alloc: Global, found: Vec<Option<T>>) -> Result<Vec<T>, NoMemory>
+    ensures { IfOk result (λ all. map Some all.items ≡ found.items) }
 {
-    let mut results = Vec::with_capacity(alloc, found.len())?;
+    let mut all = Vec::with_capacity(alloc, found.len())?;
     for one in found {
         match one {
-            Some(one) => results.push_reserved(one),
+            Some(one) => all.push_reserved(one),
             None => return Err(NoMemory),
         }
     }
-    Ok(results)
+    Ok(all)
 }
 
 /// Runs each script of a round under a pass of its own, each in a thread of its own. All passes are joined, also where
@@ -205,7 +204,7 @@ pub fn run_round<R: Threads + Wait + Sync, P: Pages, G: Gate>(
     work(rt, alloc, heap, &mut workers, threads);
     finish(heap, root, workers, &mut found, &mut lists);
     let results = all_found(alloc, found)?;
-    let left = all_left(alloc, &lists)?;
+    let left = all_found(alloc, lists)?;
     env.set_all(&left)?;
     Ok(results)
 }

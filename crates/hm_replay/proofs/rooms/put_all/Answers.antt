@@ -27,4 +27,5 @@ loop-name-preserved c =
       value =
           ap (λ (z : Names). with_all z rest) c.put.ensures.value
           ∙ ap (λ (l : List NameLeft). with_all (held (set_in c.loop-name.rooms.entries)) l) dropped ∙ old.value;
+      others = λ q some. c.put.ensures.others q (old.others q some);
     }

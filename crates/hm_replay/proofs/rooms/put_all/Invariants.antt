@@ -1,4 +1,5 @@
-use Rattle.std.proofs.Common.{◌≡◌, drop}
+use Rattle.std.proofs.Common.{◌≡◌, ℕ, List, drop}
+use Rattle.std.specs.Prelude.{IsSome}
 use Rattle.hm_replay.specs.Names.{held, with_all}
 use Rattle.hm_replay.specs.Rooms.{set_in, AreRooms, HaveRooms}
 use Rattle.hm_replay.proofs.rooms.put_all.Given as goal
@@ -9,4 +10,5 @@ invariant-loop-name l = record {
   room : HaveRooms l.rooms.entries l.left;
   value : with_all (held (set_in l.rooms.entries)) (drop l.name-index l.left)
       ≡ with_all (held (set_in l.fn.rooms.entries)) l.left;
+  others : (q : List ℕ) → IsSome (held l.fn.rooms.entries q) → IsSome (held l.rooms.entries q);
 }

@@ -10,6 +10,7 @@ loop-name-init c = record {
   rooms = c.requires.rooms;
   same = refl;
   room = record { each = λ i n l. absurd (omega (arith, l)) };
+  others = λ q some. some;
 }
 
 pub loop-name-preserved : goal.loop-name-preserved
@@ -28,6 +29,7 @@ loop-name-preserved c =
           subst (λ (l : List NameLeft). HaveRooms fs l) taken
           (rooms_more c.loop-name.rooms.entries fs (take i left) n old.room c.take_room.ensures.others
           c.in_ok-take_room.ensures.room);
+      others = λ q some. c.take_room.ensures.others q (old.others q some);
     }
 
 pub returns-clause-room : goal.returns-clause-room

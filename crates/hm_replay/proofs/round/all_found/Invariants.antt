@@ -2,6 +2,6 @@ use Rattle.std.proofs.Common.{◌≡◌, ◌+◌, ◌≤◌, ◌++◌, length, m
 use Rattle.hm_replay.proofs.round.all_found.Given as goal
 
 abbrev pub invariant-loop-one : goal.invariant-loop-one
-invariant-loop-one l =
-    (map (λ r. Some r) l.results.items ++ l.one-iterator.rest.items ≡ l.fn.found.items)
-    × (length l.results.items + length l.one-iterator.rest.items ≤ vec_capacity l.results)
+invariant-loop-one g l =
+    (map (λ one. Some one) l.all.items ++ l.one-iterator.rest.items ≡ l.fn.found.items)
+    × (length l.all.items + length l.one-iterator.rest.items ≤ vec_capacity l.all)

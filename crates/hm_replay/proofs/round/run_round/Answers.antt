@@ -1,11 +1,11 @@
-use Rattle.std.proofs.Common.{arith, ◌≡◌, ℕ, ◌+◌, List, length, map, vec_len, subst, sym, ◌∙◌, ap}
-use mathlib.Core.Path.{transport}
+use Rattle.std.proofs.Common.{arith, ◌≡◌, ℕ, ◌+◌, List, Vec, length, map, vec_len, subst, sym, ◌∙◌, ap}
+use Rattle.std.specs.declared.alloc.Global.{Global}
 use Rattle.hm_report.specs.declared.results.Results.{Results}
 use Rattle.hm_trace.specs.Views.{ScriptView}
 use Rattle.hm_turn.specs.Known.{Lock}
 use Rattle.hm_heap.specs.Passes.{PassView}
 use Rattle.hm_replay.specs.declared.round.Worker.{Worker}
-use Rattle.hm_replay.specs.Names.{Names, held, Settles, with_all}
+use Rattle.hm_replay.specs.Names.{Names, held, with_lists}
 use Rattle.hm_replay.specs.declared.left.NameLeft.{NameLeft}
 use Rattle.hm_replay.specs.RoundOf.{ended_in}
 use Rattle.hm_replay.specs.Rounds.{RunsRound}
@@ -114,13 +114,11 @@ returns-clause-ran g c =
     scripts_are ws.items vs.items c.scripts-scripts.result.now same (sym ws.ok.0 ∙ all) c.work.ensures.script
     (λ i w x l. s.scripts i w x (omega (arith, l, ws.ok.0))) ∙ c.scripts-scripts.ensures.all in
     let now : Names = held c.set_all.new.self in
-    let lists : c.deref.result.now ≡ map (λ (w : Worker). w.left) vs.items =
-    c.deref.ensures.value ∙ c.finish-2.ensures.lists in
-    let set : now ≡ with_all names c.in_ok-left.left.items =
-    c.in_ok-set_all.ensures.value ∙ ap (λ (l : List NameLeft). with_all names l) c.deref-2.ensures.value in
+    let left : List (Vec NameLeft Global) = c.in_ok-left.left.items in
     let last : now ≡ all_settled names vs.items =
-    settles_all names now vs.items (λ i w l. c.work.ensures.names i w (omega (arith, l, same)))
-    (transport (λ i. Settles names (lists i) (sym set i)) (c.in_ok-left.ensures names)) in
+    c.in_ok-set_all.ensures.value ∙ ap (λ (l : List (Vec NameLeft Global)). with_lists names l) c.deref.ensures.value
+    ∙ settles_all names vs.items left (λ i w l. c.work.ensures.names i w (omega (arith, l, same)))
+    (c.in_ok-left.ensures ∙ c.finish-2.ensures.lists) in
     subst (λ (l : Names). RunsRound config (ended_in z.turns)
     (p.splits + 1) c.args.number names names c.args.round.now rs l) (sym last)
     (subst (λ (l : List ScriptView). RunsRound config (ended_in z.turns) (p.splits + 1) c.args.number names names l rs
