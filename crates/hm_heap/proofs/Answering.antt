@@ -1,18 +1,21 @@
 -- Which plan a call of a heap follows.
+use Rattle.std.proofs.lemmas.Option.{none-some, same_Some}
 use Rattle.std.proofs.Common.{◌≡◌, ◌==◌, ◌*◌, ◌^◌, ◌<◌, ℕ, Bool, false, if◌then◌else◌, Option, Some, None, Ok, refl, sym, ◌∙◌, ap}
 use Rattle.hm_model.specs.declared.answer.Answer.{Answer}
 use Rattle.hm_model.specs.declared.answer.Answer.TheVariants as answer
 use Rattle.hm_sizes.specs.declared.class.Kind.{Kind}
+use Rattle.hm_sizes.specs.declared.class.Kind.TheVariants.{Small, Large, TooLarge}
 use Rattle.hm_sizes.specs.declared.config.Config.{Config}
 use Rattle.hm_sizes.specs.Aligned.{AlignedGives}
 use Rattle.hm_sizes.specs.Sizes.{IsKindOf}
 use Rattle.hm_model.specs.declared.entry.Call.{Call}
+use Rattle.hm_model.specs.declared.entry.Call.TheVariants.{Allot}
 use Rattle.hm_model.specs.declared.entry.Reply.{Reply}
 use Rattle.hm_model.specs.declared.entry.Reply.TheVariants.{Given, Overwritten, Exhausted, NoSpace, PagesFailed, Freed, NoSlot, Unused, DoubleFree, WrongSize, Canary, Usable, Bytes, Filled, Trap, NotLive}
 use Rattle.hm_heap.specs.Passes.{PassView}
-use Rattle.hm_heap.specs.Plans.{Done, Follows}
+use Rattle.hm_heap.specs.Plans.{Done, Follows, Part}
 use Rattle.hm_heap.specs.Requests.{Reaches}
-use Rattle.hm_heap.specs.Calls.{place_for, home_place, allot_plan, moving_plan, resize_plan, IsCallocPlan, IsAlignedPlan, IsReallocPlan, ReplyInReach}
+use Rattle.hm_heap.specs.Calls.{place_for, class_place, large_place, home_place, replied, allot_plan, moving_plan, resize_plan, IsCallocPlan, IsAlignedPlan, IsReallocPlan, ReplyInReach}
 
 -- an answer without a part
 pub answers_at_once : (p : PassView) (step : ℕ) (a : Answer) → Follows p p step 1 (Done a) (Ok a)
@@ -36,6 +39,22 @@ module _ (c : Config) (thread a asked : ℕ) (kind : Kind) (kind_is : IsKindOf a
         ∙ sym (ap (λ (b : Bool). if b then allot_plan c thread asked 1 kind else moving_plan c place a asked kind (home_place c a)) some)
         ∙ ap (resize_plan c thread a asked kind) at;
   }
+
+-- of a kind that has no place
+pub allots_nowhere : (c : Config) (thread asked align : ℕ) (kind : Kind) → None ≡ place_for c thread kind
+    → Done answer.TooLarge ≡ allot_plan c thread asked align kind
+allots_nowhere c thread asked align TooLarge at = refl
+allots_nowhere c thread asked align (Small class) at = absurd (none-some (class_place c thread class.0) at)
+allots_nowhere c thread asked align (Large size) at = absurd (none-some (large_place c) at)
+
+-- of a kind that has this place
+pub allots_there : (c : Config) (thread asked place : ℕ) (kind : Kind) → Some place ≡ place_for c thread kind
+    → Part place (Allot asked 1) replied ≡ allot_plan c thread asked 1 kind
+allots_there c thread asked place TooLarge at = absurd (none-some place (sym at))
+allots_there c thread asked place (Small class) at =
+    ap (λ (n : ℕ). Part n (Allot asked 1) replied) (same_Some place (class_place c thread class.0) at)
+allots_there c thread asked place (Large size) at =
+    ap (λ (n : ℕ). Part n (Allot asked 1) replied) (same_Some place (large_place c) at)
 
 -- the block of a reply
 pub reply_in_reach : (call : Call) (reply : Reply) → Reaches call reply → ReplyInReach reply

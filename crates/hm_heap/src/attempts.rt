@@ -1,17 +1,17 @@
 //! The calls of a heap that wait for nobody.
 ghost use Rattle.std.specs.Prelude.{◌≡◌, ◌<◌, None, length, IfOk};
-ghost use Rattle.hm_heap.specs.Requests.{call_of, Asks, AsksOfKind};
+ghost use Rattle.hm_heap.specs.Requests.{call_of, Asks};
 ghost use Rattle.hm_heap.specs.Passes.{AreOf, region_at};
 ghost use Rattle.hm_heap.specs.Plans.{Part, Tries, ServesTry};
-ghost use Rattle.hm_heap.specs.Calls.{replied, allot_plan, IsMallocPlan, free_plan, AnswerInReach};
+ghost use Rattle.hm_heap.specs.Calls.{replied, IsMallocPlan, free_plan, AnswerInReach};
 
 use crate::heap::Heap;
-use crate::homes::{class_place, home_place, large_place};
+use crate::homes::{home_place, place_for};
 use crate::pass::Pass;
 use crate::request::Request;
 use hm_model::Answer;
 use hm_outside::{Gate, NoMemory, Pages};
-use hm_sizes::{Kind, class_of};
+use hm_sizes::class_of;
 
 impl<'g, P: Pages, G: Gate> Heap<'g, P, G> {
     // The only part of a call, if the region's turn is free.
@@ -37,37 +37,9 @@ impl<'g, P: Pages, G: Gate> Heap<'g, P, G> {
         }
     }
 
-    // A block of this kind, if the turn of its region is free.
-    fn try_allot(
-        &self,
-        pass: &mut Pass,
-        step: u32,
-        asked: u64,
-        kind: Kind,
-    ) -> Result<Answer, NoMemory>
-        requires of { AreOf self.now.locks pass.old.turns }
-        requires kind { AsksOfKind asked 1 kind }
-        ensures same { pass.new ≡ record pass.old { turns = pass.new.turns } }
-        ensures of { AreOf self.now.locks pass.new.turns }
-        ensures answer { Tries pass.old pass.new step (allot_plan self.now.config pass.old.thread asked 1 kind) result }
-        ensures reach { IfOk result AnswerInReach }
-    {
-        let request = Request::Allot { asked, align: 1 };
-        match kind {
-            Kind::TooLarge => Ok(Answer::TooLarge),
-            Kind::Small(class) => {
-                let place = class_place(&self.config, pass.thread, class);
-                self.try_reply_of(pass, place, step, request)
-            }
-            Kind::Large(_size) => {
-                let place = large_place(&self.config);
-                self.try_reply_of(pass, place, step, request)
-            }
-        }
-    }
-
     /// As `malloc`, but it waits for nobody: the answer is `Busy` where its one step found the turn of the region not
-    /// free, as another had drawn a ticket that was not yet served, or drew one first.
+    /// free, as another had drawn a ticket that was not yet served or drew one first, or all 2^64 - 1 tickets
+    /// were drawn.
     pub fn try_malloc(&self, pass: &mut Pass, step: u32, asked: u64) -> Result<Answer, NoMemory>
         requires of { AreOf self.now.locks pass.old.turns }
         ensures same { pass.new ≡ record pass.old { turns = pass.new.turns } }
@@ -75,7 +47,11 @@ impl<'g, P: Pages, G: Gate> Heap<'g, P, G> {
         ensures answer { ServesTry (IsMallocPlan self.now.config pass.old.thread asked) pass.old pass.new step result }
         ensures reach { IfOk result AnswerInReach }
     {
-        self.try_allot(pass, step, asked, class_of(asked))
+        let kind = class_of(asked);
+        let Some(place) = place_for(&self.config, pass.thread, kind, asked) else {
+            return Ok(Answer::TooLarge);
+        };
+        self.try_reply_of(pass, place, step, Request::Allot { asked, align: 1 })
     }
 
     /// As `free`, but it waits for nobody.

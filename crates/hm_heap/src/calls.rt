@@ -112,7 +112,8 @@ impl<'g, P: Pages, G: Gate> Heap<'g, P, G> {
         self.allot(rt, pass, step, asked, 1, class_of(asked))
     }
 
-    /// A block of at least `count` times `size` bytes. All bytes of a given block are zero, where bytes are told.
+    /// A block of at least `count` times `size` bytes. All bytes of a given block are zero, of a slot the usable ones,
+    /// where bytes are told.
     pub fn calloc<R: Wait>(
         &self,
         rt: &R,

@@ -1,13 +1,16 @@
 //! Where the regions stand that serve a call.
-ghost use Rattle.std.specs.Prelude.{◌≡◌, ◌+◌, ◌<◌, ◌≤◌, IfSome};
+ghost use Rattle.std.specs.Prelude.{◌≡◌, ◌+◌, ◌<◌, ◌≤◌, ◌^◌, IfSome};
+ghost use Rattle.hm_model.specs.declared.entry.Call.TheVariants as call;
 ghost use Rattle.hm_sizes.specs.Classes.{class_count};
 ghost use Rattle.hm_sizes.specs.Configs.{IsValid};
 ghost use Rattle.hm_sizes.specs.Homes.{region_count};
-ghost use Rattle.hm_heap.specs.Requests.{IsInReach};
-ghost use Rattle.hm_heap.specs.Calls.{class_place, large_place, home_place};
+ghost use Rattle.hm_sizes.specs.Sizes.{IsKindOf};
+ghost use Rattle.hm_heap.specs.Passes.{region_at};
+ghost use Rattle.hm_heap.specs.Requests.{Asks, IsInReach};
+ghost use Rattle.hm_heap.specs.Calls.{class_place, large_place, home_place, place_for};
 
 use crate::heap::CLASSES;
-use hm_sizes::{ClassId, Config, Home, home_of};
+use hm_sizes::{ClassId, Config, Home, Kind, home_of};
 
 /// The place of the region of a class in the arena of a thread.
 pub(crate) fn class_place(config: &Config, thread: u32, class: ClassId) -> usize
@@ -27,6 +30,23 @@ pub(crate) fn large_place(config: &Config) -> usize
     ensures { result ≡ large_place config.now }
 {
     (config.arenas * CLASSES) as usize
+}
+
+/// The place of the region in which a block of this kind is asked for. None is for one that is too large.
+pub(crate) fn place_for(config: &Config, thread: u32, kind: Kind, asked: u64) -> Option<usize>
+    requires valid { IsValid config.now }
+    requires thread { 1 ≤ thread }
+    requires kind { IsKindOf asked kind }
+    ensures place { result ≡ place_for config.now thread kind }
+    ensures below { IfSome result (λ place. place < region_count config.now + 1) }
+    ensures asks { IfSome result (λ place. Asks (region_at config.now place) (call.Allot asked 1)) }
+    ensures few { IfSome result (λ place. asked ≤ 2 ^ 30) }
+{
+    match kind {
+        Kind::TooLarge => None,
+        Kind::Small(class) => Some(class_place(config, thread, class)),
+        Kind::Large(_size) => Some(large_place(config)),
+    }
 }
 
 /// The place of the region to which an address belongs.

@@ -1,16 +1,13 @@
 //! Moving a block, in up to five parts.
-ghost use Rattle.std.specs.Prelude.{◌≡◌, ◌<◌, ◌≤◌, ◌^◌, length, IfOk, IfSome, ◌+◌};
+ghost use Rattle.std.specs.Prelude.{◌≡◌, ◌<◌, ◌≤◌, ◌^◌, length, IfOk, ◌+◌};
 ghost use Rattle.hm_model.specs.declared.entry.Call.TheVariants as call;
-ghost use Rattle.hm_sizes.specs.Configs.{IsValid};
-ghost use Rattle.hm_sizes.specs.Homes.{region_count};
-ghost use Rattle.hm_sizes.specs.Sizes.{IsKindOf};
 ghost use Rattle.hm_heap.specs.Requests.{Asks, IsInReach};
 ghost use Rattle.hm_heap.specs.Passes.{AreOf, region_at};
 ghost use Rattle.hm_heap.specs.Plans.{Follows, Part, Serves};
-ghost use Rattle.hm_heap.specs.Calls.{freeing, filled, copying, allotted, measured, keeps, place_for, IsReallocPlan, AnswerInReach};
+ghost use Rattle.hm_heap.specs.Calls.{freeing, filled, copying, allotted, measured, keeps, IsReallocPlan, AnswerInReach};
 
 use crate::heap::{CLASSES, Heap};
-use crate::homes::{class_place, home_place, large_place};
+use crate::homes::{home_place, large_place, place_for};
 use crate::pass::Pass;
 use crate::request::Request;
 use hm_model::{Answer, Reply, Runs};
@@ -259,22 +256,5 @@ fn keeps(config: &Config, home: usize, kind: Kind, old: u64) -> bool
         Kind::Small(class) => home < large && home % CLASSES as usize == class.0 as usize,
         Kind::Large(size) => home == large && size == old,
         Kind::TooLarge => false,
-    }
-}
-
-// The place of the region in which a block of this kind is asked for. None is for one that is too large.
-fn place_for(config: &Config, thread: u32, kind: Kind, asked: u64) -> Option<usize>
-    requires valid { IsValid config.now }
-    requires thread { 1 ≤ thread }
-    requires kind { IsKindOf asked kind }
-    ensures place { result ≡ place_for config.now thread kind }
-    ensures below { IfSome result (λ place. place < region_count config.now + 1) }
-    ensures asks { IfSome result (λ place. Asks (region_at config.now place) (call.Allot asked 1)) }
-    ensures few { IfSome result (λ place. asked ≤ 2 ^ 30) }
-{
-    match kind {
-        Kind::TooLarge => None,
-        Kind::Small(class) => Some(class_place(config, thread, class)),
-        Kind::Large(_size) => Some(large_place(config)),
     }
 }
