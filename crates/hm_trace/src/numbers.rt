@@ -50,7 +50,7 @@ fn thread_value_of(word: &[u8]) -> Option<u32>
     Some(value)
 }
 
-/// The same, with `MAX_THREADS + 1` for each greater number.
+/// A decimal number with no leading zero, but `0` itself; `MAX_THREADS + 1` stands for each greater one.
 #[tactic(auto, unfolding(crate::specs::ReadNumbers::thread_at))]
 pub(crate) fn thread_of(word: &[u8]) -> Option<u32>
     ensures { result ≡ thread_at word.now }

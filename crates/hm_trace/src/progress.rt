@@ -1,5 +1,5 @@
 //! What was read of a trace so far, and what each line makes of it.
-ghost use Rattle.std.specs.Prelude.{◌≡◌, ◌<◌, map, OnOk};
+ghost use Rattle.std.specs.Prelude.{◌≡◌, ◌<◌, [], map, OnOk};
 ghost use Rattle.hm_trace.specs.Gives.{GivesBy};
 ghost use Rattle.hm_trace.specs.Limits.{max_steps};
 ghost use Rattle.hm_trace.specs.ReadLines.{start, scripts_after, rounds_of, former_thread, round_at, thread_line_at, next_step_at, step_line_at, words_line_at, line_at};
@@ -80,12 +80,13 @@ impl Progress {
         ensures scripts { OnOk result (self.new.scripts.items
             ≡ scripts_after self.old.stage self.old.scripts.items (steps_view self.old.steps.items)) }
         ensures rounds { self.new.rounds.items ≡ self.old.rounds.items }
+        ensures steps { self.new.steps.items ≡ [] }
         ensures stage { self.new.stage ≡ self.old.stage }
         ensures count { self.new.count ≡ self.old.count }
         ensures names { self.new.names ≡ self.old.names }
     {
+        let steps = mem::replace(&mut self.steps, Vec::new(alloc));
         if let Open::InScript(thread) = self.stage {
-            let steps = mem::replace(&mut self.steps, Vec::new(alloc));
             self.scripts.push(Script::of(thread, steps))?;
         }
         Ok(())
@@ -95,13 +96,15 @@ impl Progress {
     pub(crate) fn close_round(&mut self, alloc: Global) -> Result<(), AllocError>
         requires { IsReady self.old }
         ensures rounds { OnOk result (self.new.rounds.items ≡ rounds_of (progress_of self.old)) }
+        ensures scripts { OnOk result (self.new.scripts.items ≡ []) }
+        ensures steps { OnOk result (self.new.steps.items ≡ []) }
         ensures count { self.new.count ≡ self.old.count }
     {
         self.close_script(alloc)?;
+        let scripts = mem::replace(&mut self.scripts, Vec::new(alloc));
         match self.stage {
             Open::Nothing => Ok(()),
             _ => {
-                let scripts = mem::replace(&mut self.scripts, Vec::new(alloc));
                 self.rounds.push(Round::of(scripts))?;
                 Ok(())
             }
@@ -118,9 +121,7 @@ impl Progress {
         if self.rounds.len() >= MAX_ROUNDS {
             return Err(LineRefusal::Kind(FaultKind::TooManyRounds));
         }
-        self.scripts = Vec::new(alloc);
         self.names = BTreeSet::new(alloc);
-        self.steps = Vec::new(alloc);
         self.stage = Open::InRound;
         Ok(())
     }
@@ -155,7 +156,6 @@ impl Progress {
         }
         self.take_open_names()?;
         self.close_script(alloc)?;
-        self.steps = Vec::new(alloc);
         self.stage = Open::InScript(thread);
         Ok(())
     }
