@@ -55,7 +55,8 @@ pub fn live_blocks_apart<P: Pages>()
     apart_blocks();
 }
 
-/// What was freed is given again only after the stated number of further frees.
+/// A freed slot, or the range of a freed block below 32 MiB, is given again only after the stated number of further
+/// frees.
 pub fn freed_blocks_come_late<P: Pages>()
     ensures slots { (o : Options) (closed : Closed P) (place : ℕ) (p : P) → SlotsComeLate P.Pages o closed place p }
     ensures blocks { (o : Options) (closed : Closed P) (place : ℕ) (p : P) → BlocksComeLate P.Pages o closed place p }
@@ -63,7 +64,8 @@ pub fn freed_blocks_come_late<P: Pages>()
     delayed_blocks();
 }
 
-/// What is given is zero; a slot that was found overwritten is never given again.
+/// All bytes of a given block are zero, of a slot the usable ones, where bytes are told; a slot that was found
+/// overwritten is never given again.
 pub fn given_blocks_are_zero<P: Pages>()
     ensures slots { (o : Options) (closed : Closed P) (place : ℕ) (p : P) → SlotsAreZero P.Pages o closed place p }
     ensures blocks { (o : Options) (closed : Closed P) (place : ℕ) (p : P) → BlocksAreZero P.Pages o closed place p }
@@ -74,8 +76,8 @@ pub fn given_blocks_are_zero<P: Pages>()
     condemned_slots();
 }
 
-/// Each refusal comes exactly where its cause holds; a page fails only where one was asked for, or had to go, and the
-/// count of faults rose.
+/// Each refusal comes exactly where its cause holds, a canary, an overwrite and a trap where the pages tell; a page fails
+/// only where one was asked for, or had to go, and the count of faults rose.
 pub fn refusals_have_causes<P: Pages>()
     ensures class { (o : Options) (closed : Closed P) (place : ℕ) (p : P) → ClassRefusals P.Pages o closed place p }
     ensures large { (o : Options) (closed : Closed P) (place : ℕ) (p : P) → LargeRefusals P.Pages o closed place p }
