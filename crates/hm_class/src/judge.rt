@@ -75,7 +75,7 @@ pub fn judge<P: Pages>(
     Judgement::Accepted(slot)
 }
 
-/// The size of the block at an address.
+/// The usable size of the live block at an address, or why none is live there.
 pub fn measure(slabs: &Slabs, shape: &Shape, addr: u64) -> Outcome
     requires shape { IsShape shape.now }
     requires whole { AreWhole shape.now slabs.now.slabs }

@@ -56,7 +56,8 @@ pub enum Reply {
     Bytes(Runs),
     /// The bytes were written.
     Filled,
-    /// The first address asked for that is not accessible.
+    /// The first address asked for that is not accessible, or the range's own where all are and the pages do not
+    /// lend it.
     Trap { addr: u64 },
     /// The address starts no live large block.
     NotLive,
