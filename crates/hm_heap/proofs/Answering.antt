@@ -12,7 +12,7 @@ use Rattle.hm_model.specs.declared.entry.Call.{Call}
 use Rattle.hm_model.specs.declared.entry.Call.TheVariants.{Allot}
 use Rattle.hm_model.specs.declared.entry.Reply.{Reply}
 use Rattle.hm_model.specs.declared.entry.Reply.TheVariants.{Given, Overwritten, Exhausted, NoSpace, PagesFailed, Freed, NoSlot, Unused, DoubleFree, WrongSize, Canary, Usable, Bytes, Filled, Trap, NotLive}
-use Rattle.hm_heap.specs.Passes.{PassView}
+use Rattle.hm_heap.specs.Passes.{HeapView, PassView}
 use Rattle.hm_heap.specs.Plans.{Done, Follows, Part}
 use Rattle.hm_heap.specs.Requests.{Reaches}
 use Rattle.hm_heap.specs.Calls.{place_for, class_place, large_place, home_place, replied, allot_plan, moving_plan, resize_plan, IsCallocPlan, IsAlignedPlan, IsReallocPlan, ReplyInReach}
@@ -26,6 +26,19 @@ overflows c thread count size most = record { overflow = λ e. refl; fits = λ l
 
 pub no_alignment_plan : (c : Config) (thread align asked : ℕ) → AlignedGives asked align None → IsAlignedPlan c thread align asked (Done answer.BadAlignment)
 no_alignment_plan c thread align asked none = record { kind = None; kind_is = none; is = refl }
+
+-- where a kind is asked for, said of the fields, and so of what contracts see of the heap and the pass
+pub place_seen : {inside h : HeapView} {inner p : PassView} {place : Option ℕ} (kind : Kind) → inside ≡ h → inner ≡ p
+    → place ≡ place_for inside.config inner.thread kind → place ≡ place_for h.config p.thread kind
+place_seen {h = h} {inner = inner} kind heap_is pass_is at =
+    at
+    ∙ ap (λ (z : HeapView). place_for z.config inner.thread kind) heap_is
+    ∙ ap (λ (z : PassView). place_for h.config z.thread kind) pass_is
+
+-- where the region of an address stands, likewise
+pub home_seen : {inside h : HeapView} {place : Option ℕ} (a : ℕ) → inside ≡ h → place ≡ home_place inside.config a
+    → place ≡ home_place h.config a
+home_seen a heap_is at = at ∙ ap (λ (z : HeapView). home_place z.config a) heap_is
 
 module _ (c : Config) (thread a asked : ℕ) (kind : Kind) (kind_is : IsKindOf asked kind) where
   pub too_large : None ≡ place_for c thread kind → IsReallocPlan c thread a asked (Done answer.TooLarge)
