@@ -69,7 +69,7 @@ impl Runs {
     pub fn to_vec(&self, alloc: Global) -> Result<Vec<u8>, NoMemory>
         ensures { IfOk result (λ bytes. bytes.items ≡ expand self.now) }
     {
-        let mut bytes = Vec::new(alloc);
+        let mut bytes = Vec::with_capacity(alloc, self.len() as usize)?;
         for (byte, len) in self.pairs.as_slice() {
             bytes.resize(bytes.len() + *len as usize, *byte)?;
         }
