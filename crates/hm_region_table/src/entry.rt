@@ -2,7 +2,7 @@
 
 /// A block of the large region: what was asked for, its bytes and the guard pages on each side of it, whether the
 /// quarantine holds it, and whether an earlier free of it failed for its pages.
-#[derive(Clone, Copy, Debug)]
+#[derive(Clone, Copy, PartialEq, Eq, Debug)]
 pub struct Block {
     pub asked: u64,
     pub size: u64,

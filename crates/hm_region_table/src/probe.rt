@@ -38,13 +38,9 @@ pub(crate) fn find(cells: &[Option<Entry>], addr: u64) -> Option<usize>
     let count = cells.len();
     let mut place = home(addr, count);
     for _passed in 0..count {
-        match cells[place] {
-            None => return None,
-            Some(entry) => {
-                if entry.addr == addr {
-                    return Some(place);
-                }
-            }
+        let entry = cells[place]?;
+        if entry.addr == addr {
+            return Some(place);
         }
         place = next(place, count);
     }

@@ -26,11 +26,6 @@ fn put(table: &mut RegionTable, addr: u64, asked: u64) -> bool {
     }
 }
 
-// What the table says of the key.
-fn asked(table: &RegionTable, addr: u64) -> Option<u64> {
-    table.get(addr).map(|block| block.asked)
-}
-
 // The next page whose home is the first of 64 cells, and so of 32 and of 16 too.
 fn colliding(after: u64) -> u64 {
     for pages in 1..10_000u64 {
@@ -46,10 +41,10 @@ fn colliding(after: u64) -> u64 {
 fn one_block(rt: HostRuntime) -> Result<(), Fail> {
     let mut table = RegionTable::build(rt.alloc())?;
     assert!(rt; put(&mut table, 4096, 7));
-    assert_eq!(rt; asked(&table, 4096), Some(7));
-    assert_eq!(rt; asked(&table, 8192), None);
-    assert!(rt; table.remove(4096).is_some());
-    assert!(rt; table.remove(4096).is_none());
+    assert_eq!(rt; table.get(4096), Some(block(7)));
+    assert_eq!(rt; table.get(8192), None);
+    assert_eq!(rt; table.remove(4096), Some(block(7)));
+    assert_eq!(rt; table.remove(4096), None);
     Ok(())
 }
 
@@ -62,14 +57,14 @@ fn one_home(rt: HostRuntime) -> Result<(), Fail> {
         assert!(rt; put(&mut table, last, i));
         last = colliding(last);
         if 24 <= i {
-            assert_eq!(rt; asked(&table, first), Some(i - 24));
-            assert!(rt; table.remove(first).is_some());
-            assert!(rt; table.get(first).is_none());
+            assert_eq!(rt; table.get(first), Some(block(i - 24)));
+            assert_eq!(rt; table.remove(first), Some(block(i - 24)));
+            assert_eq!(rt; table.get(first), None);
             first = colliding(first);
         }
     }
     for i in 9_976..10_000u64 {
-        assert_eq!(rt; asked(&table, first), Some(i));
+        assert_eq!(rt; table.get(first), Some(block(i)));
         first = colliding(first);
     }
     assert_eq!(rt; first, last);
