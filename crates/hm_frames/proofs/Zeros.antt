@@ -1,9 +1,8 @@
 -- Bytes that are zero from a place on stay so where others are written over.
-use Rattle.std.proofs.Common.{◌≡◌, ℕ, ◌+◌, ◌-◌, ◌≤◌, List, ◌++◌, length, take, drop, sym, ap, ◌∙◌, arith}
+use Rattle.std.proofs.Common.{◌≡◌, ℕ, ◌+◌, ◌-◌, ◌≤◌, List, ◌++◌, length, length-append, take, drop, sym, ap, ◌∙◌, arith}
 use Rattle.std.proofs.lemmas.List.{length-take, length-drop, drop-drop, drop-replicate, append_assoc}
 use Rattle.std.proofs.lemmas.Slice.{drop-append-drop}
 use Rattle.std.specs.List.{refill, length_refill}
-use Rattle.std.proofs.Common.{length-append}
 use Rattle.hm_outside.specs.PageRuns.{zeros}
 use Rattle.hm_frames.specs.Part.{with_part}
 use Rattle.hm_frames.specs.Cleared.{IsZeroFrom}

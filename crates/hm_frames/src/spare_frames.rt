@@ -42,12 +42,11 @@ impl SpareFrames {
     fn take(&mut self, len: usize) -> Option<Frame>
         ensures { IfSome result (λ r. length r.run ≡ len) }
     {
-        for i in 0..self.frames.len() {
-            if self.frames[i].bytes().len() == len {
-                return Some(self.frames.swap_remove(i));
-            }
-        }
-        None
+        let i = self
+            .frames
+            .iter()
+            .position(|frame| frame.bytes().len() == len)?;
+        Some(self.frames.swap_remove(i))
     }
 
     /// A run of zero bytes: a kept one of that length, or else a fresh one. Room is made for all runs that may be kept.
