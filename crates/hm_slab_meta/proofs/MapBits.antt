@@ -165,19 +165,19 @@ all_in_more map from index low passed set i at_least below =
       | inr ge ↦ set_in map index low 64 i (omega arith) set ge (omega arith)
     ]
 
--- no bit of the first words is set
-abbrev pub AreClearBelow : List ℕ → ℕ → Type 0
-AreClearBelow words to = (k : ℕ) → k < to → (i : ℕ) → i < 64 → bit_at (get_or words k 0) i ≡ 0
+-- no bit of a word is set
+abbrev pub IsClearWord : ℕ → Type 0
+IsClearWord word = (i : ℕ) → i < 64 → bit_at word i ≡ 0
 
-pub all_clear : (map : BitMap) (to : ℕ) → 4 ≤ to → AreClearBelow map.words to → IsClear map
-all_clear map to all clear i below = has_is map i ∙ ap (λ b. b == 1) (clear (i / 64) (omega arith) (i % 64) (omega arith))
+pub all_clear : (map : BitMap) → ((k : ℕ) → k < 4 → IsClearWord (get_or map.words k 0)) → IsClear map
+all_clear map clear i below = has_is map i ∙ ap (λ b. b == 1) (clear (i / 64) (omega arith) (i % 64) (omega arith))
 
 off : (b : ℕ) → b < 2 → (b == 1) ≡ false → b ≡ 0
 off zero small e = refl
 off (suc zero) small e = cc
 off (suc (suc b)) small e = absurd (omega arith)
 
-pub clear_word : (map : BitMap) (index : ℕ) → index < 4 → IsClear map → (i : ℕ) → i < 64 → bit_at (get_or map.words index 0) i ≡ 0
+pub clear_word : (map : BitMap) (index : ℕ) → index < 4 → IsClear map → IsClearWord (get_or map.words index 0)
 clear_word map index few clear i below =
     off (bit_at (get_or map.words index 0) i) (bit_at-lt (get_or map.words index 0) i)
     (sym (has_in map index i below) ∙ clear (64 * index + i) (omega arith))

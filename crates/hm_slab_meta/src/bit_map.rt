@@ -23,12 +23,7 @@ impl BitMap {
     pub(crate) fn is_empty(&self) -> bool
         ensures { IsTrue result ↔ IsClear self.now }
     {
-        for word in &self.words {
-            if !is_clear(*word) {
-                return false;
-            }
-        }
-        true
+        self.words.iter().all(|word| is_clear(*word))
     }
 
     /// Whether the bit is set.
