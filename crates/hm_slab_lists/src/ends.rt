@@ -26,11 +26,7 @@ pub(crate) struct AllEnds {
 fn skip(at: Option<usize>, gone: usize, instead: Option<usize>) -> Option<usize>
     ensures { result ≡ skipped gone instead at }
 {
-    match at {
-        Some(at) if at == gone => instead,
-        Some(at) => Some(at),
-        None => None,
-    }
+    if at == Some(gone) { instead } else { at }
 }
 
 impl Ends {

@@ -68,10 +68,7 @@ fn index_in(chains: &Chains, interval: u64, number: u64) -> usize
     ensures found { result < length chains.now.metas → nth_slab interval result ≡ number }
     ensures opened { (index : ℕ) → index < length chains.now.metas → nth_slab interval index ≡ number → result ≡ index }
 {
-    match index_of(number, interval) {
-        Some(index) => index,
-        None => chains.len(),
-    }
+    index_of(number, interval).unwrap_or(chains.len())
 }
 
 // The list that a slab's slots name: empty where all are available, partial where some are, else full.
