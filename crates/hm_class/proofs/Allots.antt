@@ -29,17 +29,16 @@ use Rattle.hm_class.specs.declared.next_slab.NextSlab.TheVariants as next
 use Rattle.hm_class.specs.declared.outcome.Canary.{Canary}
 use Rattle.hm_class.specs.declared.outcome.Event.{Event}
 use Rattle.hm_class.specs.Slabs.{Slabs}
-use Rattle.hm_class.specs.Uses.{Numbers, numbers_of, Uses, slab_in, opened_slab, fresh_slab, kind_at, live_count, with_open, taken_uses, still_shut}
+use Rattle.hm_class.specs.Uses.{Numbers, numbers_of, Uses, slab_in, opened_slab, fresh_slab, kind_at, live_count, with_open, taken_uses}
 use Rattle.hm_model.specs.Calls.{no_choices, entry_of, no_words, one_word}
 use Rattle.hm_class.specs.Finds.{Finds, Serves, KeepsRuns, made_runs, drawn_canary, canary_stream}
 use Rattle.hm_class.specs.Outcomes.{reply_of, canary_value, chose_opened, start_draws}
-use Rattle.hm_class.specs.Slabs.{SameSlabs}
 use Rattle.hm_class.specs.Sources.{unopened_below, new_of, front_of}
 use Rattle.hm_class.specs.Region.{HoldsSlabs}
 use Rattle.hm_class.specs.Kept.{Shows, AreFull, IsKept, terms_of, cells_of, identity, store}
 use Rattle.hm_class.proofs.Allotted.{kept_serve}
 use Rattle.hm_class.proofs.Drawn.{stepped_open, stepped_new, after_new, new_draws_are, one_draw_are}
-use Rattle.hm_class.proofs.Filing.{Stands, same_full, opened_partial, opened_empty, opened_shut, opened_stands, opened_then_partial, opened_then_empty, opened_are_full}
+use Rattle.hm_class.proofs.Filing.{Stands, still_shut, same_full, opened_partial, opened_empty, opened_shut, opened_stands, opened_then_partial, opened_then_empty, opened_are_full}
 use Rattle.hm_class.proofs.Followed.{shows_count}
 use Rattle.std.proofs.lemmas.Option.{none-some, same_Some}
 use Rattle.hm_class.proofs.Listed.{next_undrawn, stepped_undrawn, same_cells}
@@ -49,7 +48,7 @@ use Rattle.hm_class.proofs.Permitted.{IsServing, allowed_of, open_place}
 use Rattle.hm_class.proofs.Shown.{kind_is, kind_shut}
 use Rattle.hm_class.proofs.Used.{some_slab, live_opened, slab_old, slab_beside}
 use Rattle.hm_class.proofs.Served.{unopened_is, then_items, can_open, is_new, serving, serving_open, opened_shows, opened_serves, opened_open}
-use Rattle.hm_class.proofs.Entries.{pushed, stands_now, loose_now, sound_now, allows_now, no_draws_are}
+use Rattle.hm_class.proofs.Entries.{SameSlabs, pushed, stands_now, loose_now, sound_now, allows_now, no_draws_are}
 
 -- ---- what an opened slab leaves
 no_canary : (b : Bool) → false ≡ (b && false)

@@ -40,10 +40,9 @@ use Rattle.hm_class.specs.Access.{trap_in, Fetches, IsFetched, FetchTraps, Fills
 use Rattle.hm_class.specs.Calls.{ReplyTraps}
 use Rattle.hm_class.specs.declared.outcome.Outcome.{Outcome}
 use Rattle.hm_class.specs.declared.outcome.Outcome.TheVariants as outcome
-use Rattle.hm_class.specs.Slabs.{Slabs}
+use Rattle.hm_class.specs.Slabs.{Slabs, SameLists}
 use Rattle.hm_class.specs.Uses.{Uses, kind_at, canary_at, live_count}
 use Rattle.hm_class.specs.Region.{Region, IsRegion, IsTakenBack, HoldsSlabs, region_shape, region_state, terms}
-use Rattle.hm_class.specs.Slabs.{SameSlabs}
 use Rattle.hm_model.specs.Calls.{Adds, no_choices, entry_of, no_words}
 use Rattle.hm_model.specs.Replies.{IsClassReply, IsFetchReply}
 use Rattle.hm_class.specs.Outcomes.{reply_of}
@@ -61,6 +60,11 @@ use Rattle.hm_class.proofs.Shown.{kind_is, kind_shut, by_false}
 use Rattle.hm_class.proofs.Followed.{shows_count, shows_written}
 use Rattle.hm_class.proofs.Listed.{next_undrawn, stepped_undrawn, partial_kind, empty_kind}
 use Rattle.hm_class.proofs.Permitted.{allowed_of, no_slot, unused, double_free, live_block, live_open, canary_found, told_pair}
+
+-- all is as before, but for room
+pub record SameSlabs (old new : Slabs) : Type 0 where
+  pub slabs : new.slabs ≡ old.slabs
+  pub rest : SameLists old new
 
 -- ---- what callers see
 -- the region's numbers are those of its first word

@@ -1,5 +1,5 @@
 -- In which list a slab stands, and how the lists change as it goes to the list of its kind, is opened, or is retired.
-use Rattle.std.proofs.Common.{◌≡◌, ◌≢◌, ⊎_elim, ℕ, ◌≤◌, true, false, List, [], ◌∷◌, Option, Some, None, sym, ◌∙◌, ap, subst, refl, arith, true≢false}
+use Rattle.std.proofs.Common.{◌≡◌, ◌≢◌, ⊎_elim, ℕ, ◌≤◌, true, false, List, [], ◌∷◌, ◌++◌, Option, Some, None, sym, ◌∙◌, ap, subst, refl, arith, true≢false}
 use Rattle.std.specs.Option.{option_map_or}
 use Rattle.std.proofs.lemmas.Bool.{cases_eq, cases_Bool, cond-true, cond-false}
 use Rattle.hm_model.specs.Maps.{times}
@@ -12,10 +12,9 @@ use Rattle.hm_slab_lists.specs.Lists.{Lists, among, without, list_in, gone, head
 use Rattle.hm_slab_lists.specs.Table.{unparked}
 use Rattle.hm_slab_lists.proofs.Members.{among_head, without_skip, without_none, among-without_same}
 use Rattle.hm_slab_lists.proofs.Tables.{gone_stays, placed_stays}
-use Rattle.hm_class.specs.Frees.{with_unparked}
 use Rattle.hm_class.specs.Kept.{IsFull, AreFull}
 use Rattle.hm_class.specs.Slabs.{list_of, opened_in}
-use Rattle.hm_class.specs.Uses.{Uses, SlabUse, slab_in, kind_at, kind_of, open_at, still_shut}
+use Rattle.hm_class.specs.Uses.{Uses, SlabUse, slab_in, kind_at, kind_of, open_at}
 
 -- an open slab of this kind stands in its list alone
 pub record Stands (lists : Lists) (n : ℕ) (kind : Kind) : Type 0 where
@@ -36,6 +35,16 @@ pub record Moved (old new : Lists) (n : ℕ) (before after : Kind) : Type 0 wher
   pub partial : new.partial ≡ listed Partial n before after old.partial
   pub empty : new.empty ≡ listed Empty n before after old.empty
   pub retired : new.retired ≡ old.retired
+
+-- what was unparked joins those that are shut
+abbrev pub with_unparked : List ℕ → Option ℕ → List ℕ
+with_unparked shut None = shut
+with_unparked shut (Some u) = shut ++ u ∷ []
+
+-- those that are shut once the first of them is opened
+abbrev pub still_shut : List ℕ → List ℕ
+still_shut [] = []
+still_shut (m ∷ ms) = ms
 
 partial_not : Partial ≡ Neither → ⊥
 partial_not e = true≢false (ap (λ (k : Kind). same_kind Partial k) e)

@@ -35,11 +35,11 @@ use Rattle.hm_class.specs.Uses.{numbers_of, open_at, Uses, SlabUse, lives, kind_
 use Rattle.hm_class.specs.Slabs.{SameLists, Parks, list_of}
 use Rattle.hm_slab_lists.specs.Lists.{Lists, gone, placed}
 use Rattle.hm_slab_lists.specs.Table.{unparked}
-use Rattle.hm_class.proofs.Filing.{Stands, Moved, placed_moved, placed_full, retired_partial, retired_empty, retired_shut, retired_full, same_full}
+use Rattle.hm_class.proofs.Filing.{Stands, Moved, with_unparked, placed_moved, placed_full, retired_partial, retired_empty, retired_shut, retired_full, same_full}
 use Rattle.hm_model.specs.Calls.{entry_of}
 use Rattle.hm_class.specs.Outcomes.{freed_choices, freed_draws}
 use Rattle.hm_class.specs.Frees as frees
-use Rattle.hm_class.specs.Frees.{array_word, place_of_word, array_stream, Clears, Settles, is_surplus, freed_uses, with_unparked}
+use Rattle.hm_class.specs.Frees.{array_word, place_of_word, array_stream, Clears, Settles, is_surplus, freed_uses}
 use Rattle.hm_class.specs.Region.{HoldsSlabs}
 use Rattle.hm_class.specs.Kept.{Shows, AreFull, IsKept, terms_of, cells_of, identity, store}
 use Rattle.hm_class.proofs.Entered.{length_taken, has_removed_same, has_overlaid}

@@ -1,5 +1,5 @@
 -- What taking a block back changes: the slot that is held, and the one that is released.
-use Rattle.std.specs.Prelude.{◌≡◌, ℕ, ◌+◌, ◌*◌, ◌<◌, ◌≤◌, ◌==◌, ◌&&◌, nat_lt, Bool, true, false, IsTrue, if◌then◌else◌, List, [], ◌∷◌, ◌++◌, length, slice_index_or, Option, Some, None}
+use Rattle.std.specs.Prelude.{◌≡◌, ℕ, ◌+◌, ◌*◌, ◌<◌, ◌≤◌, ◌==◌, ◌&&◌, nat_lt, Bool, true, false, IsTrue, if◌then◌else◌, length, slice_index_or, Option, Some, None}
 use Rattle.std.specs.FinMap as map
 use Rattle.hm_choice.specs.Stream.{Words, next_word, after_word, drawn}
 use Rattle.hm_outside.specs.declared.pages.Pages as pages
@@ -29,11 +29,6 @@ array_stream p stream = if p.array == 0 then stream else after_word stream
 -- slab n is empty, and with so many others the empty slabs come to more than they may
 abbrev pub is_surplus : Shape → Uses → ℕ → ℕ → Bool
 is_surplus p uses others n = same_kind (kind_at uses n) Empty && nat_lt 131072 ((others + 1) * p.slab)
-
--- what was unparked joins those that are shut
-abbrev pub with_unparked : List ℕ → Option ℕ → List ℕ
-with_unparked shut None = shut
-with_unparked shut (Some u) = shut ++ u ∷ []
 
 -- slab n went to the list of its kind
 pub record Joins (n : ℕ) (uses : Uses) (old new : Slabs) : Type 0 where

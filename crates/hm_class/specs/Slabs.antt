@@ -75,11 +75,6 @@ pub record Parks (n park : ℕ) (old new : Slabs) : Type 0 where
   pub parking : new.parking ≡ slice_set old.parking park (Some n)
   pub numbers : new.numbers ≡ old.numbers
 
--- all is as before, but for room
-pub record SameSlabs (old new : Slabs) : Type 0 where
-  pub slabs : new.slabs ≡ old.slabs
-  pub rest : SameLists old new
-
 -- ---- the slabs of a table
 abbrev pub shown : Bool → meta.SlabUse → SlabUse
 shown opened slab = record { slots = slab.slots; canary = slab.canary; opened = opened }

@@ -157,7 +157,3 @@ with_slab interval uses slab =
 abbrev pub taken_uses : Numbers → List ℕ → Uses → Uses
 taken_uses q [] uses = with_slab q.guard_interval uses (fresh_slab q.slots)
 taken_uses q (m ∷ ms) uses = uses
-
-abbrev pub still_shut : List ℕ → List ℕ
-still_shut [] = []
-still_shut (m ∷ ms) = ms

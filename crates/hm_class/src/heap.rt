@@ -107,7 +107,7 @@ fn begin(config: &Config, seed: u64, arena: u32, class: ClassId) -> (Stream, Sha
 }
 
 impl<P: Pages> ClassHeap<P> {
-    /// A region with no slab and no entry. `seed` is its number.
+    /// A region with no slab and no entry. `seed` is the number of the run.
     pub fn build(
         alloc: Global,
         config: &Config,

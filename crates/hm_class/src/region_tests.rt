@@ -11,7 +11,9 @@ use hm_sizes::{ClassId, Config, Kind, class_of};
 use std::alloc::Global;
 use std::test::Fail;
 
-/// Where slab 0 of class 7 begins in arena 0 of run 0, and the first block there.
+/// Where slab 0 of class 7 begins in arena 0 of run 0, and the first block there. These addresses, and the words and
+/// the canary of `words_of_run_zero`, were computed by another program from the definition of ChaCha8. They are those
+/// of `first_region` and `first_entries` in `hm_class_rules`.
 const FIRST: u64 = 1_592_101_122_048;
 
 const BLOCK: u64 = 1_592_101_124_736;

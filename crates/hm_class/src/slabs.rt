@@ -169,10 +169,7 @@ impl Slabs {
         requires { IsWithin self.now.slabs slab start }
         ensures { result ≡ first_at self.now.slabs slab start }
     {
-        match self.lists.meta(slab) {
-            Some(meta) => meta.first_free_from(start),
-            None => None,
-        }
+        self.lists.meta(slab)?.first_free_from(start)
     }
 
     // Whether a slot is live.
