@@ -1,10 +1,10 @@
 -- How many binary digits the size of a large block has.
-use Rattle.std.proofs.Common.{◌≡◌, ◌⊎◌, ℕ, suc, ◌+◌, ◌-◌, ◌*◌, ◌/◌, ◌%◌, ◌^◌, ◌<◌, ◌≤◌, min, arith, ⊎_elim, inl, inr, zero, sym, ap, ◌∙◌, refl}
+use Rattle.std.proofs.Common.{◌≡◌, ℕ, suc, ◌+◌, ◌-◌, ◌*◌, ◌/◌, ◌%◌, ◌^◌, ◌<◌, ◌≤◌, arith, ⊎_elim, sym, ap, ◌∙◌}
 use lib.Pow.{pow_mono}
 use Rattle.std.proofs.lemmas.Bool.{cases_lt}
-use Rattle.std.proofs.lemmas.Nat.{leading_top, one_shl, div-add-mod', div-mul-add, mod_below}
+use Rattle.std.proofs.lemmas.Nat.{leading_top, one_shl, div-add-mod', div-mul-add}
 use lib.Count.{count_leading_zeros}
-use Rattle.hm_sizes.specs.Classes.{bit_length}
+use Rattle.hm_sizes.specs.Classes.{bit_length, round_up}
 
 pub power_rises : (i j : ℕ) → i ≤ j → 2 ^ i ≤ 2 ^ j
 power_rises i j le = pow_mono le
@@ -29,20 +29,10 @@ digits_between n least most =
 pub power_most : (k : ℕ) → k ≤ 28 → (1 * 2 ^ k) % 2 ^ 64 ≤ 2 ^ 31
 power_most k le = omega (arith, one_shl k 64 (omega arith), power_rises k 28 le)
 
-pub rounded_up : (y x : ℕ) → 1 ≤ y → x / y + min 1 (x % y) ≡ (x + (y - 1)) / y
-rounded_up y x some =
-    let q : ℕ = x / y in
-    let r : ℕ = x % y in
-    let is : q * y + r ≡ x = div-add-mod' x y in
-    let less : r < y = mod_below x y (omega arith) in
-    ⊎_elim (λ (none : r ≡ 0).
-    let e : x + (y - 1) ≡ q * y + (y - 1) = omega arith in
-    sym (ap (λ (k : ℕ). k / y) e ∙ div-mul-add q y (y - 1) (omega arith) ∙ omega arith))
-    (λ (one : 0 < r).
-    let e : x + (y - 1) ≡ (q + 1) * y + (r - 1) = omega arith in
-    sym (ap (λ (k : ℕ). k / y) e ∙ div-mul-add (q + 1) y (r - 1) (omega arith) ∙ omega arith))
-    (zero_or r)
-  where
-    zero_or : (r : ℕ) → (r ≡ 0) ⊎ (0 < r)
-    zero_or zero = inl refl
-    zero_or (suc r) = inr (omega arith)
+-- the multiple of y that is x or more, and less than x + y
+pub rounded_up : (y x r : ℕ) → 1 ≤ y → x ≤ r → r < x + y → r % y ≡ 0 → r ≡ round_up y x
+rounded_up y x r some least most whole =
+    let q : ℕ = r / y in
+    let is : q * y + r % y ≡ r = div-add-mod' r y in
+    let e : x + (y - 1) ≡ q * y + (x + (y - 1) - r) = omega arith in
+    sym (ap (λ (k : ℕ). (k / y) * y) e ∙ ap (λ (k : ℕ). k * y) (div-mul-add q y (x + (y - 1) - r) (omega arith)) ∙ omega arith)

@@ -15,7 +15,6 @@ slot_row slot i n lt = grind (arith, rows)
 
 -- the numbers of a place, read from its address
 pub record IsRead (p : Shape) (a n i : ℕ) : Type 0 where
-  pub from_first : p.first ≤ a
   pub slab : slab_of p a ≡ n
   pub slot : slot_of p a ≡ i
   pub whole : ((a - p.first) % p.slab) % p.slot ≡ 0
@@ -29,7 +28,6 @@ place_read p a n i has h =
     let rest : (a - p.first) % p.slab ≡ i * p.slot + 0 =
     ap (λ (x : ℕ). x % p.slab) off ∙ mod-mul-add n p.slab (i * p.slot) lt ∙ omega arith in
     record {
-      from_first = omega (arith, h.is);
       slab = ap (λ (x : ℕ). x / p.slab) off ∙ div-mul-add n p.slab (i * p.slot) lt;
       slot = ap (λ (x : ℕ). x / p.slot) rest ∙ div-mul-add i p.slot 0 some;
       whole = ap (λ (x : ℕ). x % p.slot) rest ∙ mod-mul-add i p.slot 0 some;

@@ -11,10 +11,10 @@ use crate::{ClassId, Kind, PAGE, class_of, raised};
 const MOST_ALIGNMENT: u64 = 1 << 21;
 
 /// Up to it each class serves: all slot sizes are multiples of it.
-const EACH_SLOT: u64 = 16;
+const SLOT_ALIGNMENT: u64 = 16;
 
 /// Up to it classes serve: slabs stand at multiples of it.
-const EACH_SLAB: u64 = PAGE;
+const SLAB_ALIGNMENT: u64 = PAGE;
 
 /// Where a request goes whose block is to begin at a multiple of `align`: nowhere where that is no power
 /// of two up to 2^21.
@@ -24,7 +24,7 @@ pub fn class_aligned(asked: u64, align: u64) -> Option<Kind>
     if !is_alignment(align) {
         return None;
     }
-    if align <= EACH_SLOT {
+    if align <= SLOT_ALIGNMENT {
         return Some(class_of(asked));
     }
     if asked > GREATEST {
@@ -32,7 +32,7 @@ pub fn class_aligned(asked: u64, align: u64) -> Option<Kind>
     }
     let size = raised(asked);
     match least_aligned(size, align) {
-        Some(class) if align <= EACH_SLAB => Some(Kind::Small(class)),
+        Some(class) if align <= SLAB_ALIGNMENT => Some(Kind::Small(class)),
         _ => Some(Kind::Large(large_size(size))),
     }
 }

@@ -1,6 +1,5 @@
 //! The 49 size classes, and where a request goes.
-ghost use Rattle.std.specs.Prelude.{◌≡◌};
-ghost use Rattle.std.specs.Prelude.{◌<◌};
+ghost use Rattle.std.specs.Prelude.{◌≡◌, ◌<◌};
 ghost use Rattle.hm_sizes.specs.Classes.{class_count, class_size};
 ghost use Rattle.hm_sizes.specs.Sizes.{raised, block_size, IsKindOf};
 

@@ -12,8 +12,7 @@ pub fn large_size(raised: u64) -> u64
     requires { raised ≤ 2 ^ 31 }
     ensures { result ≡ large_size raised }
 {
-    let spacing = spacing(raised);
-    raised.max(1).div_ceil(spacing) * spacing
+    raised.max(1).next_multiple_of(spacing(raised))
 }
 
 /// How far apart large sizes stand about this raised size: an eighth of a power of two.
