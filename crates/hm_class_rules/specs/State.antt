@@ -73,7 +73,11 @@ none_partial p s = not (list_any (is_partial p s) (keys s.opens))
 abbrev pub none_empty : Shape → State → Bool
 none_empty p s = not (list_any (is_empty p s) (keys s.opens))
 
--- the slab that is opened where no open one serves: the first that is shut, or a fresh one
+-- the slab that is opened where no open one serves: the first that is shut, or a fresh one, whose number is below the
+-- limit
+abbrev pub unopened_below : ℕ → List ℕ → ℕ → Option ℕ
+unopened_below limit [] next = if nat_lt next limit then Some next else None
+unopened_below limit (m ∷ ms) next = Some m
+
 abbrev pub unopened : Shape → List ℕ → ℕ → Option ℕ
-unopened p [] next = if nat_lt next p.limit then Some next else None
-unopened p (m ∷ ms) next = Some m
+unopened p = unopened_below p.limit
