@@ -16,7 +16,7 @@ use Rattle.hm_sizes.specs.declared.config.Config.{Config}
 use Rattle.hm_sizes.specs.declared.shape.Shape.{Shape}
 use Rattle.hm_sizes.specs.Shapes.{has_bytes, class_size_of}
 use Rattle.hm_sizes.specs.Sizes.{raised}
-use Rattle.hm_class_rules.specs.State.{State, unopened}
+use Rattle.hm_class_rules.specs.State.{State, unopened, unopened_below}
 use Rattle.hm_class_rules.specs.Kinds.{Partial, Empty, Neither}
 use Rattle.hm_class_rules.specs.Steps.{step, opened, taken_new}
 use Rattle.hm_class_rules.specs.Drawn.{first_free}
@@ -33,7 +33,7 @@ use Rattle.hm_class.specs.Uses.{Numbers, numbers_of, Uses, slab_in, opened_slab,
 use Rattle.hm_model.specs.Calls.{no_choices, entry_of, no_words, one_word}
 use Rattle.hm_class.specs.Finds.{Finds, Serves, KeepsRuns, made_runs, drawn_canary, canary_stream}
 use Rattle.hm_class.specs.Outcomes.{reply_of, canary_value, chose_opened, start_draws}
-use Rattle.hm_class.specs.Sources.{unopened_below, new_of, front_of}
+use Rattle.hm_class.specs.Sources.{new_of, front_of}
 use Rattle.hm_class.specs.Region.{HoldsSlabs}
 use Rattle.hm_class.specs.Kept.{Shows, AreFull, IsKept, terms_of, cells_of, identity, store}
 use Rattle.hm_class.proofs.Allotted.{kept_serve}

@@ -1,5 +1,5 @@
 -- Allotting: what was found can be served, and what is kept follows.
-use Rattle.std.proofs.Common.{◌≡◌, ℕ, ◌<◌, Bool, true, false, IsTrue, IfSome, List, [], ◌∷◌, length, slice_get, Option, Some, is_some, unwrap_or, sym, ◌∙◌, ap, subst, refl, arith}
+use Rattle.std.proofs.Common.{◌≡◌, ℕ, ◌<◌, Bool, true, false, IsTrue, IfSome, List, length, slice_get, Option, Some, is_some, unwrap_or, sym, ◌∙◌, ap, subst, refl, arith}
 use Rattle.std.specs.Option.{option_and_then, option_map_or}
 use Rattle.hm_choice.specs.Stream.{Words}
 use Rattle.hm_quarantine.specs.Quarantine.{Kept}
@@ -9,7 +9,7 @@ use Rattle.hm_model.specs.declared.entry.Entry.{Entry}
 use Rattle.hm_sizes.specs.declared.config.Config.{Config}
 use Rattle.hm_sizes.specs.declared.shape.Shape.{Shape}
 use Rattle.hm_sizes.specs.Shapes.{place, slab_at}
-use Rattle.hm_class_rules.specs.State.{State, is_open, is_taken, unopened}
+use Rattle.hm_class_rules.specs.State.{State, is_open, is_taken, unopened, unopened_below}
 use Rattle.hm_class_rules.specs.Steps.{opened}
 use Rattle.hm_class_rules.specs.Rules.{state}
 use Rattle.hm_class_rules.proofs.Changes.{taken_opened}
@@ -19,7 +19,7 @@ use Rattle.hm_class.specs.Slabs.{Slabs}
 use Rattle.hm_class.specs.Uses.{Numbers, open_at, numbers_of, Uses, SlabUse, occupied, slab_in, taken_uses, with_open, opened_slab}
 use Rattle.hm_class.specs.Finds.{Finds, CanOpen, CanPick, CanServe}
 use Rattle.hm_class.specs.Outcomes.{canary_value}
-use Rattle.hm_class.specs.Sources.{unopened_below, new_of, front_of}
+use Rattle.hm_class.specs.Sources.{new_of, front_of}
 use Rattle.hm_class.specs.Kept.{Shows, IsKept, terms_of, identity, store}
 use Rattle.hm_class.proofs.Followed.{shows_new}
 use Rattle.hm_class.proofs.Paged.{meets_none}
@@ -42,13 +42,9 @@ can_pick p k all s n items below h serves =
     }
 
 -- the slab that is opened next
-same_unopened : (p : Shape) (shut : List ℕ) (next : ℕ) → unopened p shut next ≡ unopened_below p.limit shut next
-same_unopened p [] next = refl
-same_unopened p (m ∷ ms) next = refl
-
 pub unopened_is : (p : Shape) (k : Slabs) (o : Option ℕ) → k.numbers ≡ numbers_of p → new_of k ≡ o → unopened p k.lists.retired (length k.slabs) ≡ o
 unopened_is p k o numbers e =
-    same_unopened p k.lists.retired (length k.slabs) ∙ ap (λ (q : Numbers). unopened_below q.limit k.lists.retired (length k.slabs)) (sym numbers) ∙ e
+    ap (λ (q : Numbers). unopened_below q.limit k.lists.retired (length k.slabs)) (sym numbers) ∙ e
 
 module _ (told : Bool) (runs : PageRuns) (faults : ℕ) (c : Config) (number arena : ℕ) (p : Shape) (es : List Entry) (k : Slabs) (stream : Words) (quarantine : Kept) (parking : List (Option ℕ))
     (kept : IsKept told runs faults (identity c number arena p) es (store k stream quarantine parking)) where

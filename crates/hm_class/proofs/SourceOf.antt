@@ -2,13 +2,14 @@
 use Rattle.std.proofs.Common.{◌≡◌, ℕ, ◌<◌, Bool, true, false, cond, nat_lt, List, [], ◌∷◌, Some, None, sym, ◌∙◌, ap, subst, refl, arith}
 use Rattle.std.proofs.lemmas.Bool.Decides.{nat_tests}
 use Rattle.std.proofs.lemmas.Option.{none-some, same_Some}
+use Rattle.hm_class_rules.specs.State.{unopened_below}
 use Rattle.hm_class_rules.specs.Stepped.{front}
 use Rattle.hm_slab_lists.specs.declared.slab_lists.Place.{Place}
 use Rattle.hm_slab_lists.specs.declared.slab_lists.Place.TheVariants.{Partial, Empty, Retired, Fresh, Exhausted}
 use Rattle.hm_slab_lists.specs.Sources.{first_of, fresh_or_none, source_of}
 use Rattle.hm_slab_lists.specs.Table.{Table}
 use Rattle.hm_class.specs.Slabs.{Slabs, slabs_of}
-use Rattle.hm_class.specs.Sources.{unopened_below, front_of, new_of}
+use Rattle.hm_class.specs.Sources.{front_of, new_of}
 use Rattle.hm_class.proofs.Tables.{length_uses}
 
 pub record IsShut (retired : List ℕ) (n : ℕ) : Type 0 where

@@ -1,7 +1,8 @@
 -- Where a block comes from, and what is said of one that is given back.
-use Rattle.std.specs.Prelude.{◌≡◌, ℕ, nat_lt, if◌then◌else◌, true, false, List, [], ◌∷◌, Option, Some, None, length, option_map, IfSome, ◌<◌}
+use Rattle.std.specs.Prelude.{◌≡◌, ℕ, true, false, Option, Some, None, length, option_map, IfSome, ◌<◌}
 use Rattle.hm_sizes.specs.declared.shape.Shape.{Shape}
 use Rattle.hm_sizes.specs.Shapes.{IsPlaceOf}
+use Rattle.hm_class_rules.specs.State.{unopened_below}
 use Rattle.hm_class_rules.specs.Stepped.{front}
 use Rattle.hm_slab_meta.specs.Uses.{Live, was_given}
 use Rattle.hm_class.specs.Slabs.{Slabs}
@@ -31,11 +32,7 @@ IsWithin uses n i = IfSome (slab_in uses n) (λ (b : SlabUse). i < length b.slot
 abbrev pub front_of : Slabs → Option ℕ
 front_of k = front k.lists.partial k.lists.empty
 
--- the slab that is opened where there is none: the first that is shut, or a fresh one
-abbrev pub unopened_below : ℕ → List ℕ → ℕ → Option ℕ
-unopened_below limit [] next = if nat_lt next limit then Some next else None
-unopened_below limit (m ∷ ms) next = Some m
-
+-- the slab that is opened where there is none
 abbrev pub new_of : Slabs → Option ℕ
 new_of k = unopened_below k.numbers.limit k.lists.retired (length k.slabs)
 

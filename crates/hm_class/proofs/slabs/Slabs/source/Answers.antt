@@ -1,8 +1,9 @@
 use Rattle.std.proofs.Common.{ℕ, ◌∙◌, sym, ap, subst}
+use Rattle.hm_class_rules.specs.State.{unopened_below}
 use Rattle.hm_slab_lists.specs.declared.slab_lists.Place.TheVariants.{Fresh, Exhausted}
 use Rattle.hm_class.specs.declared.slabs.Source.TheVariants as from
 use Rattle.hm_class.specs.Slabs.{Slabs}
-use Rattle.hm_class.specs.Sources.{Sources, unopened_below}
+use Rattle.hm_class.specs.Sources.{Sources}
 use Rattle.hm_class.proofs.SourceOf.{source_is}
 use Rattle.hm_class.proofs.Tables.{length_uses}
 use Rattle.hm_class.proofs.slabs.Slabs.source.Goals as goal
