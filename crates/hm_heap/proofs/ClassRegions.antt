@@ -1,5 +1,5 @@
 -- A class region by its origin.
-use Rattle.std.proofs.Common.{◌≡◌, ℕ, ◌+◌, ◌*◌, ◌/◌, ◌%◌, ◌<◌, ◌≤◌, nat_lt, if◌then◌else◌, Bool, true, IsTrue, length, Result, Ok, Err, IfOk, Option, None, sym, ◌∙◌, ap, subst, arith}
+use Rattle.std.proofs.Common.{◌≡◌, ℕ, ◌+◌, ◌*◌, ◌/◌, ◌%◌, ◌<◌, nat_lt, if◌then◌else◌, Bool, true, IsTrue, Result, Ok, Err, IfOk, Option, None, sym, ◌∙◌, ap, subst, arith}
 use Rattle.std.proofs.lemmas.Bool.{lt-ltb}
 use Rattle.std.proofs.lemmas.Nat.{div-mul-add, mod-mul-add}
 use mathlib.Core.Logic.{inl}
@@ -17,10 +17,9 @@ use Rattle.hm_class_rules.specs.Draws.{drawn_shape}
 use Rattle.hm_class_rules.specs.Drawn.{IsDrawn}
 use Rattle.hm_class_rules.specs.Rules.{Terms, IsLegal, IsLiveBlock, state, wrong_size, wrong_canary}
 use Rattle.hm_class.specs.Region.{Region, IsRegion, IsTakenBack, HoldsSlabs, origin, terms, region_shape}
-use Rattle.hm_large.specs.Blocks.{owed}
 use Rattle.hm_large.specs.Rules as large_state
 use Rattle.hm_heap.specs.Accepted.{IsAcceptedFree}
-use Rattle.hm_heap.specs.Lawful.{arena_of, class_in, class_terms, large_terms, IsLawful, IsSound, Holds, fault_count, owed_entries}
+use Rattle.hm_heap.specs.Lawful.{arena_of, class_in, class_terms, large_terms, IsLawful, IsSound, Holds, fault_count}
 use Rattle.hm_heap.specs.Origins.{numbers_of}
 use Rattle.hm_heap.specs.Requests.{IsReply}
 
@@ -80,13 +79,6 @@ module _ {P : Type 0} (meaning : pages.Ghosts P) (r : Region P) (h : IsRegion me
     count = h.count ∙ sym class_count_is;
     holds = class_holds;
   }
-
-  pub class_room : owed_entries (origin meaning.told r) r.entries ≤ r.spare
-  class_room =
-      subst (λ (n : ℕ). n ≤ r.spare)
-      (sym (ap (λ (b : Bool). if b then length (state (class_terms (origin meaning.told r)) r.entries).live else owed (large_state.state (large_terms (origin meaning.told r)) r.entries).live) is_below
-      ∙ ap (λ (t : Terms). length (state t r.entries).live) same))
-      h.room
 
   -- ---- what is replied
   pub class_replies : (call asked : Call) (result : Result Reply NoMemory) → call ≡ asked → IfOk result (IsClassReply (usable (region_shape r)) asked)

@@ -1,5 +1,5 @@
 -- The large region by its origin.
-use Rattle.std.proofs.Common.{◌≡◌, ℕ, ◌≤◌, Bool, Result, Ok, Err, IfOk, sym, subst, refl, arith}
+use Rattle.std.proofs.Common.{◌≡◌, ℕ, Bool, Result, Ok, Err, IfOk, sym, subst, refl, arith}
 use mathlib.Core.Logic.{inr}
 use Rattle.hm_outside.specs.declared.memory.NoMemory.{NoMemory}
 use Rattle.hm_outside.specs.declared.pages.Pages as pages
@@ -9,7 +9,7 @@ use Rattle.hm_model.specs.Replies.{IsLargeReply}
 use Rattle.hm_sizes.specs.declared.config.Config.{Config}
 use Rattle.hm_sizes.specs.Origins.{large_region_number}
 use Rattle.hm_large.specs.Region.{Region, IsRegion, origin}
-use Rattle.hm_heap.specs.Lawful.{IsSound, owed_entries}
+use Rattle.hm_heap.specs.Lawful.{IsSound}
 use Rattle.hm_heap.specs.Origins.{numbers_of}
 use Rattle.hm_heap.specs.Requests.{IsReply}
 
@@ -21,9 +21,6 @@ module _ {P : Type 0} (meaning : pages.Ghosts P) (r : Region P) where
     count = h.count;
     holds = λ tells. record { class = λ lt. absurd (omega (arith, lt)); large = λ e. h.held tells };
   }
-
-  pub large_room : IsRegion meaning r → owed_entries (origin meaning.told r) r.entries ≤ r.spare
-  large_room h = h.room
 
   pub large_replies : (call asked : Call) (result : Result Reply NoMemory) → call ≡ asked → IfOk result (IsLargeReply asked)
       → IfOk result (IsReply (origin meaning.told r) call)

@@ -1,5 +1,5 @@
 -- Which histories the region of an origin may have, and what is kept of it after one.
-use Rattle.std.specs.Prelude.{◌≡◌, ◌<◌, ◌*◌, ◌/◌, ◌%◌, ◌⊎◌, ℕ, nat_lt, if◌then◌else◌, IsTrue, List, length}
+use Rattle.std.specs.Prelude.{◌≡◌, ◌<◌, ◌*◌, ◌/◌, ◌%◌, ◌⊎◌, ℕ, nat_lt, if◌then◌else◌, IsTrue, List}
 use Rattle.hm_outside.specs.PageRuns.{PageRuns}
 use Rattle.hm_outside.specs.declared.pages.Pages as pages
 use Rattle.hm_model.specs.declared.entry.Entry.{Entry}
@@ -12,7 +12,6 @@ use Rattle.hm_class_rules.specs.Draws.{drawn_shape}
 use Rattle.hm_class_rules.specs.Drawn as class_draws
 use Rattle.hm_class_rules.specs.Rules as class
 use Rattle.hm_class.specs.Region.{HoldsSlabs}
-use Rattle.hm_large.specs.Blocks.{owed}
 use Rattle.hm_large.specs.Draws as large_draws
 use Rattle.hm_large.specs.Region.{HoldsBlocks}
 use Rattle.hm_large.specs.Rules as large
@@ -65,12 +64,6 @@ abbrev pub fault_count : Origin → List Entry → ℕ
 fault_count o history =
     if nat_lt o.region large_region_number then (class.state (class_terms o) history).faults
     else (large.state (large_terms o) history).faults
-
--- the entries for which there is room: one for the free of each live block, unless a large one's free failed
-abbrev pub owed_entries : Origin → List Entry → ℕ
-owed_entries o history =
-    if nat_lt o.region large_region_number then length (class.state (class_terms o) history).live
-    else owed (large.state (large_terms o) history).live
 
 -- the accessible runs are exactly the open slabs or the live blocks, with their bytes
 pub record Holds (o : Origin) (history : List Entry) (runs : PageRuns) : Type 0 where

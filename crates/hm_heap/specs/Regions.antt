@@ -1,5 +1,5 @@
 -- A region of either kind, as contracts see it.
-use Rattle.std.specs.Prelude.{ℕ, Bool, List}
+use Rattle.std.specs.Prelude.{Bool, List}
 use Rattle.hm_outside.specs.declared.pages.Pages as pages
 use Rattle.hm_model.specs.declared.entry.Call.{Call}
 use Rattle.hm_model.specs.declared.entry.Entry.{Entry}
@@ -20,11 +20,6 @@ module _ {P : Type 0} where
   abbrev pub pages_of : Region P → P
   pages_of (Class heap) = heap.value.pages
   pages_of (Large heap) = heap.value.pages
-
-  -- the room for entries
-  abbrev pub spare_of : Region P → ℕ
-  spare_of (Class heap) = heap.value.spare
-  spare_of (Large heap) = heap.value.spare
 
   -- the region that it is
   abbrev pub origin_of : (P → Bool) → Region P → Origin

@@ -1,14 +1,14 @@
 //! A region is what a lock keeps. Each call of it is made in the region of its own kind.
-ghost use Rattle.std.specs.Prelude.{◌≡◌, ◌≤◌, IfOk, IsOk, OnErr};
+ghost use Rattle.std.specs.Prelude.{◌≡◌, IfOk, IsOk, OnErr};
 ghost use Rattle.hm_class.specs.Region as class_region;
 ghost use Rattle.hm_class.specs.Calls as class_calls;
 ghost use Rattle.hm_large.specs.Region as large_region;
 ghost use Rattle.hm_large.specs.Calls as large_calls;
 ghost use Rattle.hm_heap.specs.Origins.{numbers_of};
-ghost use Rattle.hm_heap.specs.Lawful.{IsSound, first_address, owed_entries};
+ghost use Rattle.hm_heap.specs.Lawful.{IsSound, first_address};
 ghost use Rattle.hm_heap.specs.Accepted.{IsAccepted};
 ghost use Rattle.hm_heap.specs.Requests.{call_of, Asks, IsReply};
-ghost use Rattle.hm_heap.specs.Regions.{entries_of, pages_of, spare_of, origin_of, Added};
+ghost use Rattle.hm_heap.specs.Regions.{entries_of, pages_of, origin_of, Added};
 
 use crate::region::Region;
 use crate::request::Request;
@@ -41,7 +41,6 @@ fn serve_class<P: Pages>(
     requires { Asks (class_region.origin P.told heap.old).region (call_of request) }
     ensures origin { class_region.origin P.told heap.new ≡ class_region.origin P.told heap.old }
     ensures sound { IsSound P.Pages (class_region.origin P.told heap.new) heap.new.entries heap.new.pages }
-    ensures room { owed_entries (class_region.origin P.told heap.new) heap.new.entries ≤ heap.new.spare }
     ensures added { IfOk result (class_calls.Added P.Pages heap.old heap.new who (call_of request.entry)) }
     ensures replies { IfOk result (IsReply (class_region.origin P.told heap.old) (call_of request.entry)) }
     ensures memory { OnErr result (heap.new.entries ≡ heap.old.entries) }
@@ -68,7 +67,6 @@ fn serve_large<P: Pages>(
     requires { Asks (large_region.origin P.told heap.old).region (call_of request) }
     ensures origin { large_region.origin P.told heap.new ≡ large_region.origin P.told heap.old }
     ensures sound { IsSound P.Pages (large_region.origin P.told heap.new) heap.new.entries heap.new.pages }
-    ensures room { owed_entries (large_region.origin P.told heap.new) heap.new.entries ≤ heap.new.spare }
     ensures added { IfOk result (large_calls.Added P.Pages heap.old heap.new who (call_of request.entry)) }
     ensures replies { IfOk result (IsReply (large_region.origin P.told heap.old) (call_of request.entry)) }
     ensures memory { OnErr result (heap.new.entries ≡ heap.old.entries) }
@@ -85,12 +83,11 @@ fn serve_large<P: Pages>(
 }
 
 impl<P: Pages> Region<P> {
-    /// Makes one call. A free of a live block with its own size and canary takes no memory.
+    /// Makes one call.
     pub(crate) fn serve(&mut self, who: Who, request: Request) -> Result<Reply, NoMemory>
         requires { Asks (origin_of P.told self.old).region (call_of request) }
         ensures origin { origin_of P.told self.new ≡ origin_of P.told self.old }
         ensures sound { IsSound P.Pages (origin_of P.told self.new) (entries_of self.new) (pages_of self.new) }
-        ensures room { owed_entries (origin_of P.told self.new) (entries_of self.new) ≤ spare_of self.new }
         ensures added { IfOk result (Added P.Pages self.old self.new who (call_of request.entry)) }
         ensures replies { IfOk result (IsReply (origin_of P.told self.old) (call_of request.entry)) }
         ensures memory { OnErr result (entries_of self.new ≡ entries_of self.old) }

@@ -1,14 +1,11 @@
 use Rattle.std.proofs.Common.{ap, subst, refl}
 use Rattle.hm_heap.specs.Accepted.{IsAccepted}
 use Rattle.hm_heap.specs.Requests.{call_of}
-use Rattle.hm_heap.proofs.LargeRegions.{large_sound, large_room, large_replies}
+use Rattle.hm_heap.proofs.LargeRegions.{large_sound, large_replies}
 use Rattle.hm_heap.proofs.serve.serve_large.Goals as goal
 
 pub returns-in-Allot-clause-sound : goal.returns-in-Allot-clause-sound
 returns-in-Allot-clause-sound g c = large_sound g.P.Pages c.allot.new.self c.allot.ensures.region
-
-pub returns-in-Allot-clause-room : goal.returns-in-Allot-clause-room
-returns-in-Allot-clause-room g c = large_room g.P.Pages c.allot.new.self c.allot.ensures.region
 
 pub returns-in-Allot-clause-replies : goal.returns-in-Allot-clause-replies
 returns-in-Allot-clause-replies g c = large_replies g.P.Pages c.args.heap.now (call_of c.args.request) _ c.allot.result (ap call_of c.in-Allot.is) c.allot.ensures.replies
@@ -16,17 +13,11 @@ returns-in-Allot-clause-replies g c = large_replies g.P.Pages c.args.heap.now (c
 pub returns-in-GiveBack-clause-sound : goal.returns-in-GiveBack-clause-sound
 returns-in-GiveBack-clause-sound g c = large_sound g.P.Pages c.give_back.new.self c.give_back.ensures.region
 
-pub returns-in-GiveBack-clause-room : goal.returns-in-GiveBack-clause-room
-returns-in-GiveBack-clause-room g c = large_room g.P.Pages c.give_back.new.self c.give_back.ensures.region
-
 pub returns-in-GiveBack-clause-replies : goal.returns-in-GiveBack-clause-replies
 returns-in-GiveBack-clause-replies g c = large_replies g.P.Pages c.args.heap.now (call_of c.args.request) _ c.give_back.result (ap call_of c.in-GiveBack.is) c.give_back.ensures.replies
 
 pub returns-in-Measure-clause-sound : goal.returns-in-Measure-clause-sound
 returns-in-Measure-clause-sound g c = large_sound g.P.Pages c.measure.new.self c.measure.ensures.region
-
-pub returns-in-Measure-clause-room : goal.returns-in-Measure-clause-room
-returns-in-Measure-clause-room g c = large_room g.P.Pages c.measure.new.self c.measure.ensures.region
 
 pub returns-in-Measure-clause-replies : goal.returns-in-Measure-clause-replies
 returns-in-Measure-clause-replies g c = large_replies g.P.Pages c.args.heap.now (call_of c.args.request) _ c.measure.result (ap call_of c.in-Measure.is) c.measure.ensures.replies
@@ -34,17 +25,11 @@ returns-in-Measure-clause-replies g c = large_replies g.P.Pages c.args.heap.now 
 pub returns-in-Fetch-clause-sound : goal.returns-in-Fetch-clause-sound
 returns-in-Fetch-clause-sound g c = large_sound g.P.Pages c.fetch.new.self c.fetch.ensures.region
 
-pub returns-in-Fetch-clause-room : goal.returns-in-Fetch-clause-room
-returns-in-Fetch-clause-room g c = large_room g.P.Pages c.fetch.new.self c.fetch.ensures.region
-
 pub returns-in-Fetch-clause-replies : goal.returns-in-Fetch-clause-replies
 returns-in-Fetch-clause-replies g c = large_replies g.P.Pages c.args.heap.now (call_of c.args.request) _ c.fetch.result (ap call_of c.in-Fetch.is) c.fetch.ensures.replies
 
 pub returns-in-Fill-clause-sound : goal.returns-in-Fill-clause-sound
 returns-in-Fill-clause-sound g c = large_sound g.P.Pages c.fill.new.self c.fill.ensures.region
-
-pub returns-in-Fill-clause-room : goal.returns-in-Fill-clause-room
-returns-in-Fill-clause-room g c = large_room g.P.Pages c.fill.new.self c.fill.ensures.region
 
 pub returns-in-Fill-clause-replies : goal.returns-in-Fill-clause-replies
 returns-in-Fill-clause-replies g c = large_replies g.P.Pages c.args.heap.now (call_of c.args.request) _ c.fill.result (ap call_of c.in-Fill.is) c.fill.ensures.replies
