@@ -120,7 +120,7 @@ impl<T: Kept> TurnLock<T> {
             out,
         } = held;
         let shared = &self.table.shared;
-        self.note::<Brand>(&mut seat, &value);
+        self.count_last::<Brand>(&mut seat, &value);
         drop(shared.exchange(&mut seat, 0, Some(value)));
         shared.store::<Free<T>>(&mut seat, SERVING, ticket + 1);
         Turn {
@@ -131,7 +131,7 @@ impl<T: Kept> TurnLock<T> {
     }
 
     /// Counts the value's last entry, if it is a new one.
-    fn note<N: Written>(&self, seat: &mut Seat<Option<T>, View>, value: &T)
+    fn count_last<N: Written>(&self, seat: &mut Seat<Option<T>, View>, value: &T)
         requires named { T.entries value.now ≡ N.entries }
         requires table { seat.old.table_id ≡ self.now.id }
         requires grown { IsGrown seat.old.me.0 N.entries (length N.entries) }
