@@ -1,5 +1,6 @@
 -- The reader refuses a line for the first row of the table that applies.
 use Rattle.std.proofs.Common.{◌≡◌, ⊎_elim, ℕ, suc, ◌≤◌, Bool, true, false, not, ◌&&◌, cond, eqb, ltb, leb, min, List, [], ◌∷◌, length, drop, codes, Option, Some, None, Result, Ok, Err, refl, sym, ◌∙◌, ap, subst, arith}
+use Rattle.std.specs.Option.{option_or}
 use Rattle.std.specs.List.{list_all}
 use Rattle.std.proofs.lemmas.Bool.Decides.{nat_tests}
 use Rattle.std.proofs.lemmas.Bool.{cases_Bool}
@@ -9,7 +10,7 @@ use Rattle.hm_trace.specs.declared.progress.Open.{Open}
 use Rattle.hm_trace.specs.declared.progress.Open.TheVariants.{InRound, InScript, Nothing}
 use Rattle.hm_trace.specs.Faults.{Row, first_row, is_bad_name, is_bad_number, is_plain, line_fault, sets_taken, table}
 use Rattle.hm_trace.specs.Gives.{or_fault, ◌>>=◌}
-use Rattle.hm_trace.specs.Lines.{as_many, former, is_formed, or_later, parts_fault, words_at}
+use Rattle.hm_trace.specs.Lines.{as_many, former, is_formed, parts_fault, words_at}
 use Rattle.hm_trace.specs.Names.{is_word}
 use Rattle.hm_trace.specs.Numbers.{is_decimal, value}
 use Rattle.hm_trace.specs.ReadLines.{Progress, line_at, next_step_at, round_at, rounds_of, scripts_after, step_line_at, thread_line_at, words_line_at}
@@ -58,7 +59,7 @@ after_form t rest = cond (is_bad_name t) (Some BadName) (cond (is_bad_number t) 
 
 thread_tests : (late big : Bool) (q : Progress)
     → Agrees (cond (not late) (Err BadNumber) (cond big (Err TooManyThreads) (Ok q)))
-    (after_form (or_later (cond (true && late) None (Some BadNumber)) None) (cond big (Some TooManyThreads) None))
+    (after_form (option_or (cond (true && late) None (Some BadNumber)) None) (cond big (Some TooManyThreads) None))
 thread_tests true true q = refl
 thread_tests true false q = refl
 thread_tests false big q = refl
@@ -67,7 +68,7 @@ thread_rows : (f v : ℕ) (o : Option ℕ) (plain : Bool) (mk : ℕ → Progress
     → ((n : ℕ) → o ≡ Some n → (plain ≡ true) × (n ≡ min v 17)) → (o ≡ None → plain ≡ false)
     → Agrees
     (or_fault BadNumber o >>= λ n. cond (leb n f) (Err BadNumber) (cond (ltb 16 n) (Err TooManyThreads) (Ok (mk n))))
-    (after_form (or_later (cond (plain && ltb f v) None (Some BadNumber)) None)
+    (after_form (option_or (cond (plain && ltb f v) None (Some BadNumber)) None)
     (cond (ltb 16 v) (Some TooManyThreads) None))
 thread_rows f v None plain mk small a n = rw (n refl) refl
 thread_rows f v (Some n) plain mk small a none =

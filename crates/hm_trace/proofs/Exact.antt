@@ -10,7 +10,7 @@ use Rattle.hm_trace.specs.ReadState.{GivesText}
 use Rattle.hm_trace.specs.Spelling.{spelling}
 use Rattle.hm_trace.specs.Traces.{IsTrace}
 use Rattle.hm_trace.specs.Views.{ScriptView}
-use Rattle.hm_trace.proofs.Agreeing.{AgreesText}
+use Rattle.hm_trace.proofs.Agreeing.{Agrees}
 use Rattle.hm_trace.proofs.ReadAgain.{text_again}
 use Rattle.hm_trace.proofs.ReadTraces.{text_trace}
 use Rattle.hm_trace.proofs.SpelledLines.{text_is}
@@ -35,7 +35,7 @@ is_only r bytes t e v is =
 
 fault_at : (r : Result (List (List ScriptView)) ReadRefusal) (read : Result (List (List ScriptView)) TraceFault)
     (o : Option TraceFault)
-    → GivesText r read → AgreesText read o → AnswersFault r o
+    → GivesText r read → Agrees read o → AnswersFault r o
 fault_at (Ok t) (Ok u) o e a = a
 fault_at (Ok t) (Err f) o e a = absurd cc
 fault_at (Err text.NoMemory) read o e a = tt
@@ -49,7 +49,7 @@ is_faulted r bytes e = fault_at r (read_text bytes) (text_fault bytes) e (text_a
 -- ---- the laws
 
 spelled_at : (bytes : List ℕ) (read : Result (List (List ScriptView)) TraceFault) → read_text bytes ≡ read
-    → AgreesText read (text_fault bytes) → text_fault bytes ≡ None
+    → Agrees read (text_fault bytes) → text_fault bytes ≡ None
     → (trace : List (List ScriptView)) × IsTrace trace × (bytes ≡ spelling trace)
 spelled_at bytes (Ok t) e a n = (t, text_trace bytes t e, text_is bytes t e)
 spelled_at bytes (Err f) e a n = absurd cc
@@ -60,7 +60,7 @@ spelled bytes n = spelled_at bytes (read_text bytes) refl (text_agrees bytes) n
 
 pub faultless : (trace : List (List ScriptView)) → IsTrace trace → text_fault (spelling trace) ≡ None
 faultless trace h =
-    subst (λ (x : Result (List (List ScriptView)) TraceFault). AgreesText x (text_fault (spelling trace)))
+    subst (λ (x : Result (List (List ScriptView)) TraceFault). Agrees x (text_fault (spelling trace)))
     (text_again trace h) (text_agrees (spelling trace))
 
 pub one_trace : (one other : List (List ScriptView)) → IsTrace one → IsTrace other → spelling one ≡ spelling other

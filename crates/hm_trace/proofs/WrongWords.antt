@@ -1,5 +1,6 @@
 -- The first wrong word of a step that is read is the first wrong word by the table.
 use Rattle.std.proofs.Common.{◌≡◌, ℕ, ◌+◌, ◌-◌, ◌*◌, ◌<◌, ◌^◌, Bool, true, false, not, ◌&&◌, ◌||◌, cond, eqb, ltb, leb, List, [], ◌∷◌, length, take, drop, codes, Option, Some, None, is_some, option_and_then, Result, Ok, Err, pos, neg_ℤ, refl, ◌∙◌, ap, arith}
+use Rattle.std.specs.Option.{option_or}
 use Rattle.std.specs.List.{list_all}
 use Rattle.std.proofs.lemmas.Bool.{le-leb, lt-leb}
 use Rattle.std.proofs.lemmas.Bool.Decides.{nat_tests}
@@ -7,7 +8,7 @@ use Rattle.hm_trace.specs.declared.fault.FaultKind.{FaultKind}
 use Rattle.hm_trace.specs.declared.fault.FaultKind.TheVariants.{BadName, BadNumber}
 use Rattle.hm_trace.specs.declared.progress.Open.{Open}
 use Rattle.hm_trace.specs.Gives.{or_fault, ◌>>=◌}
-use Rattle.hm_trace.specs.Lines.{BytePart, LengthPart, NamePart, SizePart, is_offset_word, named_fault, number_fault, or_later, part_fault, parts_fault, ref_fault, sign_place}
+use Rattle.hm_trace.specs.Lines.{BytePart, LengthPart, NamePart, SizePart, is_offset_word, named_fault, number_fault, part_fault, parts_fault, ref_fault, sign_place}
 use Rattle.hm_trace.specs.Names.{is_name, is_word}
 use Rattle.hm_trace.specs.Numbers.{is_byte, is_decimal, is_hex, is_hex_digit, is_number, value}
 use Rattle.hm_trace.specs.ReadNumbers.{hex_after, hex_at, hex_digit, number_at}
@@ -176,7 +177,7 @@ ref_agrees (c ∷ cs) = by (eqb c 64) (is_word (c ∷ cs) (codes "null"))
 
 -- one word and those after it
 then_agrees : {A B : Type 0} (r : Result A FaultKind) (f : A → Result B FaultKind) (o later : Option FaultKind)
-    → PartAgrees r o → ((x : A) → PartAgrees (f x) later) → PartAgrees (r >>= f) (or_later o later)
+    → PartAgrees r o → ((x : A) → PartAgrees (f x) later) → PartAgrees (r >>= f) (option_or o later)
 then_agrees (Ok x) f o later h k = rw h (k x)
 then_agrees (Err BadName) f o later h k = rw h refl
 then_agrees (Err BadNumber) f o later h k = rw h refl

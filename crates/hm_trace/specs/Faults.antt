@@ -1,12 +1,13 @@
 -- The table of faults, and the first line at fault.
 use Rattle.std.specs.Prelude.{ℕ, ◌+◌, Bool, true, false, not, ◌&&◌, nat_lt, nat_le, List, [], ◌∷◌, length, codes, Option, Some, None, if◌then◌else◌}
 use Rattle.std.specs.List.{list_all}
+use Rattle.std.specs.Option.{option_or}
 use Rattle.hm_trace.specs.declared.fault.FaultKind.{FaultKind}
 use Rattle.hm_trace.specs.declared.fault.FaultKind.TheVariants.{AfterEnd, LineTooLong, NotAscii, BadHeader, BadWord, BadName, BadNumber, TooManyThreads, TooManyRounds, TooManySteps, NameSetTwice, NoEnd}
 use Rattle.hm_trace.specs.declared.fault.TraceFault.{TraceFault}
 use Rattle.hm_trace.specs.Limits.{max_line, max_threads, max_rounds, max_steps}
 use Rattle.hm_trace.specs.Names.{is_word}
-use Rattle.hm_trace.specs.Lines.{lines_in, words_at, is_formed, first_wrong, or_later}
+use Rattle.hm_trace.specs.Lines.{lines_in, words_at, is_formed, first_wrong}
 use Rattle.hm_trace.specs.Before.{Before, begins, is_step_line, is_setting_line, thread_in, before_of}
 
 -- a name is wrong
@@ -74,7 +75,7 @@ with_line lines (Some kind) = Some (fault_after lines kind)
 unfoldable pub pieces_fault : List (List (List ℕ)) → List (List ℕ) → Option TraceFault
 pieces_fault lines [] = Some (fault_after lines NoEnd)
 pieces_fault lines (last ∷ []) = with_line lines (last_fault (before_of lines) last)
-pieces_fault lines (line ∷ next ∷ more) = or_later (with_line lines (line_fault (before_of lines) line))
+pieces_fault lines (line ∷ next ∷ more) = option_or (with_line lines (line_fault (before_of lines) line))
     (pieces_fault (words_at line ∷ lines) (next ∷ more))
 
 -- the first fault of a text, if it has one

@@ -1,6 +1,7 @@
 -- The forms of lines, and what is wrong with the words of one.
 use Rattle.std.specs.Prelude.{ℕ, ◌+◌, Bool, true, false, ◌&&◌, ◌||◌, ◌==◌, nat_lt, List, [], ◌∷◌, take, drop, codes, Option, Some, None, if◌then◌else◌}
 use Rattle.std.specs.List.{slice_split}
+use Rattle.std.specs.Option.{option_or}
 use Rattle.hm_trace.specs.declared.fault.FaultKind.{FaultKind}
 use Rattle.hm_trace.specs.declared.fault.FaultKind.TheVariants.{BadName, BadNumber}
 use Rattle.hm_trace.specs.declared.progress.Open.{Open}
@@ -137,14 +138,9 @@ part_fault stage SizePart word = number_fault (is_number 0 18446744073709551615 
 part_fault stage LengthPart word = number_fault (is_number 1 max_length word)
 part_fault stage BytePart word = number_fault (is_byte word)
 
--- the first, or else the later one
-abbrev pub or_later : {A : Type 0} → Option A → Option A → Option A
-or_later None later = later
-or_later (Some x) later = Some x
-
 -- what is wrong with the first wrong word, from the left
 abbrev pub parts_fault : Open → List Part → List (List ℕ) → Option FaultKind
-parts_fault stage (part ∷ parts) (word ∷ words) = or_later (part_fault stage part word) (parts_fault stage parts words)
+parts_fault stage (part ∷ parts) (word ∷ words) = option_or (part_fault stage part word) (parts_fault stage parts words)
 parts_fault stage _ _ = None
 
 -- what is wrong with the words that follow

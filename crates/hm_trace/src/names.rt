@@ -91,7 +91,7 @@ impl Name {
         Name::kept(word)
     }
 
-    /// Its bytes, 1 to 32.
+    /// Its bytes.
     pub fn bytes(&self) -> &[u8]
         ensures { result.now ≡ name_view self.now }
     {
