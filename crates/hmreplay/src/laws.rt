@@ -35,8 +35,9 @@ pub fn runs_are_complete<P: Pages>()
     spellings_are_short();
 }
 
-/// A run ends with 7 only where more than 67,108,864 bytes were taken. And where the words ask for a source to be
-/// run, it has more, and neither it nor the sink fails, a run ends with 7, or for want of memory with 6.
+/// A run ends with 7 only where more than 67,108,864 bytes were taken, where the source tells. And where the words ask
+/// for a source to be run, it tells and has more, and neither it nor the sink fails, a run ends with 7, or for want of
+/// memory with 6.
 pub fn too_long_is_exact<P: Pages>()
     ensures only { (words : List (String Global)) (run : Run P) (source sink : Stream)
         → Ends P.Pages words run source sink → run.status ≡ 7 → IsTakenPast 67108864 source }

@@ -37,9 +37,7 @@ fn take_words(rt: &HostRuntime) -> Result<Vec<String>, Status> {
     match env::args(rt) {
         Ok(all) => {
             for word in all.skip(1) {
-                if words.push(word).is_err() {
-                    return Err(Status::NoMemory);
-                }
+                words.push(word).map_err(|_| Status::NoMemory)?;
             }
             Ok(words)
         }

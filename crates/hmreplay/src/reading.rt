@@ -1,9 +1,10 @@
 //! Reading a source to its end, in pieces, up to a limit.
 ghost use Rattle.std.specs.Prelude.{◌≡◌, ◌≤◌, length, IfOk, IsErrOf};
+ghost use Rattle.hmreplay.specs.declared.reading.ReadStop.{ReadStop};
 ghost use Rattle.hmreplay.specs.Streams.{HasFailed, IsReadToEnd, IsTakenPast, IsTakenWithin, source_of};
 
-use hm_outside::Source;
-use std::alloc::Global;
+use hm_outside::{Source, SourceFault};
+use std::alloc::{AllocError, Global};
 
 /// The most bytes that are read.
 const LIMIT: usize = 67_108_864;
@@ -22,6 +23,22 @@ pub enum ReadStop {
     TooLong,
 }
 
+impl From<AllocError> for ReadStop {
+    ghost from_gives = { λ _ e. e ≡ ReadStop.NoMemory };
+
+    fn from(_error: AllocError) -> ReadStop {
+        ReadStop::NoMemory
+    }
+}
+
+impl From<SourceFault> for ReadStop {
+    ghost from_gives = { λ _ e. e ≡ ReadStop.Fault };
+
+    fn from(_fault: SourceFault) -> ReadStop {
+        ReadStop::Fault
+    }
+}
+
 /// All bytes of the source. Each turn but the last takes at least one byte, and at most one byte past
 /// the limit is taken.
 pub fn read_all<S: Source>(alloc: Global, source: &mut S) -> Result<Vec<u8>, ReadStop>
@@ -34,10 +51,8 @@ pub fn read_all<S: Source>(alloc: Global, source: &mut S) -> Result<Vec<u8>, Rea
     ensures long { IsErrOf result ReadStop.TooLong
         → IsTakenPast 67108864 (source_of S.Source source.old source.new) }
 {
-    match vec![in alloc; 0u8; PIECE] {
-        Ok(mut piece) => read_by(alloc, source, &mut piece),
-        Err(_) => Err(ReadStop::NoMemory),
-    }
+    let mut piece = vec![in alloc; 0u8; PIECE]?;
+    read_by(alloc, source, &mut piece)
 }
 
 // All bytes of the source, each piece of them by way of a buffer.
@@ -55,14 +70,9 @@ fn read_by<S: Source>(alloc: Global, source: &mut S, piece: &mut [u8]) -> Result
     let mut bytes = Vec::new(alloc);
     'turns: while bytes.len() <= LIMIT {
         let room = (LIMIT + 1 - bytes.len()).min(PIECE);
-        match source.take(&mut piece[..room]) {
-            Err(_) => return Err(ReadStop::Fault),
-            Ok(0) => return Ok(bytes),
-            Ok(count) => {
-                if bytes.extend_from_slice(&piece[..count]).is_err() {
-                    return Err(ReadStop::NoMemory);
-                }
-            }
+        match source.take(&mut piece[..room])? {
+            0 => return Ok(bytes),
+            count => bytes.extend_from_slice(&piece[..count])?,
         }
     }
     Err(ReadStop::TooLong)

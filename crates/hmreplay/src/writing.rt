@@ -1,5 +1,5 @@
 //! Writing a text to a sink.
-ghost use Rattle.std.specs.Prelude.{◌≢◌, ◌≤◌, OnOk, OnErr};
+ghost use Rattle.std.specs.Prelude.{◌≢◌, OnOk, OnErr};
 ghost use Rattle.hm_outside.specs.Streams.{Put};
 ghost use Rattle.hmreplay.specs.Streams.{HasFailed, IsFrontPut, IsWritten, sink_of};
 
@@ -11,14 +11,12 @@ fn write_all<K: Sink>(sink: &mut K, text: &[u8]) -> Result<(), SinkFault>
     ensures whole { OnOk result (Put (K.held sink.old) (K.held sink.new) text.now) }
     ensures front { OnErr result (IsFrontPut (sink_of K.Sink sink.old sink.new) text.now) }
     ensures fault { OnErr result (HasFailed (sink_of K.Sink sink.old sink.new)) }
-    ensures later { K.faults sink.old ≤ K.faults sink.new }
 {
     let mut at = 0;
     'turns: while at < text.len() {
-        match sink.put(&text[at..]) {
-            Ok(0) => return Err(SinkFault),
-            Ok(count) => at += count,
-            Err(fault) => return Err(fault),
+        match sink.put(&text[at..])? {
+            0 => return Err(SinkFault),
+            count => at += count,
         }
     }
     Ok(())

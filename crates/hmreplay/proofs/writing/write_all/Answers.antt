@@ -6,7 +6,7 @@ use Rattle.hmreplay.proofs.writing.write_all.Goals as goal
 
 pub turns-preserved : goal.turns-preserved
 turns-preserved g c = record {
-  within = omega (arith, c.in-Ok.ensures.bytes.1);
-  put = rw take-add (rw take_rest at (put_more _ _ _ _ _ c.turns.invariant.put c.in-Ok.ensures.bytes.0));
-  faults = omega (arith, c.in-Ok.ensures.cause.later);
+  within = omega (arith, c.in_ok-count.ensures.bytes.1);
+  put = rw take-add (rw take_rest at (put_more _ _ _ _ _ c.turns.invariant.put c.in_ok-count.ensures.bytes.0));
+  faults = omega (arith, c.in_ok-count.ensures.cause.later);
 }
