@@ -21,10 +21,7 @@ fn is_found_in(script: &Results) -> bool
 fn is_finding(step: &StepResult) -> bool
     ensures { result ≡ is_finding step.now }
 {
-    match &step.answer {
-        Some(answer) => is_finding_answer(answer),
-        None => false,
-    }
+    step.answer.as_ref().is_some_and(is_finding_answer)
 }
 
 fn is_finding_answer(answer: &Answer) -> bool
