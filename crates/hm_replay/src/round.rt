@@ -160,10 +160,7 @@ fn all_found<T: Drop>(alloc: Global, found: Vec<Option<T>>) -> Result<Vec<T>, No
 {
     let mut all = Vec::with_capacity(alloc, found.len())?;
     for one in found {
-        match one {
-            Some(one) => all.push_reserved(one),
-            None => return Err(NoMemory),
-        }
+        all.push_reserved(one.ok_or(NoMemory)?);
     }
     Ok(all)
 }

@@ -45,7 +45,7 @@ impl<'e> Scope<'e> {
         }
     }
 
-    /// What the script leaves of the names that it has set or unset. Each stands there once, in the order of names.
+    /// What the script leaves of the names that it has set or unset.
     pub(crate) fn left(&self, alloc: Global) -> Result<Vec<NameLeft>, NoMemory>
         ensures { IfOk result (λ left. (names : Names) → with_all names left.items ≡ with_own names self.now) }
     {
