@@ -172,7 +172,7 @@ fn make_room(entries: &mut Vec<Entry>, owed: usize, failed: bool) -> Result<(), 
 }
 
 impl<P: Pages> LargeHeap<P> {
-    /// A region with no block and no entry. `seed` is its number, and no word is drawn.
+    /// A region with no block and no entry. `seed` is the number of the run, and no word is drawn.
     pub fn build(
         alloc: Global,
         config: &Config,

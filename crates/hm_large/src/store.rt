@@ -74,9 +74,7 @@ impl Store {
         ensures front { IfSome result (λ a. 4096 * guard ≤ a) }
     {
         let front = PAGE * guard;
-        match self.space.find(span(size, guard), align.max(PAGE), front) {
-            Some(start) => Some(start + front),
-            None => None,
-        }
+        let start = self.space.find(span(size, guard), align.max(PAGE), front)?;
+        Some(start + front)
     }
 }
