@@ -12,7 +12,7 @@ use Rattle.std.proofs.lemmas.List.{length-set, get_or-set_same, get_or-set_other
 use Rattle.std.proofs.lemmas.List.FromFn.{get_or-map-range_with_len, length-map-range_with_len, map-range_with_len_more}
 use Rattle.std.proofs.lemmas.Option.{slice_get-get_or, slice_get_past, get_or_from_slice_get, none-some, same_Some}
 use Rattle.hm_class_rules.specs.Kinds.{Neither}
-use Rattle.hm_slab_lists.specs.Numbers.{is_guard, after}
+use Rattle.hm_sizes.specs.Guards.{is_guard, after}
 use Rattle.hm_slab_lists.specs.Table.{Table, new_table, is_open}
 use Rattle.hm_slab_lists.specs.TableLending.{with_meta_of}
 use Rattle.hm_slab_lists.proofs.ByNumber.{is_tie, no_tie}

@@ -5,7 +5,7 @@ use Rattle.std.proofs.lemmas.Bool.{cases_eq}
 use Rattle.std.proofs.lemmas.List.{length-set, get_or-set_same, set-get_or, set-set}
 use Rattle.std.proofs.lemmas.List.Sums.{sum_by-set, sum_by-cons, sum_by_push, sum_by-append}
 use Rattle.std.proofs.lemmas.Option.{slice_get_within, get_or_from_slice_get, slice_get-get_or, slice_get_past, none-some}
-use Rattle.hm_slab_lists.specs.Numbers.{is_guard, after}
+use Rattle.hm_sizes.specs.Guards.{is_guard, after}
 use Rattle.hm_slab_meta.specs.Uses.{SlotUse}
 use Rattle.hm_slab_meta.specs.Uses.{Never, Free, Live, Held, Condemned}
 use Rattle.hm_class.specs.Uses.{Uses, SlabUse, Numbers, lives, occupied, live_count, slab_in, open_at, use_at, changed, with_slot, with_use, with_slab, with_canary, with_canary_at, with_open, opened_slab, fresh_slab, taken_uses, count_in}

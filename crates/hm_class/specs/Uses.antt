@@ -4,7 +4,7 @@ use Rattle.std.specs.List.{list_any}
 use Rattle.std.specs.Option.{option_and_then, option_map_or}
 use Rattle.hm_sizes.specs.declared.shape.Shape.{Shape}
 use Rattle.hm_class_rules.specs.Kinds.{Kind, Partial, Empty, Neither}
-use Rattle.hm_slab_lists.specs.Numbers.{is_guard}
+use Rattle.hm_sizes.specs.Guards.{is_guard}
 use Rattle.hm_slab_meta.specs.Uses.{SlotUse, Never, Free, Live, Held, Condemned, was_given, is_available, first_from}
 
 -- ---- one slot

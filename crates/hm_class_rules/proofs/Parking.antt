@@ -1,8 +1,8 @@
 -- The parking array holds just the parked slabs of a legal and drawn history.
 use Rattle.std.proofs.Common.{◌≡◌, ℕ, zero, suc, ◌+◌, ◌<◌, ◌≤◌, ◌==◌, Bool, true, cond, List, [], ◌∷◌, length, replicate, get_or, set, Option, Some, None, sym, ◌∙◌, ap, subst, refl, arith, length-set}
 use Rattle.std.proofs.lemmas.List.{length-replicate}
+use Rattle.hm_outside.specs.Members.{without_option}
 use Rattle.hm_quarantine.specs.Quarantine.{IsArrayPlace}
-use Rattle.hm_quarantine.specs.Delay as quarantine
 use Rattle.hm_quarantine.proofs.Counts as counted
 use Rattle.hm_quarantine.proofs.Counts.{one_of, count, count_in, count_array, count_empty, count_without, self_is, count_at, count_all, count_most}
 use Rattle.hm_quarantine.proofs.Passes.{on_with}
@@ -48,7 +48,7 @@ pub only_one : (a : ℕ) → 1 ≤ a → a ≤ 1 → a ≡ 1
 only_one a low high = omega arith
 
 left_count : (most place : ℕ) (parked : List ℕ) (parking : List (Option ℕ)) → AreParked most parked parking → ((n : ℕ) → times n parked ≤ 1) → (f : ℕ → Bool) (o : Option ℕ) → get_or parking place None ≡ o
-    → count f (quarantine.without o parked) + one_of f o ≡ count f parked
+    → count f (without_option o parked) + one_of f o ≡ count f parked
 left_count most place parked parking are once f o e =
     count_without f o parked (λ b is. only_one (counted.times b parked) (stands_once most place b parked parking are (e ∙ is)) (omega (arith, times_same b parked, once b)))
 
@@ -60,12 +60,12 @@ unpark_allowed most place parked parking are once lt = goes (get_or parking plac
     goes None e = omega (arith, not_full parking place (omega (arith, are.length_is)) e, are.length_is, are.counts (λ x. true), count_all parked)
     goes (Some u) e = (
       among_times u parked (omega (arith, times_same u parked, stands_once most place u parked parking are e)),
-      omega (arith, left_count most place parked parking are once (λ x. true) (Some u) e, count_all (quarantine.without (Some u) parked), are.counts (λ x. true), count_most parking, are.length_is),
+      omega (arith, left_count most place parked parking are once (λ x. true) (Some u) e, count_all (without_option (Some u) parked), are.counts (λ x. true), count_most parking, are.length_is),
     )
 
 -- a slab goes to a place, and what stood there leaves
 parks_at : (most place m : ℕ) (parked : List ℕ) (parking : List (Option ℕ)) → AreParked most parked parking → ((n : ℕ) → times n parked ≤ 1) → place < most
-    → AreParked most (m ∷ quarantine.without (get_or parking place None) parked) (set parking place (Some m))
+    → AreParked most (m ∷ without_option (get_or parking place None) parked) (set parking place (Some m))
 parks_at most place m parked parking are once lt =
     let within : place < length parking = omega (arith, are.length_is) in
     record {
@@ -98,8 +98,8 @@ released_parked (Some b) s = refl
 
 -- the parked slabs after a retirement and an unparking
 abbrev parked_with : Option ℕ → Option ℕ → List ℕ → List ℕ
-parked_with None unparked parked = quarantine.without unparked parked
-parked_with (Some m) unparked parked = m ∷ quarantine.without unparked parked
+parked_with None unparked parked = without_option unparked parked
+parked_with (Some m) unparked parked = m ∷ without_option unparked parked
 
 out_parked : (p : Shape) (s : State) (r q u : Option ℕ) → (purges p q (retires r (unparks u s))).parked ≡ parked_with r u s.parked
 out_parked p s None None None = refl
@@ -114,9 +114,9 @@ out_parked p s (Some r) (Some q) (Some u) = refl
 -- a retirement parks, and without one the parked slabs stay
 retired_parks : (most place : ℕ) (retired unparked : Option ℕ) (parked : List ℕ) (parking : List (Option ℕ)) → AreParked most parked parking → ((n : ℕ) → times n parked ≤ 1) → place < most
     → unparked ≡ unparked_by retired (get_or parking place None) → AreParked most (parked_with retired unparked parked) (parking_with place retired parking)
-retired_parks most place None unparked parked parking are once lt e = subst (λ (o : Option ℕ). AreParked most (quarantine.without o parked) parking) (sym e) are
+retired_parks most place None unparked parked parking are once lt e = subst (λ (o : Option ℕ). AreParked most (without_option o parked) parking) (sym e) are
 retired_parks most place (Some m) unparked parked parking are once lt e =
-    subst (λ (o : Option ℕ). AreParked most (m ∷ quarantine.without o parked) (set parking place (Some m))) (sym e) (parks_at most place m parked parking are once lt)
+    subst (λ (o : Option ℕ). AreParked most (m ∷ without_option o parked) (set parking place (Some m))) (sym e) (parks_at most place m parked parking are once lt)
 
 parked_moved : (most : ℕ) (parked parked' : List ℕ) (parking : List (Option ℕ)) → parked' ≡ parked → AreParked most parked parking → AreParked most parked' parking
 parked_moved most parked parked' parking e are = subst (λ (l : List ℕ). AreParked most l parking) (sym e) are

@@ -1,8 +1,8 @@
 -- What the frees of a legal and drawn history hold in quarantine.
 use Rattle.std.proofs.Common.{◌≡◌, ℕ, ◌+◌, ◌≤◌, ◌==◌, Bool, true, false, List, [], ◌∷◌, length, take, Option, Some, None, IfSome, sym, ◌∙◌, ap, subst, refl, arith}
+use Rattle.hm_outside.specs.Members.{without_option}
 use Rattle.hm_quarantine.specs.Quarantine.{Kept, IsArrayPlace, goes_on, let_go, kept_with}
 use Rattle.hm_quarantine.specs.LookingBack.{Free, released, ArePlaces, kept_after}
-use Rattle.hm_quarantine.specs.Delay as quarantine
 use Rattle.hm_quarantine.specs.Delay.{slots_of, held, AreNew, IsDelayed}
 use Rattle.hm_quarantine.proofs.Counts as counted
 use Rattle.hm_quarantine.proofs.Counts.{one_of, count, count_in, count_array, count_empty, count_ring, count_without, once_more, self_is}
@@ -44,7 +44,7 @@ live_apart p s a sound is = among_none a s.held (omega (arith, sound.once a, has
 pub is_new : (p : Shape) (s : State) (frees : List Free) (a : ℕ) (d : Draws) → IsSound p s → AreHeld p frees s.held s.frees → is_live s a ≡ true → AreNew p.array p.ring (free_at p d a ∷ frees)
 is_new p s frees a d sound are is = (ap (λ (l : List ℕ). among a l) (sym are.held_is) ∙ live_apart p s a sound is, are.new)
 
-released_held : (o : Option ℕ) (s : State) → (releases o s).held ≡ quarantine.without o s.held
+released_held : (o : Option ℕ) (s : State) → (releases o s).held ≡ without_option o s.held
 released_held None s = refl
 released_held (Some b) s = refl
 
@@ -68,8 +68,8 @@ held_next t s frees d before now c (GiveBack a stated) Freed sound allows drawn 
     let p : Shape = t.shape in
     let s₂ : State = releases c.released (takes_back p a s) in
     record {
-      held_is = out_held p s₂ c.retired c.purged c.unparked ∙ released_held c.released (takes_back p a s) ∙ ap (λ (o : Option ℕ). quarantine.without o (a ∷ s.held)) drawn
-          ∙ ap (λ (l : List ℕ). quarantine.without (released p.array p.ring frees (free_at p d a)) (a ∷ l)) are.held_is;
+      held_is = out_held p s₂ c.retired c.purged c.unparked ∙ released_held c.released (takes_back p a s) ∙ ap (λ (o : Option ℕ). without_option o (a ∷ s.held)) drawn
+          ∙ ap (λ (l : List ℕ). without_option (released p.array p.ring frees (free_at p d a)) (a ∷ l)) are.held_is;
       frees_is = out_frees p s₂ c.retired c.purged c.unparked ∙ released_frees c.released (takes_back p a s) ∙ ap (λ (l : List ℕ). a ∷ l) are.frees_is;
       new = is_new p s frees a d sound are allows.block.live;
     }
@@ -78,12 +78,12 @@ held_next t s frees d before now c call reply sound allows drawn are = are
 
 -- what the next free releases may be released
 releases_by : (p : Shape) (s : State) (o : Option ℕ) (frees : List Free) (free : Free) → AreHeld p frees s.held s.frees → IfSome o (IsDelayed p.array p.ring frees free)
-    → length (quarantine.without o (free.slot ∷ held p.array p.ring frees)) ≤ p.array + p.ring → Releases p (takes_back p free.slot s) o
+    → length (without_option o (free.slot ∷ held p.array p.ring frees)) ≤ p.array + p.ring → Releases p (takes_back p free.slot s) o
 releases_by p s None frees free are late few = subst (λ (l : List ℕ). length (free.slot ∷ l) ≤ p.array + p.ring) (sym are.held_is) few
 releases_by p s (Some b) frees free are late few = (
   ap (λ (l : List ℕ). among b (free.slot ∷ l)) are.held_is ∙ late.was_held,
   ap (λ (l : List ℕ). among b (take (delay p) (free.slot ∷ l))) are.frees_is ∙ late.late,
-  subst (λ (l : List ℕ). length (quarantine.without (Some b) (free.slot ∷ l)) ≤ p.array + p.ring) (sym are.held_is) few,
+  subst (λ (l : List ℕ). length (without_option (Some b) (free.slot ∷ l)) ≤ p.array + p.ring) (sym are.held_is) few,
 )
 
 pub release_allowed : (p : Shape) (s : State) (frees : List Free) (kept : Kept) (a place : ℕ) → IsSound p s → AreHeld p frees s.held s.frees → ArePlaces p.array frees → kept ≡ kept_after p.array p.ring frees → is_live s a ≡ true
@@ -127,7 +127,7 @@ counted_next n size past free places new before = record {
           ap (λ (o : Option ℕ). one_of f o) (looks_back n size past free places),
         )
 
-    left : (f : ℕ → Bool) → count f (quarantine.without out (free.slot ∷ held n size past)) + one_of f out ≡ count f (free.slot ∷ held n size past)
+    left : (f : ℕ → Bool) → count f (without_option out (free.slot ∷ held n size past)) + one_of f out ≡ count f (free.slot ∷ held n size past)
     left f = count_without f out (free.slot ∷ held n size past)
         (λ b is. only_one _ (omega (arith, entered (λ x. x == b), ap (λ (o : Option ℕ). one_of (λ x. x == b) o) is, self_is b)) (once_more b free.slot (held n size past) new.0 (before.once b)))
 

@@ -5,11 +5,11 @@ use Rattle.std.specs.Bool.{MatchBool}
 use Rattle.std.specs.Option.{IfSome}
 use Rattle.std.proofs.lemmas.Bool.{cases_eq, cases_Bool}
 use Rattle.std.proofs.lemmas.Option.{same_Some}
+use Rattle.hm_outside.specs.Members.{without_option}
 use Rattle.hm_choice.specs.Stream.{Words, next_word, after_word, drawn}
 use Rattle.hm_model.specs.Maps.{at, removed, keys, among}
 use Rattle.hm_model.proofs.Lists.{same_eq, other_eq, keys_removed, has_keys}
 use Rattle.hm_quarantine.specs.Delay.{held, AreNew, IsDelayed}
-use Rattle.hm_quarantine.specs.Delay as late
 use Rattle.hm_quarantine.specs.LookingBack.{Free, released, ArePlaces, kept_after}
 use Rattle.hm_quarantine.specs.Quarantine.{Kept, let_go, kept_with}
 use Rattle.hm_quarantine.proofs.Ages.{delays, holds_few}
@@ -186,13 +186,13 @@ module _ (c : Config) (n : ℕ) (s : State) (k : Store) (a word : ℕ) (x : Bloc
       → ReleasesFrom (record s { live = removed a s.live; held = (a, x) ∷ s.held; frees = free_of a word ∷ s.frees }) r
       × (keys (releases r (record s { live = removed a s.live; held = (a, x) ∷ s.held; frees = free_of a word ∷ s.frees })).held ≡ held array_length ring_length (free_of a word ∷ s.frees))
   release_ok None sound e h lt is =
-      let same : a ∷ held array_length ring_length s.frees ≡ held array_length ring_length (free_of a word ∷ s.frees) = sym (ap (λ o. late.without o (a ∷ held array_length ring_length s.frees)) is) in
+      let same : a ∷ held array_length ring_length s.frees ≡ held array_length ring_length (free_of a word ∷ s.frees) = sym (ap (λ o. without_option o (a ∷ held array_length ring_length s.frees)) is) in
       let all = keys_pushed h ∙ same in
       let few = holds_few array_length ring_length (free_of a word ∷ s.frees) (places_more h lt) (new_more sound e h) in
       (omega (arith, few, ap length all, length_keys ((a, x) ∷ s.held)), all)
   release_ok (Some b) sound e h lt is =
-      let same : late.without (Some b) (a ∷ held array_length ring_length s.frees) ≡ held array_length ring_length (free_of a word ∷ s.frees) = sym (ap (λ o. late.without o (a ∷ held array_length ring_length s.frees)) is) in
-      let all : keys (removed b ((a, x) ∷ s.held)) ≡ held array_length ring_length (free_of a word ∷ s.frees) = keys_removed b ((a, x) ∷ s.held) ∙ (ap (late.without (Some b)) (keys_pushed h) ∙ same) in
+      let same : without_option (Some b) (a ∷ held array_length ring_length s.frees) ≡ held array_length ring_length (free_of a word ∷ s.frees) = sym (ap (λ o. without_option o (a ∷ held array_length ring_length s.frees)) is) in
+      let all : keys (removed b ((a, x) ∷ s.held)) ≡ held array_length ring_length (free_of a word ∷ s.frees) = keys_removed b ((a, x) ∷ s.held) ∙ (ap (without_option (Some b)) (keys_pushed h) ∙ same) in
       let few = holds_few array_length ring_length (free_of a word ∷ s.frees) (places_more h lt) (new_more sound e h) in
       let delayed : IsDelayed array_length ring_length s.frees (free_of a word) b = subst (λ o. IfSome o (IsDelayed array_length ring_length s.frees (free_of a word))) is (delays array_length ring_length s.frees (free_of a word) (places_more h lt) (new_more sound e h)) in
       ((has_keys b ((a, x) ∷ s.held) ∙ (ap (among b) (keys_pushed h) ∙ delayed.was_held), delayed.late, omega (arith, few, ap length all, length_keys (removed b ((a, x) ∷ s.held)))), all)

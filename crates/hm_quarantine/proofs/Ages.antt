@@ -4,7 +4,8 @@ use Rattle.std.specs.Bool.{⊤}
 use Rattle.std.proofs.lemmas.Bool.Decides.{nat_tests}
 use Rattle.hm_quarantine.specs.Quarantine.{Kept, IsArrayPlace, goes_on, ring_with, goes_out, let_go, kept_with}
 use Rattle.hm_quarantine.specs.LookingBack.{Free, ArePlaces, kept_after}
-use Rattle.hm_quarantine.specs.Delay.{among, without, slots_of, held, AreNew, IsDelayed, Delays, HoldsFew}
+use Rattle.hm_outside.specs.Members.{among, without_option}
+use Rattle.hm_quarantine.specs.Delay.{slots_of, held, AreNew, IsDelayed, Delays, HoldsFew}
 use Rattle.hm_quarantine.proofs.Rings.{Takes, Room, Full, HasRoom, IsFull, takes}
 use Rattle.hm_quarantine.proofs.Passes.{length_array, length_is, looks_back, on_with}
 use Rattle.hm_quarantine.proofs.Counts.{one_of, count, count_in, times, count_array, count_empty, count_ring, count_without, among_one, among_none, none_among, once_more, self_is, count_at, count_all, count_most}
@@ -151,7 +152,7 @@ was_counted n hold frees k out free b e =
 least_most : (a : ℕ) → 1 ≤ a → a ≤ 1 → a ≡ 1
 least_most a low high = omega arith
 
-fine_after : (n : ℕ) (hold frees : List ℕ) (k : Kept) (out : Option ℕ) → Freed n hold frees k out → Fine n (without out hold) frees k
+fine_after : (n : ℕ) (hold frees : List ℕ) (k : Kept) (out : Option ℕ) → Freed n hold frees k out → Fine n (without_option out hold) frees k
 fine_after n hold frees k out free = record {
   counts = λ t. omega (arith, free.counts t, left t);
   once = λ a. omega (arith, free.once a, left (λ x. x == a));
@@ -159,7 +160,7 @@ fine_after n hold frees k out free = record {
   few = free.ring.few;
 }
   where
-    left : (t : ℕ → Bool) → count t (without out hold) + one_of t out ≡ count t hold
+    left : (t : ℕ → Bool) → count t (without_option out hold) + one_of t out ≡ count t hold
     left t = count_without t out hold (λ b e. least_most (times b hold) (was_counted n hold frees k out free b e) (free.once b))
 
 abbrev freed_by : ℕ → ℕ → List Free → Free → Type 0
@@ -169,7 +170,7 @@ freed_by n size past free =
 all_fine : (n size : ℕ) (past : List Free) → ArePlaces n past → AreNew n size past → Fine n (held n size past) (slots_of past) (kept_after n size past)
 all_fine n size [] places new = record { counts = λ t. omega (arith, count_empty t n); once = λ a. omega arith; ages = tt; few = omega arith }
 all_fine n size (free ∷ past) places new =
-    subst (λ (o : Option ℕ). Fine n (without o (free.slot ∷ held n size past)) (slots_of (free ∷ past)) (kept_after n size (free ∷ past)))
+    subst (λ (o : Option ℕ). Fine n (without_option o (free.slot ∷ held n size past)) (slots_of (free ∷ past)) (kept_after n size (free ∷ past)))
     (looks_back n size past free places)
     (fine_after n (free.slot ∷ held n size past) (slots_of (free ∷ past)) (kept_after n size (free ∷ past)) (let_go (kept_after n size past) free.slot free.place)
     (freed n free.slot free.place (held n size past) (slots_of past) (kept_after n size past) (length_array n size past) places.0 new.0 (all_fine n size past places.1 new.1)))

@@ -1,10 +1,9 @@
 -- How many slots of a kind stand in the array, in the ring, and in a list.
 use Rattle.std.proofs.Common.{◌≡◌, ℕ, zero, suc, ◌+◌, ◌<◌, ◌≤◌, ◌==◌, Bool, true, false, cond, ◌||◌, List, [], ◌∷◌, ◌++◌, length, replicate, get_or, set, Option, Some, None, ap, refl, arith, true≢false}
 use Rattle.std.specs.Prelude.{not}
-use Rattle.std.specs.List.{filter}
 use Rattle.std.proofs.lemmas.Bool.{eqb-true, eq-eqb}
 use Rattle.hm_quarantine.specs.Quarantine.{IsArrayPlace, goes_on, ring_with, goes_out}
-use Rattle.hm_quarantine.specs.Delay.{among, without}
+use Rattle.hm_outside.specs.Members.{among, without, without_option}
 use Rattle.hm_quarantine.proofs.Rings.{Takes, Room, Full, HasRoom, IsFull, takes}
 
 abbrev pub one : (ℕ → Bool) → ℕ → ℕ
@@ -60,24 +59,24 @@ count_ring t size ring (Some x) le = goes (takes size x ring le)
     goes (Full y rest grown long is) = full y rest grown is
 
 -- a list without a slot that does not stand in it
-count_same : (t : ℕ → Bool) (b : ℕ) (xs : List ℕ) → times b xs ≡ 0 → count t (filter (λ x. not (x == b)) xs) ≡ count t xs
+count_same : (t : ℕ → Bool) (b : ℕ) (xs : List ℕ) → times b xs ≡ 0 → count t (without b xs) ≡ count t xs
 count_same t b [] e = refl
 count_same t b (x ∷ xs) e =
-    elim (x == b) as (λ c. cond c 1 0 + times b xs ≡ 0 → count t (cond (not c) (x ∷ filter (λ x. not (x == b)) xs) (filter (λ x. not (x == b)) xs)) ≡ one t x + count t xs) [
+    elim (x == b) as (λ c. cond c 1 0 + times b xs ≡ 0 → count t (cond (not c) (x ∷ without b xs) (without b xs)) ≡ one t x + count t xs) [
       | true ↦ λ h. absurd (omega (arith, h))
       | false ↦ λ h. omega (arith, count_same t b xs (omega (arith, h)))
     ] e
 
 -- a list without a slot that stands in it once
-count_removed : (t : ℕ → Bool) (b : ℕ) (xs : List ℕ) → times b xs ≡ 1 → count t (filter (λ x. not (x == b)) xs) + one t b ≡ count t xs
+count_removed : (t : ℕ → Bool) (b : ℕ) (xs : List ℕ) → times b xs ≡ 1 → count t (without b xs) + one t b ≡ count t xs
 count_removed t b [] e = absurd (omega (arith, e))
 count_removed t b (x ∷ xs) e =
-    elim (x == b) as (λ c. (x == b) ≡ c → cond c 1 0 + times b xs ≡ 1 → count t (cond (not c) (x ∷ filter (λ x. not (x == b)) xs) (filter (λ x. not (x == b)) xs)) + one t b ≡ one t x + count t xs) [
+    elim (x == b) as (λ c. (x == b) ≡ c → cond c 1 0 + times b xs ≡ 1 → count t (cond (not c) (x ∷ without b xs) (without b xs)) + one t b ≡ one t x + count t xs) [
       | true ↦ λ is h. omega (arith, ap (λ (n : ℕ). one t n) (eqb-true x b is), count_same t b xs (omega (arith, h)))
       | false ↦ λ is h. omega (arith, count_removed t b xs (omega (arith, h)))
     ] refl e
 
-pub count_without : (t : ℕ → Bool) (o : Option ℕ) (xs : List ℕ) → ((b : ℕ) → o ≡ Some b → times b xs ≡ 1) → count t (without o xs) + one_of t o ≡ count t xs
+pub count_without : (t : ℕ → Bool) (o : Option ℕ) (xs : List ℕ) → ((b : ℕ) → o ≡ Some b → times b xs ≡ 1) → count t (without_option o xs) + one_of t o ≡ count t xs
 count_without t None xs h = omega arith
 count_without t (Some b) xs h = count_removed t b xs (h b refl)
 

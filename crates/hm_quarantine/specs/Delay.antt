@@ -1,16 +1,7 @@
 -- How long a freed slot stays in quarantine. `array` and `ring` are the lengths of the two.
-use Rattle.std.specs.Prelude.{◌≡◌, ℕ, ◌+◌, ◌≤◌, ◌==◌, min, not, Bool, true, false, List, [], ◌∷◌, map, length, take, Option, Some, None, IfSome}
-use Rattle.std.specs.List.{list_any, filter}
+use Rattle.std.specs.Prelude.{◌≡◌, ℕ, ◌+◌, ◌≤◌, min, true, false, List, [], ◌∷◌, map, length, take, IfSome}
+use Rattle.hm_outside.specs.Members.{among, without_option}
 use Rattle.hm_quarantine.specs.LookingBack.{Free, released, ArePlaces}
-
--- whether a slot stands in the list
-abbrev pub among : ℕ → List ℕ → Bool
-among slot slots = list_any (λ x. x == slot) slots
-
--- the list without what is released
-abbrev pub without : Option ℕ → List ℕ → List ℕ
-without None slots = slots
-without (Some slot) slots = filter (λ x. not (x == slot)) slots
 
 abbrev pub slots_of : List Free → List ℕ
 slots_of past = map (λ (free : Free). free.slot) past
@@ -18,7 +9,7 @@ slots_of past = map (λ (free : Free). free.slot) past
 -- the slots in quarantine after these frees: each free brings its slot, and what it releases goes
 abbrev pub held : ℕ → ℕ → List Free → List ℕ
 held array ring [] = []
-held array ring (free ∷ past) = without (released array ring past free) (free.slot ∷ held array ring past)
+held array ring (free ∷ past) = without_option (released array ring past free) (free.slot ∷ held array ring past)
 
 -- no free is of a slot that is in quarantine
 abbrev pub AreNew : ℕ → ℕ → List Free → Type 0

@@ -1,6 +1,7 @@
 -- Names, and the addresses that they hold.
-use Rattle.std.specs.Prelude.{◌≡◌, ℕ, Bool, true, false, ◌||◌, if◌then◌else◌, List, [], ◌∷◌, Option, Some, None, is_some, IfSome, Vec}
+use Rattle.std.specs.Prelude.{◌≡◌, ℕ, Bool, true, false, ◌||◌, if◌then◌else◌, List, [], ◌∷◌, Option, None, is_some, IfSome, Vec}
 use Rattle.std.specs.List.{list_any}
+use Rattle.std.specs.Map.{lookup}
 use Rattle.std.specs.Option.{option_map_or}
 use Rattle.std.specs.declared.alloc.Global.{Global}
 use Rattle.hm_trace.specs.declared.names.Name.{Name}
@@ -51,8 +52,7 @@ touched_all touched steps name = touched name || list_any (sets_name name) steps
 -- ---- names as they are kept
 -- what is kept for each name
 abbrev pub held : {X : Type 0} → List (Name × X) → List ℕ → Option X
-held [] name = None
-held (e ∷ entries) name = if is_word name (name_view e.0) then Some e.1 else held entries name
+held entries name = lookup (λ key. is_word name (name_view key)) entries
 
 -- ---- the names as one script of a round sees them
 -- those of the round, and what the script has set or unset

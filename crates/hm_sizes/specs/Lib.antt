@@ -2,6 +2,7 @@ pub mod Classes
 pub mod Sizes
 pub mod Aligned
 pub mod Configs
+pub mod Guards
 pub mod Shapes
 pub mod Homes
 pub mod Laws

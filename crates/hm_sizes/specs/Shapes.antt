@@ -4,6 +4,7 @@ use Rattle.hm_sizes.specs.declared.config.Config.{Config}
 use Rattle.hm_sizes.specs.declared.class.ClassId.{ClassId}
 use Rattle.hm_sizes.specs.declared.shape.Shape.{Shape}
 use Rattle.hm_sizes.specs.Classes.{class_count, slot_size, slot_count, slab_size, quarantine_length}
+use Rattle.hm_sizes.specs.Guards as guards
 
 -- where the large space begins, past the spaces of all class regions
 abbrev pub large_start : ℕ
@@ -69,12 +70,12 @@ slab_at p n = p.first + n * p.slab
 abbrev pub place : Shape → ℕ → ℕ → ℕ
 place p n i = slab_at p n + i * p.slot
 
--- every so many-th slab is a guard and never used
+-- a guard slab is never used
 abbrev pub IsGuard : Shape → ℕ → Type 0
 IsGuard p n = n % (p.guard_interval + 1) ≡ p.guard_interval
 
 abbrev pub is_guard : Shape → ℕ → Bool
-is_guard p n = (n % (p.guard_interval + 1)) == p.guard_interval
+is_guard p n = guards.is_guard p.guard_interval n
 
 -- the address is that of slot i of slab n, which is no guard
 pub record IsPlaceOf (p : Shape) (a n i : ℕ) : Type 0 where
@@ -99,7 +100,7 @@ IsPlace p a = is_slot p a (slab_of p a) (slot_of p a) ≡ true
 
 -- the least number above n that is no guard
 abbrev pub after : Shape → ℕ → ℕ
-after p n = if is_guard p (n + 1) then n + 2 else n + 1
+after p n = guards.after p.guard_interval n
 
 -- the slab and the slot of an address: None exactly where it is no place
 abbrev pub PlaceGives : Shape → ℕ → Option (ℕ × ℕ) → Type 0

@@ -1,6 +1,5 @@
 pub mod ByNumber
 pub mod Joining
-pub mod Members
 pub mod Neighbours
 pub mod Numbering
 pub mod Places

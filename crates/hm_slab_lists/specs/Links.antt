@@ -1,5 +1,5 @@
 -- The links of slabs, and the lists that they make.
-use Rattle.std.specs.Prelude.{◌≡◌, ℕ, zero, suc, ◌<◌, true, false, List, [], ◌∷◌, length, map, Option, Some, None, option_map, slice_get, slice_index_or, slice_set}
+use Rattle.std.specs.Prelude.{◌≡◌, ℕ, zero, suc, ◌<◌, true, List, [], ◌∷◌, length, map, Option, Some, None, option_map, slice_get, slice_index_or, slice_set}
 use Rattle.hm_slab_meta.specs.Uses.{SlabUse}
 use Rattle.hm_slab_lists.specs.declared.ends.Ends.{Ends}
 use Rattle.hm_slab_lists.specs.declared.ends.AllEnds.{AllEnds}
@@ -7,7 +7,8 @@ use Rattle.hm_slab_lists.specs.declared.slab.Link.{Link}
 use Rattle.hm_slab_lists.specs.declared.slab.Slab.{Slab}
 use Rattle.hm_slab_lists.specs.declared.slab.ListName.{ListName}
 use Rattle.hm_slab_lists.specs.Ends.{ends_in}
-use Rattle.hm_slab_lists.specs.Lists.{Lists, among, list_in}
+use Rattle.hm_outside.specs.Members.{among, AreDistinct}
+use Rattle.hm_slab_lists.specs.Lists.{Lists, list_in}
 
 abbrev pub Links : Type 0
 Links = List (Option Link)
@@ -85,10 +86,6 @@ Linked links list previous last [] = last ≡ previous
 Linked links list previous last (x ∷ xs) =
     (slice_get links x ≡ Some (Some (record { list = list; previous = previous; next = front xs })))
     × Linked links list (Some x) last xs
-
-abbrev pub AreDistinct : List ℕ → Type 0
-AreDistinct [] = Unit {0}
-AreDistinct (x ∷ xs) = (among x xs ≡ false) × AreDistinct xs
 
 -- the links and the ends say that this is the list
 pub record IsChain (links : Links) (list : ListName) (ends : Ends) (xs : List ℕ) : Type 0 where

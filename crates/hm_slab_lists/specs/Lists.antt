@@ -1,6 +1,6 @@
 -- Four lists of slabs.
-use Rattle.std.specs.Prelude.{◌≡◌, ℕ, ◌==◌, Bool, false, not, ◌||◌, if◌then◌else◌, List, [], ◌∷◌, ◌++◌}
-use Rattle.std.specs.List.{list_any, filter}
+use Rattle.std.specs.Prelude.{◌≡◌, ℕ, Bool, false, ◌||◌, if◌then◌else◌, List, [], ◌∷◌, ◌++◌}
+use Rattle.hm_outside.specs.Members.{among, without}
 use Rattle.hm_slab_lists.specs.declared.slab.ListName.{ListName}
 use Rattle.hm_slab_lists.specs.declared.slab.ListName.TheVariants.{Partial, Empty, Full, Retired}
 
@@ -10,14 +10,6 @@ pub record Lists : Type 0 where
   pub empty : List ℕ
   pub full : List ℕ
   pub retired : List ℕ
-
--- whether slab n is in the list
-abbrev pub among : ℕ → List ℕ → Bool
-among n list = list_any (λ m. m == n) list
-
--- the list without slab n
-abbrev pub without : ℕ → List ℕ → List ℕ
-without n list = filter (λ m. not (m == n)) list
 
 abbrev pub no_lists : Lists
 no_lists = record { partial = []; empty = []; full = []; retired = [] }
