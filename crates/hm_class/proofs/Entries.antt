@@ -36,15 +36,14 @@ use Rattle.hm_class_rules.proofs.NextEntry.{lists_are_kept, drawn_is_allowed, on
 use Rattle.hm_class_rules.proofs.Alike.{drawn_is_stepped}
 use Rattle.hm_class.specs.declared.access.Fetched.{Fetched}
 use Rattle.hm_class.specs.declared.access.Fetched.TheVariants.{Bytes, Trap}
-use Rattle.hm_class.specs.Access.{trap_in, Fetches, IsFetched, FetchTraps, Fills, FillTraps, RepliesTo}
-use Rattle.hm_class.specs.Calls.{ReplyTraps}
+use Rattle.hm_class.specs.Access.{trap_in, Fetches, IsFetched, FetchTraps, Fills, RepliesTo}
 use Rattle.hm_class.specs.declared.outcome.Outcome.{Outcome}
 use Rattle.hm_class.specs.declared.outcome.Outcome.TheVariants as outcome
 use Rattle.hm_class.specs.Slabs.{Slabs, SameLists}
 use Rattle.hm_class.specs.Uses.{Uses, kind_at, canary_at, live_count}
 use Rattle.hm_class.specs.Region.{Region, IsRegion, IsTakenBack, HoldsSlabs, region_shape, region_state, terms}
 use Rattle.hm_model.specs.Calls.{Adds, no_choices, entry_of, no_words}
-use Rattle.hm_model.specs.Replies.{IsClassReply, IsFetchReply}
+use Rattle.hm_model.specs.Replies.{IsClassReply, IsFetchReply, ReplyTraps}
 use Rattle.hm_class.specs.Outcomes.{reply_of}
 use Rattle.hm_class.specs.Judgements.{Refusals, RefusesCanary, Measures, other_number}
 use Rattle.hm_class.specs.Kept.{Shows, Follows, IsServed, IsKept, terms_of, cells_of, identity, store}
@@ -135,21 +134,6 @@ trap_of_region meaning r old p k stream quarantine parking a len view class kept
 pub fetch_traps : (found : Option ℕ) (a : ℕ) (fetched : Fetched) (r : Reply) → FetchTraps found a fetched → RepliesTo fetched r → ReplyTraps found a r
 fetch_traps found a (Bytes read) r is replies = subst (λ (x : Reply). ReplyTraps found a x) (sym replies.1) is
 fetch_traps found a (Trap q) r is replies = subst (λ (x : Reply). ReplyTraps found a x) (sym replies) is
-
-pub fill_traps : (found : Option ℕ) (a : ℕ) (o : Outcome) → FillTraps found a o → ReplyTraps found a (reply_of o)
-fill_traps found a (outcome.Trap q) is = is
-fill_traps found a (outcome.Given addr size) is = tt
-fill_traps found a (outcome.Overwritten addr at found_byte) is = tt
-fill_traps found a outcome.Exhausted is = tt
-fill_traps found a outcome.PagesFailed is = tt
-fill_traps found a outcome.Freed is = tt
-fill_traps found a outcome.NoSlot is = tt
-fill_traps found a outcome.Unused is = tt
-fill_traps found a outcome.DoubleFree is = tt
-fill_traps found a (outcome.WrongSize block stated) is = tt
-fill_traps found a (outcome.Canary kept_one other) is = tt
-fill_traps found a (outcome.Usable size) is = tt
-fill_traps found a outcome.Filled is = is
 
 -- the reply to a fetch
 pub fetch_reply : (a len : ℕ) (fetched : Fetched) (r : Reply) → IsFetched a len fetched → RepliesTo fetched r → IsFetchReply a len r

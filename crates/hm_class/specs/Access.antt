@@ -1,5 +1,6 @@
 -- What reading and writing a range comes to.
-use Rattle.std.specs.Prelude.{◌≡◌, ℕ, zero, suc, ◌+◌, nat_lt, Bool, IsTrue, not, ◌&&◌, if◌then◌else◌, List, length, Option, Some, None, unwrap_or, ⊤}
+use Rattle.std.specs.Prelude.{◌≡◌, ℕ, nat_lt, Bool, IsTrue, not, ◌&&◌, List, length, Option, Some, None, unwrap_or}
+use Rattle.hm_model.specs.Ranges.{first_failing}
 use Rattle.hm_model.specs.Replies.{IsWithin}
 use Rattle.hm_model.specs.Runs.{expand}
 use Rattle.hm_model.specs.declared.entry.Reply.{Reply}
@@ -23,8 +24,7 @@ is_accessible p uses q = has_bytes p && (not (nat_lt q p.first) && open_at uses 
 
 -- the first of len addresses from a on that is not accessible
 abbrev pub trap_in : Shape → Uses → ℕ → ℕ → Option ℕ
-trap_in p uses a zero = None
-trap_in p uses a (suc len) = if is_accessible p uses a then trap_in p uses (a + 1) len else Some a
+trap_in p uses a len = first_failing (is_accessible p uses) a len
 
 -- reading gives the bytes of the state, or the first address that is not accessible
 abbrev pub Fetches : Bool → PageRuns → Shape → Uses → ℕ → ℕ → Fetched → Type 0
@@ -44,11 +44,6 @@ IsFetched a len (Trap q) = IsWithin a len q
 abbrev pub FetchTraps : Option ℕ → ℕ → Fetched → Type 0
 FetchTraps found a (Trap q) = q ≡ unwrap_or found a
 FetchTraps found a (Bytes read) = found ≡ None
-
-abbrev pub FillTraps : Option ℕ → ℕ → Outcome → Type 0
-FillTraps found a (outcome.Trap q) = q ≡ unwrap_or found a
-FillTraps found a outcome.Filled = found ≡ None
-FillTraps found a other = ⊤
 
 -- writing changes the bytes of the state, or nothing and names the first address that is not accessible
 abbrev pub Fills : Bool → PageRuns → PageRuns → Shape → Uses → ℕ → List ℕ → Outcome → Type 0

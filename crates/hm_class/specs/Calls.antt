@@ -1,22 +1,15 @@
 -- What the calls of a class region change.
-use Rattle.std.specs.Prelude.{◌≡◌, ℕ, Bool, [], Option, None, unwrap_or, ⊤}
+use Rattle.std.specs.Prelude.{◌≡◌, ℕ, Bool, []}
 use Rattle.hm_outside.specs.declared.pages.Pages as pages
 use Rattle.hm_model.specs.Calls.{Adds}
 use Rattle.hm_model.specs.declared.entry.Who.{Who}
 use Rattle.hm_model.specs.declared.entry.Call.{Call}
 use Rattle.hm_model.specs.declared.entry.Reply.{Reply}
-use Rattle.hm_model.specs.declared.entry.Reply.TheVariants.{Bytes, Filled, Trap}
+use Rattle.hm_model.specs.Replies.{ReplyTraps}
 use Rattle.hm_sizes.specs.declared.class.ClassId.{ClassId}
 use Rattle.hm_sizes.specs.declared.config.Config.{Config}
 use Rattle.hm_class_rules.specs.Bytes.{first_trap}
 use Rattle.hm_class.specs.Region.{Region, region_shape, region_state}
-
--- nothing is read or written where an address was found; a trap is at that address, or else at this one
-abbrev pub ReplyTraps : Option ℕ → ℕ → Reply → Type 0
-ReplyTraps found addr (Trap q) = q ≡ unwrap_or found addr
-ReplyTraps found addr (Bytes runs) = found ≡ None
-ReplyTraps found addr Filled = found ≡ None
-ReplyTraps found addr reply = ⊤
 
 module _ {P : Type 0} where
   -- exactly the entry of this call was added, with the counts of the pages at the call's start and end

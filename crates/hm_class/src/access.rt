@@ -1,11 +1,11 @@
 //! The bytes of open slabs: which addresses are accessible, reading and writing. Neither looks at slots.
 ghost use Rattle.std.specs.Prelude.{◌≡◌, ◌+◌, ◌<◌, ◌≤◌, ◌^◌, Some, None, IsTrue, IsOk, IsSome, IfOk, IfSome, OnErr, MatchOption, length};
-ghost use Rattle.hm_model.specs.Replies.{IsFillReply};
+ghost use Rattle.hm_model.specs.Replies.{IsFillReply, ReplyTraps};
 ghost use Rattle.hm_model.specs.Runs.{expand};
 ghost use Rattle.hm_sizes.specs.Shapes.{IsShape, slab_at, slab_of};
 ghost use Rattle.hm_class_rules.specs.State.{State};
 ghost use Rattle.hm_class_rules.specs.Bytes.{first_trap, bytes_read, write};
-ghost use Rattle.hm_class.specs.Access.{is_accessible, trap_in, Fetches, IsFetched, FetchTraps, Fills, FillTraps, RepliesTo};
+ghost use Rattle.hm_class.specs.Access.{is_accessible, trap_in, Fetches, IsFetched, FetchTraps, Fills, RepliesTo};
 ghost use Rattle.hm_class.specs.Outcomes.{reply_of};
 ghost use Rattle.hm_class.specs.Region.{HoldsSlabs};
 
@@ -177,7 +177,8 @@ pub fn fill<P: Pages>(
     ensures count { P.faults pages.new ≡ P.faults pages.old }
     ensures filled { IfOk result (Fills (P.told pages.old) (P.runs pages.old) (P.runs pages.new) shape.now
         slabs.now.slabs addr (expand runs.now)) }
-    ensures trap { IfOk result (FillTraps (trap_in shape.now slabs.now.slabs addr (length (expand runs.now))) addr) }
+    ensures trap { IfOk result (λ outcome.
+        ReplyTraps (trap_in shape.now slabs.now.slabs addr (length (expand runs.now))) addr (reply_of outcome)) }
     ensures within { IfOk result (λ outcome. IsFillReply addr (length (expand runs.now)) (reply_of outcome)) }
     ensures memory { OnErr result (pages.new ≡ pages.old) }
     ensures enough { IsSome (trap_in shape.now slabs.now.slabs addr (length (expand runs.now))) → IsOk result }

@@ -1,10 +1,11 @@
 -- The bytes of a class region.
-use Rattle.std.specs.Prelude.{ℕ, zero, suc, unwrap_or, ◌+◌, ◌-◌, ◌%◌, ◌==◌, nat_lt, if◌then◌else◌, List, [], ◌∷◌, map, take, drop, slice_get, Option, Some, None, is_some}
+use Rattle.std.specs.Prelude.{ℕ, ◌+◌, ◌-◌, ◌%◌, ◌==◌, nat_lt, if◌then◌else◌, List, [], ◌∷◌, map, take, drop, slice_get, Option, Some, None}
 use Rattle.std.specs.Option.{option_and_then, option_map_or}
 use Rattle.std.specs.Int.{to_le_bytes, from_le_bytes}
 use mir.Syntax.{w64}
 use Rattle.hm_model.specs.Maps.{at}
 use Rattle.hm_model.specs.Overlaid.{overlaid}
+use Rattle.hm_model.specs.Ranges as ranges
 use Rattle.hm_class_rules.specs.State.{State, Slab}
 use Rattle.hm_sizes.specs.Shapes.{slab_at, slab_of, usable}
 use Rattle.hm_sizes.specs.declared.shape.Shape.{Shape}
@@ -17,13 +18,11 @@ byte_at p s q = if nat_lt q p.first then None
 
 -- the first of len addresses from a on that is not accessible
 abbrev pub first_trap : Shape → State → ℕ → ℕ → Option ℕ
-first_trap p s a zero = None
-first_trap p s a (suc len) = if is_some (byte_at p s a) then first_trap p s (a + 1) len else Some a
+first_trap p s a len = ranges.first_trap (byte_at p s) a len
 
 -- len bytes from a on
 abbrev pub bytes_read : Shape → State → ℕ → ℕ → List ℕ
-bytes_read p s a zero = []
-bytes_read p s a (suc len) = unwrap_or (byte_at p s a) 0 ∷ bytes_read p s (a + 1) len
+bytes_read p s a len = ranges.bytes_read (byte_at p s) a len
 
 -- the bytes of the slab of an address from that address on, as many as are asked for
 abbrev pub bytes_from : Shape → State → ℕ → ℕ → List ℕ

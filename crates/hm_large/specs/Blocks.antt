@@ -1,7 +1,8 @@
 -- Large blocks: where they and their guards lie, and their bytes.
-use Rattle.std.specs.Prelude.{ℕ, zero, suc, unwrap_or, ◌+◌, ◌-◌, ◌*◌, ◌/◌, nat_lt, nat_le, ◌&&◌, ◌||◌, ◌==◌, not, max, Bool, false, if◌then◌else◌, List, [], ◌∷◌, map, length, slice_get, Option, Some, None, is_some}
+use Rattle.std.specs.Prelude.{ℕ, ◌+◌, ◌-◌, ◌*◌, ◌/◌, nat_lt, nat_le, ◌&&◌, ◌||◌, ◌==◌, not, max, Bool, false, if◌then◌else◌, List, [], ◌∷◌, map, length, slice_get, Option, None}
 use Rattle.hm_choice.specs.Stream.{drawn}
 use Rattle.hm_model.specs.Overlaid.{overlaid}
+use Rattle.hm_model.specs.Ranges as ranges
 use Rattle.hm_outside.specs.PageRuns.{zeros}
 use Rattle.hm_sizes.specs.Sizes.{raised, large_size}
 
@@ -77,17 +78,11 @@ byte_at (e ∷ blocks) q = if nat_le e.0 q && nat_lt q (e.0 + length e.1.bytes) 
 
 -- the first of len addresses from a on that is not accessible
 abbrev pub first_trap : Blocks → ℕ → ℕ → Option ℕ
-first_trap blocks a zero = None
-first_trap blocks a (suc len) = if is_some (byte_at blocks a) then first_trap blocks (a + 1) len else Some a
-
--- where such a range traps that is not lent: there, or at its own address where all are accessible
-abbrev pub trap_in : Blocks → ℕ → ℕ → ℕ
-trap_in blocks a len = unwrap_or (first_trap blocks a len) a
+first_trap blocks a len = ranges.first_trap (byte_at blocks) a len
 
 -- len bytes from a on
 abbrev pub bytes_read : Blocks → ℕ → ℕ → List ℕ
-bytes_read blocks a zero = []
-bytes_read blocks a (suc len) = unwrap_or (byte_at blocks a) 0 ∷ bytes_read blocks (a + 1) len
+bytes_read blocks a len = ranges.bytes_read (byte_at blocks) a len
 
 -- ---- changes
 -- w is written from a on, where the block has bytes

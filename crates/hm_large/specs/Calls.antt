@@ -1,13 +1,13 @@
 -- What the calls of the large region change.
-use Rattle.std.specs.Prelude.{◌≡◌, ℕ, [], None, ⊤}
+use Rattle.std.specs.Prelude.{◌≡◌, ℕ, []}
 use Rattle.hm_model.specs.declared.entry.Who.{Who}
 use Rattle.hm_model.specs.declared.entry.Call.{Call}
 use Rattle.hm_model.specs.declared.entry.Reply.{Reply}
-use Rattle.hm_model.specs.declared.entry.Reply.TheVariants.{Bytes, Filled, Trap}
 use Rattle.hm_model.specs.Calls.{Adds}
+use Rattle.hm_model.specs.Replies.{ReplyTraps}
 use Rattle.hm_outside.specs.declared.pages.Pages as pages
 use Rattle.hm_sizes.specs.declared.config.Config.{Config}
-use Rattle.hm_large.specs.Blocks.{Blocks, first_trap, trap_in}
+use Rattle.hm_large.specs.Blocks.{Blocks, first_trap}
 use Rattle.hm_large.specs.Region.{Region}
 
 module _ {P : Type 0} where
@@ -25,7 +25,4 @@ module _ {P : Type 0} where
 
 -- where a trap comes, and that all is accessible where none does, whether the pages tell or not
 abbrev pub TrapsIn : Blocks → ℕ → ℕ → Reply → Type 0
-TrapsIn live addr len (Bytes runs) = first_trap live addr len ≡ None
-TrapsIn live addr len Filled = first_trap live addr len ≡ None
-TrapsIn live addr len (Trap q) = q ≡ trap_in live addr len
-TrapsIn live addr len reply = ⊤
+TrapsIn live addr len reply = ReplyTraps (first_trap live addr len) addr reply

@@ -1,6 +1,6 @@
 -- The replies that each call of a region may have, whatever its pages tell. Which of them comes is the rule of a legal
 -- history.
-use Rattle.std.specs.Prelude.{◌≡◌, ◌≢◌, ℕ, ◌+◌, ◌<◌, ◌≤◌, ◌^◌, length, ⊤}
+use Rattle.std.specs.Prelude.{◌≡◌, ◌≢◌, ℕ, ◌+◌, ◌<◌, ◌≤◌, ◌^◌, length, Option, None, unwrap_or, ⊤}
 use Rattle.hm_model.specs.declared.entry.Call.{Call}
 use Rattle.hm_model.specs.declared.entry.Call.TheVariants.{Allot, GiveBack, Measure, Fetch, Fill}
 use Rattle.hm_model.specs.declared.entry.Reply.{Reply}
@@ -22,6 +22,14 @@ abbrev pub IsFillReply : ℕ → ℕ → Reply → Type 0
 IsFillReply addr len Filled = ⊤
 IsFillReply addr len (Trap q) = IsWithin addr len q
 IsFillReply addr len reply = ⊥
+
+-- by the first address that is not accessible, if there is one: nothing is read or written then; a trap is there, or at
+-- the range's own address where all are accessible and the pages do not lend them
+abbrev pub ReplyTraps : Option ℕ → ℕ → Reply → Type 0
+ReplyTraps found addr (Bytes runs) = found ≡ None
+ReplyTraps found addr Filled = found ≡ None
+ReplyTraps found addr (Trap q) = q ≡ unwrap_or found addr
+ReplyTraps found addr reply = ⊤
 
 -- ---- a class region whose slots have so many usable bytes; in class 0 there are none
 abbrev pub IsSlotReply : ℕ → Reply → Type 0

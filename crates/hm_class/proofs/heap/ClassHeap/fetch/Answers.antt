@@ -3,9 +3,9 @@ use Rattle.hm_model.specs.declared.entry.Call.TheVariants as call
 use Rattle.hm_model.specs.declared.entry.Entry.{Entry}
 use Rattle.hm_model.specs.declared.entry.Reply.{Reply}
 use Rattle.hm_model.specs.Calls.{no_choices, entry_of, no_words}
-use Rattle.hm_model.specs.Replies.{IsFetchReply}
+use Rattle.hm_model.specs.Replies.{IsFetchReply, ReplyTraps}
 use Rattle.hm_class.specs.Access.{trap_in}
-use Rattle.hm_class.specs.Calls.{ReplyTraps, TrapsIn}
+use Rattle.hm_class.specs.Calls.{TrapsIn}
 use Rattle.hm_class.specs.Kept.{IsKept, identity, store}
 use Rattle.hm_class.proofs.Entries.{kept_fetched, added_of, appended, region_of, region_seen, fetch_reply, fetch_traps, trap_of_region}
 use Rattle.hm_class.proofs.heap.ClassHeap.fetch.Goals as goal

@@ -3,12 +3,13 @@ use Rattle.hm_model.specs.declared.entry.Call.TheVariants as call
 use Rattle.hm_model.specs.declared.entry.Entry.{Entry}
 use Rattle.hm_model.specs.declared.entry.Reply.{Reply}
 use Rattle.hm_model.specs.Calls.{no_choices, entry_of, no_words}
+use Rattle.hm_model.specs.Replies.{ReplyTraps}
 use Rattle.hm_class.specs.Access.{trap_in}
-use Rattle.hm_class.specs.Calls.{ReplyTraps, TrapsIn}
+use Rattle.hm_class.specs.Calls.{TrapsIn}
 use Rattle.hm_class.specs.Kept.{IsKept, identity, store}
 use Rattle.hm_class.specs.Outcomes.{reply_of}
 use Rattle.hm_model.specs.Runs.{expand}
-use Rattle.hm_class.proofs.Entries.{kept_filled, added_of, appended, region_of, region_seen, fill_traps, trap_of_region}
+use Rattle.hm_class.proofs.Entries.{kept_filled, added_of, appended, region_of, region_seen, trap_of_region}
 use Rattle.hm_class.proofs.heap.ClassHeap.fill.Goals as goal
 
 pub invariant_of-self-2 : goal.invariant_of-self-2
@@ -74,7 +75,7 @@ returns-clause-trap g c =
     (subst (λ (o : Option ℕ). ReplyTraps o c.args.addr (reply_of c.in_ok-outcome.outcome))
     (ap (λ (l : List ℕ). trap_in h.shape h.slabs.slabs c.args.addr (length l)) bytes
     ∙ trap_of_region g.P.Pages _ c.args.self.now h.shape h.slabs h.stream h.quarantine h.slabs.parking c.args.addr (length (expand rs)) c.self.view_is refl c.self.invariant.0)
-    (fill_traps (trap_in h.shape h.slabs.slabs c.args.addr (length (expand c.in_ok-runs.runs))) c.args.addr c.in_ok-outcome.outcome c.in_ok-outcome.ensures.trap))
+    c.in_ok-outcome.ensures.trap)
 
 pub returns-clause-before : goal.returns-clause-before
 returns-clause-before g c = region_seen g.P.Pages _ _ c.self.inside.shape _ _ _ _ c.self.view_is refl c.self.invariant.0 c.self.invariant.1

@@ -1,4 +1,4 @@
-use Rattle.std.proofs.Common.{◌≡◌, ℕ, List, [], ◌∷◌, ◌++◌, None, sym, ◌∙◌, ap, subst, arith}
+use Rattle.std.proofs.Common.{◌≡◌, ℕ, List, [], ◌∷◌, ◌++◌, None, unwrap_or, sym, ◌∙◌, ap, subst, arith}
 use Rattle.hm_model.specs.declared.entry.Entry.{Entry}
 use Rattle.hm_model.specs.declared.entry.Reply.TheVariants as reply
 use Rattle.hm_model.specs.declared.entry.Call.TheVariants as call
@@ -10,7 +10,7 @@ use Rattle.hm_large.specs.Access.{fetch_reply, IsRead}
 use Rattle.hm_large.specs.Calls.{TrapsIn}
 use Rattle.hm_large.specs.Rules.{state}
 use Rattle.hm_large.specs.State.{State}
-use Rattle.hm_large.specs.Blocks.{first_trap, trap_in}
+use Rattle.hm_large.specs.Blocks.{first_trap}
 use Rattle.hm_large.specs.Region.{Region, region_state}
 use Rattle.hm_large.specs.Kept.{IsKept}
 use Rattle.hm_large.proofs.Entries.{terms_of, kept_sound, region_of, appended, added_of}
@@ -94,6 +94,6 @@ returns-in-Trap-clause-trap g c =
     let k = c.self.invariant.0 in
     let s : State = state (terms_of h.config (g.P.Pages.told h.pages)) h.entries.items in
     let sound = kept_sound g.P.Pages h.pages h.config h.number h.entries.items h.store k in
-    subst (λ (r : Region _). c.in-Trap.trap ≡ trap_in (region_state g.P.Pages.told r).live c.args.addr c.args.len) c.self.view_is
+    subst (λ (r : Region _). c.in-Trap.trap ≡ unwrap_or (first_trap (region_state g.P.Pages.told r).live c.args.addr c.args.len) c.args.addr) c.self.view_is
     (subst (λ (found : Reading). TrapsIn s.live c.args.addr c.args.len (fetch_reply found)) c.in-Trap.is
     (c.in_ok-runs.ensures.trap h.config h.number s sound (kept_guarded g.P.Pages h.pages h.config h.number h.entries.items h.store k) k.shows))
