@@ -1,5 +1,5 @@
 -- An allotment: what is kept follows, whatever it comes to.
-use Rattle.std.proofs.Common.{◌≡◌, ℕ, ◌<◌, ◌≤◌, Bool, true, false, IsTrue, ◌&&◌, List, [], ◌∷◌, ◌++◌, length, get_or, slice_get, Option, Some, None, is_some, sym, ◌∙◌, ap, subst, refl, arith}
+use Rattle.std.proofs.Common.{◌≡◌, ℕ, ◌<◌, ◌≤◌, Bool, true, false, IsTrue, ◌&&◌, List, [], ◌∷◌, ◌++◌, length, get_or, slice_get, Option, Some, is_some, sym, ◌∙◌, ap, subst, refl, arith}
 use Rattle.std.specs.Option.{option_and_then, option_map_or}
 use Rattle.std.proofs.lemmas.Option.{slice_get-get_or}
 use Rattle.hm_choice.specs.Stream.{Words, next_word, after_word, drawn}
@@ -22,7 +22,7 @@ use Rattle.hm_class_rules.specs.Kinds.{Kind, Partial, Empty, kind}
 use Rattle.hm_class_rules.specs.Steps.{opened}
 use Rattle.hm_class_rules.specs.Drawn.{first_free}
 use Rattle.hm_class_rules.specs.Draws.{Picked, event_of, after_words}
-use Rattle.hm_class_rules.specs.Rules.{Source, state, chose}
+use Rattle.hm_class_rules.specs.Rules.{Source, state}
 use Rattle.hm_class_rules.specs.Stepped.{IsSteppedEntry, listed}
 use Rattle.hm_class_rules.proofs.Alike.{drawn_below}
 use Rattle.hm_class_rules.proofs.Streams.{next_below}
@@ -30,7 +30,7 @@ use Rattle.hm_class.specs.declared.outcome.Outcome.{Outcome}
 use Rattle.hm_slab_meta.specs.Uses.{SlotUse, Never, first_from}
 use Rattle.hm_class.specs.Slabs.{Slabs}
 use Rattle.hm_class.specs.Uses.{numbers_of, open_at, SlabUse, occupied, use_at, kind_at, live_count}
-use Rattle.hm_model.specs.Calls.{entry_of}
+use Rattle.hm_model.specs.Calls.{entry_of, no_choices}
 use Rattle.hm_class.specs.Outcomes.{reply_of}
 use Rattle.hm_class.specs.Finds.{Serve}
 use Rattle.hm_class.specs.Region.{HoldsSlabs}
@@ -60,7 +60,7 @@ module _ (told : Bool) (runs : PageRuns) (faults : ℕ) (c : Config) (number are
     (empty : (after : Kind) → listed Empty n before after k₁.lists.empty ≡ listed Empty n kind₀ after k.lists.empty)
     (was_kind : kind p (state (terms_of told c p) es) n ≡ kind₀)
     (are : AreDraws draws) (taken : after_words stream draws.used ≡ after_word stream₁)
-    (source : Source p (state (terms_of told c p) es) choices.opened n) (has_canary : is_some choices.canary ≡ (has_bytes p && is_some choices.opened)) (chosen : choices ≡ chose choices.canary choices.opened None None None None)
+    (source : Source p (state (terms_of told c p) es) choices.opened n) (has_canary : is_some choices.canary ≡ (has_bytes p && is_some choices.opened)) (chosen : choices ≡ record no_choices { canary = choices.canary; opened = choices.opened })
     (stepped : (a : ℕ) → slab_of p a ≡ n → first_free p (opened p choices.opened choices.canary (state (terms_of told c p) es)) n (drawn p.slots (next_word stream₁)) ≡ Some a → (r : Reply) → event_of (Allot asked 1) r ≡ Picked a
     → IsSteppedEntry (terms_of told c p) (cells_of (state (terms_of told c p) es) (store k stream quarantine parking)) (entry_of who (Allot asked 1) r choices draws f f'))
   where

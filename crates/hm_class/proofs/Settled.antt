@@ -18,7 +18,7 @@ use Rattle.hm_class_rules.specs.State.{State, Slab, is_open, is_live, is_empty, 
 use Rattle.hm_class_rules.specs.Kinds.{Kind, Partial, Empty, Neither, kind, same_kind}
 use Rattle.hm_class_rules.specs.Steps.{takes_back, releases, unparks, retires, purges, step}
 use Rattle.hm_class_rules.specs.Bytes.{found_canary, kept_canary}
-use Rattle.hm_class_rules.specs.Rules.{Terms, Releases, Empties, Unparks, surplus, chose, state, wrong_canary}
+use Rattle.hm_class_rules.specs.Rules.{Terms, Releases, Empties, Unparks, surplus, state, wrong_canary}
 use Rattle.hm_class_rules.specs.Stepped.{listed, touched, parking_with}
 use Rattle.hm_class_rules.specs.DrawnLaws.{AreKept}
 use Rattle.hm_class_rules.specs.Draws.{Returned, parking_place}
@@ -36,7 +36,7 @@ use Rattle.hm_class.specs.Slabs.{SameLists, Parks, list_of}
 use Rattle.hm_slab_lists.specs.Lists.{Lists, gone, placed}
 use Rattle.hm_slab_lists.specs.Table.{unparked}
 use Rattle.hm_class.proofs.Filing.{Stands, Moved, with_unparked, placed_moved, placed_full, retired_partial, retired_empty, retired_shut, retired_full, same_full}
-use Rattle.hm_model.specs.Calls.{entry_of}
+use Rattle.hm_model.specs.Calls.{entry_of, no_choices}
 use Rattle.hm_class.specs.Outcomes.{freed_choices, freed_draws}
 use Rattle.hm_class.specs.Frees as frees
 use Rattle.hm_class.specs.Frees.{array_word, place_of_word, array_stream, Clears, Settles, is_surplus, freed_uses}
@@ -85,7 +85,7 @@ shut_live all n b is = omega (arith, count_changed all n shut_slab b is lives)
 abbrev pub entry_freed : Shape → Words → Who → ℕ → Option ℕ → Option ℕ → Emptied → ℕ → ℕ → Entry
 entry_freed p stream who a stated released e f f' = entry_of who (GiveBack a stated) reply.Freed (freed_choices released e) (freed_draws (array_word p (next_word stream)) e) f f'
 
-chosen_is : (released : Option ℕ) (e : Emptied) → freed_choices released e ≡ chose None None (freed_choices released e).released (freed_choices released e).retired (freed_choices released e).purged (freed_choices released e).unparked
+chosen_is : (released : Option ℕ) (e : Emptied) → freed_choices released e ≡ record no_choices { released = (freed_choices released e).released; retired = (freed_choices released e).retired; purged = (freed_choices released e).purged; unparked = (freed_choices released e).unparked }
 chosen_is released emptied.Kept = refl
 chosen_is released (emptied.Retired d w u) = refl
 chosen_is released (emptied.Purged d) = refl

@@ -2,7 +2,6 @@
 use Rattle.std.specs.Prelude.{ℕ, Option, Some, None, option_map}
 use Rattle.hm_model.specs.declared.entry.Choices.{Choices}
 use Rattle.hm_model.specs.declared.entry.Draws.{Draws}
-use Rattle.hm_class_rules.specs.Rules.{chose}
 use Rattle.hm_model.specs.Calls.{no_choices, no_words, one_word}
 use Rattle.hm_class.specs.declared.outcome.Canary.{Canary}
 use Rattle.hm_class.specs.declared.outcome.Emptied.{Emptied}
@@ -38,7 +37,7 @@ abbrev pub canary_value : Option Canary → Option ℕ
 canary_value canary = option_map (λ (c : Canary). c.canary) canary
 
 abbrev pub chose_opened : ℕ → Option Canary → Choices
-chose_opened n canary = chose (canary_value canary) (Some n) None None None None
+chose_opened n canary = record no_choices { canary = canary_value canary; opened = Some n }
 
 -- the words of the canary, and the start slot's
 abbrev pub start_draws : Option Canary → ℕ → Draws
@@ -48,9 +47,10 @@ start_draws (Some c) word = record { used = 3; w0 = c.low; w1 = c.high; w2 = wor
 -- ---- a block was taken back
 -- what is chosen
 abbrev pub freed_choices : Option ℕ → Emptied → Choices
-freed_choices released Kept = chose None None released None None None
-freed_choices released (Retired slab word unparked) = chose None None released (Some slab) None unparked
-freed_choices released (Purged slab) = chose None None released None (Some slab) None
+freed_choices released Kept = record no_choices { released = released }
+freed_choices released (Retired slab word unparked) =
+    record no_choices { released = released; retired = Some slab; unparked = unparked }
+freed_choices released (Purged slab) = record no_choices { released = released; purged = Some slab }
 
 -- the word of the array's place, where there is an array, and that of the parking place
 abbrev pub freed_draws : Option ℕ → Emptied → Draws

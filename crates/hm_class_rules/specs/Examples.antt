@@ -9,7 +9,7 @@ use Rattle.hm_model.specs.declared.entry.Choices.{Choices}
 use Rattle.hm_sizes.specs.declared.shape.Shape.{Shape}
 use Rattle.hm_sizes.specs.Configs.{standard}
 use Rattle.hm_model.specs.Calls.{no_choices}
-use Rattle.hm_class_rules.specs.Rules.{Terms, chose}
+use Rattle.hm_class_rules.specs.Rules.{Terms}
 
 -- what the shapes have in common, where they don't say otherwise: slots without bytes of their own, every second
 -- slab a guard, and no quarantine
@@ -55,16 +55,16 @@ freed addr choices = entry (GiveBack addr None) Freed choices
 
 -- the choices of a giving that opens a slab, and of a free that releases a slot, and retires its slab too
 abbrev pub opens : ℕ → ℕ → Choices
-opens slab canary = chose (Some canary) (Some slab) None None None None
+opens slab canary = record no_choices { canary = Some canary; opened = Some slab }
 
 abbrev pub opens_bare : ℕ → Choices
-opens_bare slab = chose None (Some slab) None None None None
+opens_bare slab = record no_choices { opened = Some slab }
 
 abbrev pub frees : ℕ → Choices
-frees addr = chose None None (Some addr) None None None
+frees addr = record no_choices { released = Some addr }
 
 abbrev pub retires : ℕ → ℕ → Option ℕ → Choices
-retires addr slab unparked = chose None None (Some addr) (Some slab) None unparked
+retires addr slab unparked = record no_choices { released = Some addr; retired = Some slab; unparked = unparked }
 
 -- ---- class 7 as it is, without a quarantine
 abbrev pub seven : Terms

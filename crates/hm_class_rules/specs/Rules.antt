@@ -25,18 +25,6 @@ pub record Terms : Type 0 where
   pub shape : Shape
   pub told : Bool
 
--- ---- choices
-abbrev pub chose : Option ℕ → Option ℕ → Option ℕ → Option ℕ → Option ℕ → Option ℕ → Choices
-chose canary opened released retired purged unparked = record {
-  canary = canary;
-  opened = opened;
-  released = released;
-  retired = retired;
-  purged = purged;
-  unparked = unparked;
-  guard = None;
-}
-
 -- ---- allotting
 -- no open slab serves
 abbrev pub NoneServes : Shape → State → Type 0
@@ -54,7 +42,7 @@ pub record Picks (p : Shape) (s now : State) (c : Choices) (a : ℕ) : Type 0 wh
   pub open_slab : is_open now (slab_of p a) ≡ true
   pub free : is_taken now a ≡ false
   pub canary : is_some c.canary ≡ (has_bytes p && is_some c.opened)
-  pub choices : c ≡ chose c.canary c.opened None None None None
+  pub choices : c ≡ record no_choices { canary = c.canary; opened = c.opened }
 
 -- what the check on reuse finds at a
 abbrev pub reuse_finds : Config → Shape → State → ℕ → Option (ℕ × ℕ)
@@ -135,7 +123,8 @@ pub record AllowsFreed (t : Terms) (s : State) (before now : ℕ) (c : Choices) 
   pub release : Releases t.shape (takes_back t.shape a s) c.released
   pub emptied : Empties t (releases c.released (takes_back t.shape a s)) before now c
       (surplus t.shape (releases c.released (takes_back t.shape a s)) c.released)
-  pub choices : c ≡ chose None None c.released c.retired c.purged c.unparked
+  pub choices : c
+      ≡ record no_choices { released = c.released; retired = c.retired; purged = c.purged; unparked = c.unparked }
 
 -- ---- what each call asks of its arguments
 abbrev pub Asks : Shape → Call → Type 0

@@ -33,7 +33,7 @@ use Rattle.hm_large.specs.declared.judge.Refusal.TheVariants as refusal
 use Rattle.hm_large.specs.declared.judge.Verdict.TheVariants as verdict
 use Rattle.hm_large.specs.Blocks.{Block, Blocks, new_block, size_for, guard_of, is_quarantined, marked}
 use Rattle.hm_large.specs.State.{State, start, step, moved, takes_back, releases, free_of, array_length, ring_length}
-use Rattle.hm_large.specs.Rules.{Terms, Allowed, Allows, Asks, IsLegal, state, chose, chose_guard, wrong_size, Releases, AllowsFreed}
+use Rattle.hm_large.specs.Rules.{Terms, Allowed, Allows, Asks, IsLegal, state, chose_guard, wrong_size, Releases, AllowsFreed}
 use Rattle.hm_large.specs.Draws.{Drawn, IsDrawn, EntryDraws, FreeDraws, stream_after, word_after}
 use Rattle.hm_large.specs.Laws.{IsSound}
 use Rattle.hm_large.specs.Region.{Region, HoldsBlocks, IsRegion}
@@ -283,16 +283,16 @@ module _ {P : Type 0} (meaning : pages.Ghosts P) (old now : P) (c : Config) (n :
   pub kept_freed : (freeing : Freeing) → IsKept meaning old c n es k → meaning.told now ≡ meaning.told old
       → (let s = state (terms_of c (meaning.told old)) es in (at a s.live ≡ Some x) × (wrong_size (at a s.live) stated ≡ None) × Frees c n s a x new freeing) → meaning.faults old ≤ meaning.faults now
       → (IsTrue (meaning.told old) → meaning.runs now ≡ map.remove (meaning.runs old) a)
-      → IsKept meaning now c n (es ++ entry_of who (call.GiveBack a stated) reply.Freed (chose freeing.released None) (free_draws freeing.word) (meaning.faults old) (meaning.faults now) ∷ []) new
+      → IsKept meaning now c n (es ++ entry_of who (call.GiveBack a stated) reply.Freed (record no_choices { released = freeing.released }) (free_draws freeing.word) (meaning.faults old) (meaning.faults now) ∷ []) new
   kept_freed freeing h telling facts later gone =
       let t = terms_of c (meaning.told old) in
       let s : State = state t es in
       let w : ℕ = word_after n s.words in
-      let e = entry_of who (call.GiveBack a stated) reply.Freed (chose freeing.released None) (free_draws freeing.word) (meaning.faults old) (meaning.faults now) in
+      let e = entry_of who (call.GiveBack a stated) reply.Freed (record no_choices { released = freeing.released }) (free_draws freeing.word) (meaning.faults old) (meaning.faults now) in
       let f = facts.2 in
       let same : takes_back a (free_draws freeing.word).w0 (at a s.live) s ≡ takes_back a w (Some x) s =
       ap (λ (o : Option Block). takes_back a (free_draws freeing.word).w0 o s) facts.0 ∙ by_word freeing s (is_quarantined x) refl f.words in
-      let allows : AllowsFreed s (free_draws freeing.word).w0 (chose freeing.released None) a stated = record {
+      let allows : AllowsFreed s (free_draws freeing.word).w0 (record no_choices { released = freeing.released }) a stated = record {
         live = ap is_some facts.0;
         size = facts.1;
         release = subst (λ (z : State). Releases (at a s.live) z freeing.released) (sym same) (subst (λ (o : Option Block). Releases o (takes_back a w (Some x) s) freeing.released) (sym facts.0) f.allowed);

@@ -26,19 +26,8 @@ pub record Terms : Type 0 where
   pub told : Bool
 
 -- ---- choices
-abbrev pub chose : Option ℕ → Option ℕ → Choices
-chose released guard = record {
-  canary = None;
-  opened = None;
-  released = released;
-  retired = None;
-  purged = None;
-  unparked = None;
-  guard = guard;
-}
-
 abbrev pub chose_guard : ℕ → Choices
-chose_guard guard = chose None (Some guard)
+chose_guard guard = record no_choices { guard = Some guard }
 
 -- ---- allotting
 -- the large space
@@ -95,7 +84,7 @@ pub record AllowsFreed (s : State) (word : ℕ) (c : Choices) (a : ℕ) (stated 
   pub live : has a s.live ≡ true
   pub size : wrong_size (at a s.live) stated ≡ None
   pub release : Releases (at a s.live) (takes_back a word (at a s.live) s) c.released
-  pub choices : c ≡ chose c.released None
+  pub choices : c ≡ record no_choices { released = c.released }
 
 -- ---- what each call asks of its arguments
 abbrev pub Asks : Call → Type 0

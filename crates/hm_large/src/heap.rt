@@ -3,13 +3,13 @@
 ghost use Rattle.std.specs.Prelude.{◌≡◌, ◌+◌, ◌-◌, ◌<◌, ◌≤◌, ◌^◌, IsTrue, IsOk, OnOk, IfOk, OnErr, Some, None, true, false, length, vec_len, vec_capacity};
 ghost use Rattle.std.specs.FinMap as map;
 ghost use Rattle.hm_model.specs.Maps.{at};
-ghost use Rattle.hm_model.specs.Calls.{entry_of, one_word};
+ghost use Rattle.hm_model.specs.Calls.{entry_of, no_choices, one_word};
 ghost use Rattle.hm_model.specs.Replies.{IsLargeReply};
 ghost use Rattle.hm_model.specs.Runs.{expand};
 ghost use Rattle.hm_sizes.specs.Aligned.{IsAlignment};
 ghost use Rattle.hm_sizes.specs.Configs.{IsValid};
 ghost use Rattle.hm_large.specs.Blocks.{Block};
-ghost use Rattle.hm_large.specs.Rules.{chose, chose_guard, wrong_size};
+ghost use Rattle.hm_large.specs.Rules.{chose_guard, wrong_size};
 ghost use Rattle.hm_large.specs.Region.{region_state, origin, IsRegion};
 ghost use Rattle.hm_large.specs.Access.{fill_reply};
 ghost use Rattle.hm_large.specs.Calls.{Added, IsBuilt, TrapsIn};
@@ -119,8 +119,8 @@ fn free_entry(
     before: u64,
     now: u64,
 ) -> Entry
-    ensures { result ≡ entry_of who (Call.GiveBack addr stated) Reply.Freed (chose freeing.released None)
-        (free_draws freeing.word) before now }
+    ensures { result ≡ entry_of who (Call.GiveBack addr stated) Reply.Freed
+        (record no_choices { released = freeing.released }) (free_draws freeing.word) before now }
 {
     Entry {
         who,

@@ -1,4 +1,4 @@
-use Rattle.std.proofs.Common.{◌≡◌, ℕ, List, [], ◌∷◌, ◌++◌, Some, None, sym, ◌∙◌, ap, subst, arith}
+use Rattle.std.proofs.Common.{◌≡◌, ℕ, List, [], ◌∷◌, ◌++◌, Some, sym, ◌∙◌, ap, subst, arith}
 use Rattle.std.proofs.lemmas.Bool.{false≢true}
 use Rattle.hm_model.specs.declared.entry.Entry.{Entry}
 use Rattle.hm_model.specs.declared.entry.Reply.{Reply}
@@ -6,7 +6,7 @@ use Rattle.hm_model.specs.declared.entry.Reply.TheVariants as reply
 use Rattle.hm_model.specs.declared.entry.Call.TheVariants as call
 use Rattle.hm_model.specs.Calls.{no_choices, no_words, entry_of}
 use Rattle.hm_model.specs.Maps.{at}
-use Rattle.hm_large.specs.Rules.{chose, state}
+use Rattle.hm_large.specs.Rules.{state}
 use Rattle.hm_large.specs.State.{State}
 use Rattle.hm_large.specs.Kept.{IsKept}
 use Rattle.hm_large.specs.Region.{Region, region_state}
@@ -67,9 +67,9 @@ refused_entries g c =
     (c.plain.ensures ∙ (ap (λ (r : Reply). e r c.faults-before.result) c.reply.ensures ∙ ap (λ (n : ℕ). e (refused_reply c.in-Refused.refusal) n) c.faults-before.ensures))
 
 freed_entries : (g : Over) (c : goal.After-push_reserved-in-Ok g) → c.push_reserved-in-Ok.new.self.items
-    ≡ c.self.inside.entries.items ++ entry_of c.args.who (call.GiveBack c.args.addr c.args.stated) reply.Freed (chose c.release-freeing.result.released None) (free_draws c.release-freeing.result.word) (g.P.Pages.faults c.self.inside.pages) (g.P.Pages.faults c.drop_contents.new.self) ∷ []
+    ≡ c.self.inside.entries.items ++ entry_of c.args.who (call.GiveBack c.args.addr c.args.stated) reply.Freed (record no_choices { released = c.release-freeing.result.released }) (free_draws c.release-freeing.result.word) (g.P.Pages.faults c.self.inside.pages) (g.P.Pages.faults c.drop_contents.new.self) ∷ []
 freed_entries g c =
-    let e = λ (before now : ℕ). entry_of c.args.who (call.GiveBack c.args.addr c.args.stated) reply.Freed (chose c.release-freeing.result.released None) (free_draws c.release-freeing.result.word) before now in
+    let e = λ (before now : ℕ). entry_of c.args.who (call.GiveBack c.args.addr c.args.stated) reply.Freed (record no_choices { released = c.release-freeing.result.released }) (free_draws c.release-freeing.result.word) before now in
     appended _ _ _ _ _ c.push_reserved-in-Ok.ensures.items c.make_room.ensures.items
     (c.free_entry.ensures ∙ (ap (λ (n : ℕ). e n c.faults-now.result) c.faults-before.ensures ∙ ap (λ (n : ℕ). e (g.P.Pages.faults c.self.inside.pages) n) c.faults-now.ensures))
 
@@ -134,7 +134,7 @@ returns-in_ok-reserve-in-Refused-clause-region g c =
 
 pub returns-in-Ok-clause-added : goal.returns-in-Ok-clause-added
 returns-in-Ok-clause-added g c =
-    added_of g.P.Pages c.args.self.now _ _ _ c.args.who (call.GiveBack c.args.addr c.args.stated) reply.Freed (chose c.release-freeing.result.released None) (free_draws c.release-freeing.result.word) c.self.view_is (freed_entries g c)
+    added_of g.P.Pages c.args.self.now _ _ _ c.args.who (call.GiveBack c.args.addr c.args.stated) reply.Freed (record no_choices { released = c.release-freeing.result.released }) (free_draws c.release-freeing.result.word) c.self.view_is (freed_entries g c)
 
 pub returns-in-Ok-clause-region : goal.returns-in-Ok-clause-region
 returns-in-Ok-clause-region g c =
