@@ -160,13 +160,13 @@ gap_whole n = mul-mod_left n 4096
 gap_least : (n : ℕ) → 4096 ≤ (n + 1) * 4096
 gap_least n = omega arith
 
-gap_most : (n pages size : ℕ) → n < pages → pages * 4096 ≤ size → (n + 1) * 4096 ≤ size
+pub gap_most : (n pages size : ℕ) → n < pages → pages * 4096 ≤ size → (n + 1) * 4096 ≤ size
 gap_most n pages size lt fits = omega arith
 
-pages_some : (size : ℕ) → 2 ^ 20 ≤ size → 0 < size / 4096
+pub pages_some : (size : ℕ) → 2 ^ 20 ≤ size → 0 < size / 4096
 pages_some size least = omega (arith, div-add-mod' size 4096)
 
-pages_within : (size : ℕ) → size / 4096 * 4096 ≤ size
+pub pages_within : (size : ℕ) → size / 4096 * 4096 ≤ size
 pages_within size = omega (arith, div-add-mod' size 4096)
 
 pub drawn_shape_fits : DrawnShapeFits

@@ -26,10 +26,10 @@ pub record AreWords (d : Draws) : Type 0 where
   pub second : d.w1 < 2 ^ 32
   pub third : d.w2 < 2 ^ 32
 
-same_head : (x y : ℕ) (xs ys : List ℕ) → x ∷ xs ≡ y ∷ ys → x ≡ y
+pub same_head : (x y : ℕ) (xs ys : List ℕ) → x ∷ xs ≡ y ∷ ys → x ≡ y
 same_head x y xs ys e = cc
 
-same_tail : (x y : ℕ) (xs ys : List ℕ) → x ∷ xs ≡ y ∷ ys → xs ≡ ys
+pub same_tail : (x y : ℕ) (xs ys : List ℕ) → x ∷ xs ≡ y ∷ ys → xs ≡ ys
 same_tail x y xs ys e = cc
 
 below_by : (x : ℕ) (stream : Words) → x ≡ next_word stream → x < 2 ^ 32

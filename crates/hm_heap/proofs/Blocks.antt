@@ -1,5 +1,5 @@
 -- Where live blocks lie.
-use Rattle.std.proofs.Common.{◌≡◌, ◌≢◌, ℕ, ◌+◌, ◌*◌, ◌/◌, ◌%◌, ◌^◌, ◌<◌, ◌≤◌, ◌⊎◌, true, List, Some, sym, ◌∙◌, subst, arith}
+use Rattle.std.proofs.Common.{◌≡◌, ◌≢◌, ℕ, ◌+◌, ◌*◌, ◌/◌, ◌%◌, ◌<◌, ◌≤◌, ◌⊎◌, true, List, Some, sym, ◌∙◌, subst, arith}
 use Rattle.std.proofs.lemmas.Bool.{cases_lt}
 use Rattle.std.proofs.lemmas.Nat.{div-add-mod'}
 use mathlib.Core.Logic.{inl, inr}
@@ -19,7 +19,7 @@ use Rattle.hm_class_rules.specs.Rules as class
 use Rattle.hm_class_rules.specs.State.{is_live}
 use Rattle.hm_class_rules.proofs.Alike.{drawn_below}
 use Rattle.hm_class_rules.proofs.Legal as class_legal
-use Rattle.hm_class_rules.proofs.NextEntry.{drawn_shape_fits}
+use Rattle.hm_class_rules.proofs.NextEntry.{drawn_shape_fits, gap_most, pages_some, pages_within}
 use Rattle.hm_class_rules.proofs.Sound.{has_times}
 use Rattle.hm_class_rules.proofs.Streams.{next_below}
 use Rattle.hm_large.specs.Blocks.{Block}
@@ -30,20 +30,11 @@ use Rattle.hm_heap.specs.Lawful.{arena_of, class_in, class_terms, large_terms, I
 use Rattle.hm_heap.specs.Laws.{LiesIn, HomesOfBlocks, BlocksApart, RegionsApart}
 
 -- ---- a class region
-row_most : (n pages size : ℕ) → n < pages → pages * 4096 ≤ size → (n + 1) * 4096 ≤ size
-row_most n pages size lt fits = omega arith
-
-pages_within : (size : ℕ) → size / 4096 * 4096 ≤ size
-pages_within size = omega (arith, div-add-mod' size 4096)
-
-pages_some : (size : ℕ) → 2 ^ 20 ≤ size → 0 < size / 4096
-pages_some size least = omega (arith, div-add-mod' size 4096)
-
 gap_within : (o : Origin) → IsValid o.config → gap_of o.config (next_word (stream_of o.number (arena_of o.region) (class_in o.region))) ≤ o.config.class_region
 gap_within o valid =
     let size : ℕ = o.config.class_region in
     let stream = stream_of o.number (arena_of o.region) (class_in o.region) in
-    row_most (drawn (size / 4096) (next_word stream)) (size / 4096) size
+    gap_most (drawn (size / 4096) (next_word stream)) (size / 4096) size
     (drawn_below (size / 4096) (next_word stream) (pages_some size valid.region_least) (next_below stream)) (pages_within size)
 
 arena_below : (o : Origin) → IsRegionOf o → o.region < large_region_number → arena_of o.region < o.config.arenas

@@ -1,6 +1,7 @@
 -- The rule of a lock's table, which holds between any two steps. Word 0 is the next number to draw, word 1 the number
 -- whose turn it is, word 2 the number of entries, and the one slot has the value. Spent views are excepted.
 use Rattle.std.specs.Prelude.{◌≡◌, ◌≢◌, ◌≤◌, ◌<◌, ◌+◌, ℕ, true, false, ◌⊎◌, List, [], ◌∷◌, length, Option, None, Some}
+use Rattle.std.specs.Option.{option_len}
 use mathlib.Core.Option.{some, none}
 use lib.ListN.{get_elem?}
 use Rattle.atomic_table.specs.Table.{State}
@@ -54,15 +55,10 @@ pub record AreKnown (history : List Entry) (views : List View) : Type 0 where
   pub seats : AreSeated root chief outs views
   pub calls : AreCounted chief outs history views
 
--- one for a ticket, and none for none
-abbrev pub one_for : Option ℕ → ℕ
-one_for None = 0
-one_for (Some ticket) = 1
-
 -- how many views have a ticket
 abbrev pub tickets_out : List View → ℕ
 tickets_out [] = 0
-tickets_out (v ∷ vs) = one_for v.ticket + tickets_out vs
+tickets_out (v ∷ vs) = option_len v.ticket + tickets_out vs
 
 -- the tickets drawn and not yet served are the different tickets of the views, and no number noted is above that served
 pub record AreQueued (ticket serving : ℕ) (views : List View) : Type 0 where

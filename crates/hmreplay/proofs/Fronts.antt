@@ -6,6 +6,7 @@ use Rattle.hm_model.specs.Machine.{Legal_split}
 use Rattle.hm_sizes.specs.Origins.{Origin}
 use Rattle.hm_heap.specs.ClassDrawn.{AreDrawn}
 use Rattle.hm_class_rules.specs.Draws.{stream_of, words_of, words_from, all_words}
+use Rattle.hm_class_rules.proofs.Streams.{same_head, same_tail}
 use Rattle.hm_heap.specs.ClassRules as class
 use Rattle.hm_class_rules.specs.State as class_state
 use Rattle.hm_class_rules.specs.Steps as class_steps
@@ -21,15 +22,9 @@ all_words_append (e ∷ es) fs = ap (λ (l : List ℕ). words_of e.draws ++ l) (
 words_front : (w : Words) (xs ys : List ℕ) → xs ++ ys ≡ words_from w (length (xs ++ ys)) → xs ≡ words_from w (length xs)
 words_front w [] ys h = refl
 words_front w (x ∷ xs) ys h =
-    let first = head_same _ _ _ _ h in
-    let rest = words_front (after_word w) xs ys (tail_same _ _ _ _ h) in
+    let first = same_head _ _ _ _ h in
+    let rest = words_front (after_word w) xs ys (same_tail _ _ _ _ h) in
     λ i. first i ∷ rest i
-  where
-    head_same : (x y : ℕ) (xs ys : List ℕ) → x ∷ xs ≡ y ∷ ys → x ≡ y
-    head_same x y xs ys h = cc
-
-    tail_same : (x y : ℕ) (xs ys : List ℕ) → x ∷ xs ≡ y ∷ ys → xs ≡ ys
-    tail_same x y xs ys h = cc
 
 drawn_front : (t : class.Terms) (past es fs : List Entry) → AreDrawn t past (es ++ fs) → AreDrawn t past es
 drawn_front t past [] fs drawn = tt
