@@ -1,20 +1,11 @@
--- What holds of each element of a list, one after another.
-use Rattle.std.proofs.Common.{suc, List, [], ◌∷◌, ◌++◌, arith}
-use Rattle.std.specs.Bool.{⊤}
-use Rattle.std.specs.List.{All}
+-- What holds of each element of a list by recursion, over what is known of `All`.
+use Rattle.std.proofs.Common.{List, ◌++◌}
+use Rattle.std.specs.List.{AllByRecursion}
+use Rattle.std.proofs.lemmas.List.Elements.{All-append, All-weaker, All-from_recursion as from, recursion_from_All as to}
 
-abbrev pub Each : {X : Type 0} → (X → Type 0) → List X → Type 0
-Each P [] = ⊤
-Each P (x ∷ xs) = P x × Each P xs
+module _ {X : Type 0} (P : X → Type 0) where
+  pub each_append : (xs ys : List X) → AllByRecursion P xs → AllByRecursion P ys → AllByRecursion P (xs ++ ys)
+  each_append xs ys h g = to P (xs ++ ys) (All-append P xs ys (from P xs h) (from P ys g))
 
-pub each : {X : Type 0} (P : X → Type 0) (xs : List X) → All P xs → Each P xs
-each P [] h = tt
-each P (x ∷ xs) h = (h 0 x (omega arith), each P xs (λ k d lt. h (suc k) d (omega (arith, lt))))
-
-pub each_append : {X : Type 0} (P : X → Type 0) (xs ys : List X) → Each P xs → Each P ys → Each P (xs ++ ys)
-each_append P [] ys h g = g
-each_append P (x ∷ xs) ys h g = (h.0, each_append P xs ys h.1 g)
-
-pub each_by : {X : Type 0} (P Q : X → Type 0) (xs : List X) → ((x : X) → P x → Q x) → Each P xs → Each Q xs
-each_by P Q [] f h = tt
-each_by P Q (x ∷ xs) f h = (f x h.0, each_by P Q xs f h.1)
+  pub each_by : (Q : X → Type 0) (xs : List X) → ((x : X) → P x → Q x) → AllByRecursion P xs → AllByRecursion Q xs
+  each_by Q xs f h = to Q xs (All-weaker P Q f xs (from P xs h))

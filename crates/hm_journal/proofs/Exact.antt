@@ -1,13 +1,15 @@
 -- The text of a journal determines its configuration, its number and its histories.
 use Rattle.std.proofs.Common.{◌≡◌, ℕ, List, [], ◌∷◌, ◌++◌, map, length, drop, get_or, codes, refl, sym, ◌∙◌, ap, append_assoc, arith, rules}
 use Rattle.std.specs.Fmt.{decimal}
+use Rattle.std.specs.List.{AllByRecursion as Each}
+use Rattle.std.proofs.lemmas.List.Elements.{recursion_from_All as each}
 use Rattle.hm_sizes.specs.declared.config.Config.{Config}
 use Rattle.hm_model.specs.declared.entry.Entry.{Entry}
 use Rattle.hm_heap.specs.declared.close.History.{History}
 use Rattle.hm_journal.specs.Entries.{entry_words}
 use Rattle.hm_journal.specs.Journals.{closed_words, config_words, histories_lines, history_lines, journal_lines, journal_text, region_words}
 use Rattle.hm_journal.specs.Ranges.{ConfigFits, EntryFits, Fits64, HistoryFits, JournalFits}
-use Rattle.hm_journal.proofs.Each.{Each, each, each_append}
+use Rattle.hm_journal.proofs.Each.{each_append}
 use Rattle.hm_journal.proofs.Numbers.{clean_flag, clean_number, first_digit, flag_is, flag_of, number, number_is}
 use Rattle.hm_journal.proofs.OneEntry.{clean32, clean_entry, is32, same_entry}
 use Rattle.hm_journal.proofs.Splits.{High, IsLine, same_lines}

@@ -1,6 +1,6 @@
 -- A word determines what it says: a number, an option, a flag, a byte, a run, or runs.
 use Rattle.std.proofs.Common.{◌≡◌, ⊎_elim, ℕ, ◌+◌, ◌-◌, ◌*◌, ◌/◌, ◌%◌, ◌<◌, ◌≤◌, Bool, true, false, cond, eqb, ltb, List, [], ◌∷◌, ◌++◌, map, drop, get_or, Option, Some, None, refl, codes, arith}
-use Rattle.std.specs.List.{slice_split}
+use Rattle.std.specs.List.{AllByRecursion as Each, slice_split}
 use Rattle.std.specs.Str.Parse.{AllDigits, digits_value}
 use Rattle.std.specs.Fmt.{decimal, digit_glyph}
 use Rattle.std.proofs.lemmas.Bool.{cases_Bool, ltb-true, ltb-false, lt-ltb, le-ltb}
@@ -11,7 +11,7 @@ use Rattle.hm_heap.specs.Origins.{bit}
 use Rattle.hm_journal.specs.Ranges.{Fits8, Fits64, OptionFits, RunFits}
 use Rattle.hm_outside.specs.Bytes.{byte_word, run_word}
 use Rattle.hm_journal.specs.Words.{option_word, runs_word}
-use Rattle.hm_journal.proofs.Each.{Each, each_append, each_by}
+use Rattle.hm_journal.proofs.Each.{each_append, each_by}
 use Rattle.hm_journal.proofs.Splits.{High, Lacks, lacks, split_joined}
 
 -- ---- numbers

@@ -1,6 +1,8 @@
 -- The words of an entry determine it, and no space and no line feed stands in them.
 use Rattle.std.proofs.Common.{◌≡◌, ℕ, cond, eqb, List, [], ◌∷◌, ◌++◌, drop, get_or, codes, refl, sym, ◌∙◌, ap, subst, arith, rules}
 use Rattle.std.specs.Fmt.{decimal}
+use Rattle.std.specs.List.{AllByRecursion as Each}
+use Rattle.std.proofs.lemmas.List.Elements.{recursion_from_All as each}
 use Rattle.std.proofs.lemmas.List.{append_cancel_left}
 use Rattle.hm_model.specs.declared.entry.Call.{Call}
 use Rattle.hm_model.specs.declared.entry.Call.TheVariants.{Allot, GiveBack, Measure, Fetch, Fill}
@@ -12,7 +14,7 @@ use Rattle.hm_model.specs.declared.entry.Reply.TheVariants.{Given, Overwritten, 
 use Rattle.hm_model.specs.declared.entry.Who.{Who}
 use Rattle.hm_journal.specs.Entries.{call_words, choices_words, draws_words, entry_words, faults_words, reply_words, who_words}
 use Rattle.hm_journal.specs.Ranges.{CallFits, ChoicesFit, DrawsFit, EntryFits, Fits8, Fits32, Fits64, ReplyFits, RunFits, WhoFits}
-use Rattle.hm_journal.proofs.Each.{Each, each, each_append}
+use Rattle.hm_journal.proofs.Each.{each_append}
 use Rattle.hm_journal.proofs.Numbers.{byte, byte_is, clean_byte, clean_number, clean_option, clean_runs, number, number_is, option, option_is, runs, runs_is}
 use Rattle.hm_journal.proofs.Splits.{High}
 

@@ -1,10 +1,10 @@
 -- A text determines its lines, and a line its words.
 use Rattle.std.proofs.Common.{◌≡◌, ℕ, ◌<◌, ◌≤◌, true, false, eqb, List, [], ◌∷◌, ◌++◌, map, refl, sym, ◌∙◌, ap, append_assoc, eq-eqb, arith}
-use Rattle.std.specs.List.{slice_split, join_with_byte}
+use Rattle.std.specs.List.{AllByRecursion as Each, slice_split, join_with_byte}
 use Rattle.std.proofs.lemmas.Bool.Decides.{nat_tests}
 use Rattle.std.proofs.lemmas.List.{append_cancel_right}
 use Rattle.hm_journal.specs.Words.{lines_text}
-use Rattle.hm_journal.proofs.Each.{Each, each_append, each_by}
+use Rattle.hm_journal.proofs.Each.{each_append, each_by}
 
 -- no byte of the list is c
 abbrev pub Lacks : ℕ → List ℕ → Type 0

@@ -1,5 +1,6 @@
 -- Each entry of the histories is of a step of a script of the trace.
 use Rattle.std.proofs.Common.{◌≡◌, ℕ, ◌+◌, ◌<◌, ◌≤◌, ◌==◌, Bool, true, false, cond, List, [], ◌∷◌, ◌++◌, length, slice_index_or, Option, Some, None, arith, refl, ap, sym, subst, eq-eqb}
+use Rattle.std.specs.List.{AllByRecursion as EachIs}
 use Rattle.std.proofs.lemmas.Bool.{cases_eq, cases_lt}
 use Rattle.std.proofs.lemmas.List.{get_or-map}
 use mathlib.Core.Logic.{inl, inr}
@@ -15,7 +16,7 @@ use Rattle.hm_heap.specs.declared.close.History.{History}
 use Rattle.hm_heap.specs.Plans.{Plan, Done, Part}
 use Rattle.hm_replay.specs.Names.{Names, no_names, settled}
 use Rattle.hm_replay.specs.Replays.{AreReplayed}
-use Rattle.hm_replay.specs.Rounds.{RunsRound, RunsRounds, AreOfCallers, InRounds, EachIs, IsOfRound, IsOfTrace, script_count, own_in}
+use Rattle.hm_replay.specs.Rounds.{RunsRound, RunsRounds, AreOfCallers, InRounds, IsOfRound, IsOfTrace, script_count, own_in}
 use Rattle.hm_replay.specs.Scripts.{Runs}
 use Rattle.hm_replay.specs.Steps.{Terms, who_at, Steps, base_of, names_after}
 use Rattle.hm_replay.specs.Uses.{Own, Stay, Takes, Uses, used_up}

@@ -1,6 +1,6 @@
 -- Rounds one after another on a new heap: what is known of the first pass, and what the closed histories say.
 use Rattle.std.specs.Prelude.{◌≡◌, true, ℕ, ◌+◌, ◌<◌, ◌≤◌, List, [], ◌∷◌, ◌++◌, length, slice_index_or}
-use Rattle.std.specs.List.{list_all}
+use Rattle.std.specs.List.{list_all, AllByRecursion as EachIs}
 use Rattle.hm_report.specs.declared.results.Results.{Results}
 use Rattle.hm_report.specs.Findings.{ascends}
 use Rattle.hm_sizes.specs.declared.config.Config.{Config}
@@ -15,7 +15,7 @@ use Rattle.hm_replay.specs.Gains.{mine_of}
 use Rattle.hm_replay.specs.Names.{Names, no_names}
 use Rattle.hm_replay.specs.RoundOf.{ended_in, IsGathered, LeavesRoot}
 use Rattle.hm_replay.specs.Uses.{Own}
-use Rattle.hm_replay.specs.Rounds.{RunsRound, RunsRounds, InRounds, script_count, own_in, IsOfTrace, EachIs}
+use Rattle.hm_replay.specs.Rounds.{RunsRound, RunsRounds, InRounds, script_count, own_in, IsOfTrace}
 
 -- the first pass after these rounds, which were the first ones: the results are those of the scripts, and each turn has
 -- seen their entries round by round, and no others

@@ -98,7 +98,3 @@ abbrev pub IsOfTrace : ℕ → ℕ → List (List ScriptView) → Entry → Type
 IsOfTrace caller round [] e = ⊥
 IsOfTrace caller round (scripts ∷ rounds) e =
     IsOfRound caller round scripts e ⊎ IsOfTrace (caller + length scripts) (round + 1) rounds e
-
-abbrev pub EachIs : (Entry → Type 0) → List Entry → Type 0
-EachIs Is [] = ⊤
-EachIs Is (e ∷ entries) = Is e × EachIs Is entries

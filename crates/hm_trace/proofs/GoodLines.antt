@@ -1,7 +1,7 @@
 -- What a line that is read is, and what it makes of the reader's state.
-use Rattle.std.proofs.Common.{◌≡◌, ◌⊎◌, inl, inr, ⊎_elim, ℕ, ◌+◌, ◌≤◌, ◌<◌, true, false, cond, eqb, ltb, leb, List, [], ◌∷◌, ◌++◌, length, codes, Result, Ok, Err, Some, refl, sym, ◌∙◌, ap, subst, arith}
-use Rattle.std.proofs.lemmas.Bool.Decides.{nat_tests}
-use Rattle.std.proofs.lemmas.Bool.{ltb-true, ltb-false, leb-false}
+use Rattle.std.proofs.Common.{◌≡◌, ◌⊎◌, inl, inr, ⊎_elim, ℕ, ◌+◌, ◌≤◌, ◌<◌, true, false, cond, eqb, ltb, leb, List, [], ◌∷◌, ◌++◌, length, codes, Result, Ok, Err, Some, refl, sym, ◌∙◌, ap, subst}
+use Rattle.std.proofs.lemmas.Bool.{eqb-true, ltb-true, ltb-false, leb-false}
+use Rattle.std.proofs.lemmas.List.{nil_from_length}
 use Rattle.hm_trace.specs.declared.fault.FaultKind.{FaultKind}
 use Rattle.hm_trace.specs.declared.fault.FaultKind.TheVariants.{BadNumber, BadWord, NameSetTwice, TooManyRounds, TooManySteps, TooManyThreads}
 use Rattle.hm_trace.specs.declared.progress.Open.TheVariants.{InRound, InScript}
@@ -157,10 +157,6 @@ step_line_is p q words e =
     let r = bind_ok (step_at words) (counted p) b.0 i.2 in
     step_line_at_is p q words r.0 b.0 i.1 r.1 r.2 (ok_is (after_step p b.0) q b.2)
 
-nil_is : {A : Type 0} (xs : List A) → eqb (length xs) 0 ≡ true → xs ≡ []
-nil_is [] e = refl
-nil_is (x ∷ xs) e = absurd (grind (arith, nat_tests))
-
 words_good : (p q : Progress) (words : List (List ℕ)) → words_line_at p words ≡ Ok q → GoodLine p q words
 unfolding words_line_at
 words_good p q [] e = absurd cc
@@ -172,7 +168,7 @@ words_good p q (first ∷ rest) e =
     (λ u.
     subst here
     (ap (λ (w : List ℕ). w ∷ []) (sym (word_is first (codes "round") t.0))
-    ∙ ap (λ (l : List (List ℕ)). first ∷ l) (sym (nil_is rest u.0)))
+    ∙ ap (λ (l : List (List ℕ)). first ∷ l) (sym (nil_from_length rest (eqb-true _ _ u.0))))
     (inl (round_line_is p q u.1)))
     (λ u. absurd cc) (chosen (eqb (length rest) 0) (round_at p) (Err BadWord) (Ok q) t.1))
     (λ t.

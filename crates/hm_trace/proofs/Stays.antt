@@ -3,6 +3,7 @@ use Rattle.std.proofs.Common.{◌≡◌, ℕ, ◌+◌, ◌≤◌, ◌<◌, Bool,
 use Rattle.std.specs.List.{list_all}
 use Rattle.std.proofs.lemmas.Bool.{ltb-true, le-leb, lt-ltb, and_parts, and_from}
 use Rattle.std.proofs.lemmas.List.{append-nil}
+use Rattle.std.proofs.lemmas.List.Folds.{list_all-append}
 use Rattle.std.proofs.lemmas.Grind.{flat_map-append}
 use Rattle.hm_trace.specs.declared.progress.Open.{Open}
 use Rattle.hm_trace.specs.declared.progress.Open.TheVariants.{InRound, InScript, Nothing}
@@ -17,10 +18,7 @@ use Rattle.hm_trace.proofs.GoodLines.{after_round, by_line, line_good, script}
 
 list_all_push : {X : Type 0} (p : X → Bool) (xs : List X) (x : X) → list_all p xs ≡ true → p x ≡ true
     → list_all p (xs ++ x ∷ []) ≡ true
-list_all_push p [] x h k = and_from (p x) true k refl
-list_all_push p (y ∷ xs) x h k =
-    let b = and_parts (p y) (list_all p xs) h in
-    and_from _ _ b.0 (list_all_push p xs x b.1 k)
+list_all_push p xs x h k = list_all-append p xs (x ∷ []) ∙ and_from _ _ h (and_from _ _ k refl)
 
 abbrev pub last_of : ℕ → List ScriptView → ℕ
 last_of last [] = last

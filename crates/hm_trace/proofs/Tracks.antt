@@ -1,6 +1,7 @@
 -- The reader's state is what the lines before say.
 use Rattle.std.proofs.Common.{◌≡◌, ℕ, ◌+◌, ◌≤◌, Bool, true, false, ◌||◌, List, [], ◌∷◌, ◌++◌, length, codes, Some, Ok, refl, sym, ◌∙◌, ap, arith, length-append}
 use Rattle.std.specs.List.{list_any}
+use Rattle.std.proofs.lemmas.List.Folds.{list_any-append}
 use Rattle.hm_trace.specs.declared.progress.Open.{Open}
 use Rattle.hm_trace.specs.declared.progress.Open.TheVariants.{InRound, InScript, Nothing}
 use Rattle.hm_trace.specs.Before.{Before, before_of, begins, is_step_line, is_taken, rounds_in, sets}
@@ -28,25 +29,16 @@ made : (b : Before) (p : Progress) → b.ended ≡ false → b.first ≡ false �
 made b p e f s r n t =
     λ i. record { ended = e i; first = f i; stage = s i; rounds = r i; steps = n i; taken = λ name. t name i }
 
+with_none : (b : Bool) → (b || false) ≡ b
+with_none true = refl
+with_none false = refl
+
 any_push : {X : Type 0} (f : X → Bool) (xs : List X) (x : X) → list_any f (xs ++ x ∷ []) ≡ (list_any f xs || f x)
-any_push f [] x = with_none (f x)
-  where
-    with_none : (b : Bool) → (b || false) ≡ (false || b)
-    with_none true = refl
-    with_none false = refl
-any_push f (y ∷ xs) x = ap (λ b. f y || b) (any_push f xs x) ∙ grouped (f y) (list_any f xs) (f x)
-  where
-    grouped : (a b c : Bool) → (a || (b || c)) ≡ ((a || b) || c)
-    grouped true b c = refl
-    grouped false b c = refl
+any_push f xs x = list_any-append f xs (x ∷ []) ∙ ap (λ b. list_any f xs || b) (with_none (f x))
 
 set_script : (name : List ℕ) (ss : List ScriptView) (t : ℕ) → is_set name ss ≡ is_set name (ss ++ script t [] ∷ [])
 set_script name ss t =
     sym (any_push (λ (s : ScriptView). list_any (sets_name name) s.steps) ss (script t []) ∙ with_none (is_set name ss))
-  where
-    with_none : (b : Bool) → (b || false) ≡ b
-    with_none true = refl
-    with_none false = refl
 
 set_step : (name : List ℕ) (ss : List ScriptView) (t : ℕ) (steps : List StepView) (s : StepView)
     → (sets_name name s || is_set name (ss ++ script t steps ∷ []))

@@ -1,7 +1,8 @@
 -- How many scripts the rounds of a trace have.
-use Rattle.std.proofs.Common.{◌≡◌, ℕ, ◌+◌, ◌*◌, ◌<◌, ◌≤◌, ◌^◌, zero, suc, Bool, true, ◌&&◌, List, [], ◌∷◌, length, get_or, take, refl, ap, sym, ◌∙◌, subst, arith}
-use Rattle.std.proofs.lemmas.Bool.{and_parts}
-use Rattle.std.proofs.lemmas.List.{length-take-le}
+use Rattle.std.proofs.Common.{◌≡◌, ℕ, ◌+◌, ◌*◌, ◌<◌, ◌≤◌, ◌^◌, Bool, true, List, [], ◌∷◌, length, get_or, take, drop, ap, sym, ◌∙◌, subst, arith}
+use Rattle.std.proofs.lemmas.Bool.{and_parts, true_from_ne_false, true≢false}
+use Rattle.std.proofs.lemmas.List.{length-take-le, take-append-drop}
+use Rattle.std.proofs.lemmas.List.Folds.{list_all-append, list_all_at}
 use Rattle.std.specs.List.{list_all}
 use Rattle.hm_trace.specs.Traces.{is_round, IsTrace}
 use Rattle.hm_trace.specs.Views.{ScriptView}
@@ -9,16 +10,11 @@ use Rattle.hm_replay.specs.Replays.{RoundsAreSmall}
 use Rattle.hm_replay.specs.Rounds.{script_count}
 
 all_front : {X : Type 0} (test : X → Bool) (xs : List X) (i : ℕ) → list_all test xs ≡ true → list_all test (take i xs) ≡ true
-all_front test xs zero all = refl
-all_front test [] (suc i) all = refl
-all_front test (x ∷ xs) (suc i) all =
-    let h = and_parts (test x) (list_all test xs) all in
-    ap (λ (b : Bool). b && list_all test (take i xs)) h.0 ∙ all_front test xs i h.1
+all_front test xs i all =
+    (and_parts _ _ (sym (list_all-append test (take i xs) (drop i xs)) ∙ ap (list_all test) (take-append-drop i xs) ∙ all)).0
 
 pub all_at : {X : Type 0} (test : X → Bool) (xs : List X) (i : ℕ) (d : X) → list_all test xs ≡ true → i < length xs → test (get_or xs i d) ≡ true
-all_at test [] i d all lt = absurd (omega arith)
-all_at test (x ∷ xs) zero d all lt = (and_parts (test x) (list_all test xs) all).0
-all_at test (x ∷ xs) (suc i) d all lt = all_at test xs i d (and_parts (test x) (list_all test xs) all).1 (omega arith)
+all_at test xs i d all lt = true_from_ne_false _ (λ no. true≢false (sym all ∙ list_all_at test xs i d lt no))
 
 few_scripts : RoundsAreSmall → (rounds : List (List ScriptView)) → list_all is_round rounds ≡ true → script_count rounds ≤ 16 * length rounds
 few_scripts small [] all = omega arith

@@ -1,5 +1,6 @@
 -- What the closing of a heap hands out, and the laws of its histories.
 use Rattle.std.proofs.Common.{◌≡◌, ℕ, ◌+◌, ◌<◌, ◌≤◌, Bool, cond, nat_lt, List, length, slice_index_or, refl, sym, ◌∙◌, subst, arith}
+use Rattle.std.specs.List.{AllByRecursion as EachIs}
 use Rattle.std.proofs.lemmas.Option.{get_or_from_slice_get, slice_get_within}
 use Rattle.std.proofs.lemmas.Bool.Decides.{nat_tests}
 use Rattle.hm_outside.specs.declared.pages.Pages as pages
@@ -17,7 +18,7 @@ use Rattle.hm_heap.specs.Laws as heap_laws
 use Rattle.hm_heap.specs.Passes.{PassView, AreOf, region_at}
 use Rattle.hm_replay.specs.Names.{Names}
 use Rattle.hm_replay.specs.Replays.{HasReplayed, ReplaysClose, EntriesAreOfTrace}
-use Rattle.hm_replay.specs.Rounds.{IsOfTrace, EachIs}
+use Rattle.hm_replay.specs.Rounds.{IsOfTrace}
 use Rattle.hm_replay.proofs.Turns.{some_of}
 use Rattle.hmreplay.specs.declared.words.Options.{Options}
 use Rattle.hmreplay.specs.Words.{config_of}

@@ -1,5 +1,6 @@
 -- What a run of a trace leaves: the history of each region, beside its pages.
 use Rattle.std.specs.Prelude.{◌≡◌, ◌+◌, ℕ, List, length, slice_get, Some}
+use Rattle.std.specs.List.{AllByRecursion as EachIs}
 use Rattle.hm_outside.specs.declared.pages.Pages as pages
 use Rattle.hm_report.specs.declared.results.Results.{Results}
 use Rattle.hm_sizes.specs.Homes.{region_count}
@@ -11,7 +12,7 @@ use Rattle.hm_heap.specs.Closes.{IsEnd}
 use Rattle.hm_heap.specs.Passes.{region_at}
 use Rattle.hm_replay.specs.Names.{Names}
 use Rattle.hm_replay.specs.Replays.{AreReplayed}
-use Rattle.hm_replay.specs.Rounds.{IsOfTrace, EachIs}
+use Rattle.hm_replay.specs.Rounds.{IsOfTrace}
 use Rattle.hmreplay.specs.declared.words.Options.{Options}
 use Rattle.hmreplay.specs.Words.{config_of}
 
