@@ -1,5 +1,6 @@
 //! Examples of regions over pages in memory. A test names the class by the size of its requests, and
-//! looks at replies and at what the entries chose and drew.
+//! looks at replies and at what the entries chose and drew. Where it looks at more than a little, a function
+//! over any pages does so: it has no region to drop, so its proof is short.
 ghost use Rattle.std.specs.Prelude.{◌≡◌, ◌≤◌, ◌<◌, IsTrue};
 ghost use Rattle.std.specs.FinMap as map;
 ghost use Rattle.hm_sizes.specs.Classes.{class_count};
@@ -9,6 +10,7 @@ use hm_model::{Draws, Reply, Runs, Who};
 use hm_outside::{FailingPages, NoMemory, Pages, PlainPages, SilentPages};
 use hm_sizes::{ClassId, Config, Kind, class_of};
 use std::alloc::Global;
+use std::process::Abort;
 use std::test::Fail;
 
 /// Where slab 0 of class 7 begins in arena 0 of run 0, and the first block there. These addresses, and the words and
@@ -18,8 +20,8 @@ const FIRST: u64 = 1_592_101_122_048;
 
 const BLOCK: u64 = 1_592_101_124_736;
 
-/// The numbers of a few more runs.
-const RUNS: [u64; 3] = [1, 2, u64::MAX];
+/// The numbers of run 0 and of a few more.
+const RUNS: [u64; 4] = [0, 1, 2, u64::MAX];
 
 /// The last address that a call may name.
 const LAST: u64 = (1 << 47) - 1;
@@ -321,7 +323,11 @@ fn refusals_over<P: Pages>(alloc: Global, pages: P) -> Result<(Refused, Refused,
 fn first_block_of_run_zero(rt: HostRuntime) -> Result<(), Fail> {
     let alloc = rt.alloc();
     let mut region = region(alloc, 7, 1, PlainPages::new(alloc))?;
-    assert_eq!(rt; given(&mut region, 100)?, BLOCK);
+    expect_first_block(&rt, &mut region)
+}
+
+fn expect_first_block<P: Pages>(rt: &impl Abort, region: &mut ClassHeap<P>) -> Result<(), Fail> {
+    assert_eq!(rt; given(region, 100)?, BLOCK);
     assert!(rt; matches!(region.measure(WHO, BLOCK)?, Reply::Usable(104)));
     Ok(())
 }
@@ -331,23 +337,27 @@ fn words_of_run_zero(rt: HostRuntime) -> Result<(), Fail> {
     let alloc = rt.alloc();
     let mut region = region(alloc, 7, 1, PlainPages::new(alloc))?;
     let _block = one_block(&mut region)?;
+    expect_words(&rt, &region);
+    Ok(())
+}
+
+fn expect_words<P: Pages>(rt: &impl Abort, region: &ClassHeap<P>) {
     let opened = Draws {
         used: 3,
         w0: 3_231_088_256,
         w1: 3_392_945_114,
         w2: 2_935_142_444,
     };
-    assert_eq!(rt; drawn(&region, 0), Some(opened));
+    assert_eq!(rt; drawn(region, 0), Some(opened));
     let freed = Draws {
         used: 1,
         w0: 2_409_532_924,
         w1: 0,
         w2: 0,
     };
-    assert_eq!(rt; drawn(&region, 1), Some(freed));
-    assert_eq!(rt; canary(&region, 0), Some(14_572_588_304_984_079_872));
-    assert_eq!(rt; released(&region, 1), None);
-    Ok(())
+    assert_eq!(rt; drawn(region, 1), Some(freed));
+    assert_eq!(rt; canary(region, 0), Some(14_572_588_304_984_079_872));
+    assert_eq!(rt; released(region, 1), None);
 }
 
 #[test]
@@ -405,69 +415,40 @@ fn readings(rt: HostRuntime) -> Result<(), Fail> {
     Ok(())
 }
 
+/// What two requests, two frees and two requests do to slabs where the second slab that is empty is retired.
+const SECOND_RETIRED: [Moved; 6] = [
+    (Some(0), None, None),
+    (Some(2), None, None),
+    (None, None, None),
+    (None, Some(2), None),
+    (None, None, None),
+    (Some(4), None, None),
+];
+
 #[test]
 fn second_empty_slab_is_retired(rt: HostRuntime) -> Result<(), Fail> {
     let alloc = rt.alloc();
-    let mut region = region(alloc, 48, 0, PlainPages::new(alloc))?;
-    let [a, b, c, _d] = two_and_two(&mut region)?;
-    assert_eq!(rt; c, a);
-    assert_eq!(rt; released(&region, 2), Some(a));
-    assert_eq!(rt; released(&region, 3), Some(b));
-    assert_eq!(rt; moved(&region, 0), Some((Some(0), None, None)));
-    assert_eq!(rt; moved(&region, 1), Some((Some(2), None, None)));
-    assert_eq!(rt; moved(&region, 2), Some((None, None, None)));
-    assert_eq!(rt; moved(&region, 3), Some((None, Some(2), None)));
-    assert_eq!(rt; moved(&region, 4), Some((None, None, None)));
-    assert_eq!(rt; moved(&region, 5), Some((Some(4), None, None)));
-    assert_eq!(rt; unparked(&region, 2), Some(None));
-    assert_eq!(rt; unparked(&region, 3), Some(None));
-    Ok(())
-}
-
-#[test]
-fn second_empty_slab_is_retired_in_each_run(rt: HostRuntime) -> Result<(), Fail> {
-    let alloc = rt.alloc();
     for run in RUNS {
         let mut region = region_of(alloc, run, 48, 0, PlainPages::new(alloc))?;
-        let [a, b, c, _d] = two_and_two(&mut region)?;
-        assert_eq!(rt; c, a, "run {run}");
-        assert_eq!(rt; released(&region, 3), Some(b), "run {run}");
-        assert_eq!(rt; moved(&region, 3), Some((None, Some(2), None)), "run {run}");
-        assert_eq!(rt; moved(&region, 5), Some((Some(4), None, None)), "run {run}");
+        expect_second_retired(&rt, &mut region, run)?;
     }
     Ok(())
 }
 
-#[test]
-fn slab_is_purged_in_each_run(rt: HostRuntime) -> Result<(), Fail> {
-    let alloc = rt.alloc();
-    for run in RUNS {
-        let pages = FailingPages::build(alloc, vec![in alloc; 3]?);
-        let mut region = region_of(alloc, run, 48, 0, pages)?;
-        let [a, b, c, d] = two_and_two(&mut region)?;
-        assert_eq!(rt; (c, d), (b, a), "run {run}");
+fn expect_second_retired<P: Pages>(
+    rt: &impl Abort,
+    region: &mut ClassHeap<P>,
+    run: u64,
+) -> Result<(), Fail> {
+    let [a, b, c, _d] = two_and_two(region)?;
+    assert_eq!(rt; c, a, "run {run}");
+    assert_eq!(rt; released(region, 2), Some(a), "run {run}");
+    assert_eq!(rt; released(region, 3), Some(b), "run {run}");
+    for (at, expected) in SECOND_RETIRED.into_iter().enumerate() {
+        assert_eq!(rt; moved(region, at), Some(expected), "run {run}, call {at}");
     }
-    Ok(())
-}
-
-#[test]
-fn write_after_a_free_is_found_in_each_run(rt: HostRuntime) -> Result<(), Fail> {
-    let alloc = rt.alloc();
-    for run in RUNS {
-        let mut region = region_of(alloc, run, 48, 1, PlainPages::new(alloc))?;
-        let (d, _e) = stained_block(alloc, &mut region)?;
-        assert!(rt;
-            matches!(
-                d,
-                Reply::Overwritten {
-                    at: 0,
-                    found: 0x41,
-                    ..
-                }
-            ),
-            "run {run}"
-        );
-    }
+    assert_eq!(rt; unparked(region, 2), Some(None), "run {run}");
+    assert_eq!(rt; unparked(region, 3), Some(None), "run {run}");
     Ok(())
 }
 
@@ -476,34 +457,76 @@ fn frees_are_refused_in_each_run(rt: HostRuntime) -> Result<(), Fail> {
     let alloc = rt.alloc();
     for run in RUNS {
         let mut region = region_of(alloc, run, 7, 1, PlainPages::new(alloc))?;
-        let block = one_block(&mut region)?;
-        let again = refusal_of(&mut region, block)?;
-        let inside = refusal_of(&mut region, block.wrapping_add(8))?;
-        assert_eq!(rt; again, Refused::DoubleFree, "run {run}");
-        assert_eq!(rt; inside, Refused::NoSlot, "run {run}");
+        expect_refused(&rt, &mut region, run)?;
     }
     Ok(())
 }
 
+fn expect_refused<P: Pages>(
+    rt: &impl Abort,
+    region: &mut ClassHeap<P>,
+    run: u64,
+) -> Result<(), Fail> {
+    let block = one_block(region)?;
+    let again = refusal_of(region, block)?;
+    let inside = refusal_of(region, block.wrapping_add(8))?;
+    assert_eq!(rt; again, Refused::DoubleFree, "run {run}");
+    assert_eq!(rt; inside, Refused::NoSlot, "run {run}");
+    Ok(())
+}
+
+/// What they do where the second slab stays, since its pages fail, and is purged.
+const SECOND_PURGED: [Moved; 6] = [
+    (Some(0), None, None),
+    (Some(2), None, None),
+    (None, None, None),
+    (None, None, Some(2)),
+    (None, None, None),
+    (None, None, None),
+];
+
 #[test]
 fn slab_that_stays_is_purged(rt: HostRuntime) -> Result<(), Fail> {
     let alloc = rt.alloc();
-    let pages = FailingPages::build(alloc, vec![in alloc; 3]?);
-    let mut region = region(alloc, 48, 0, pages)?;
-    let [a, b, c, d] = two_and_two(&mut region)?;
-    assert_eq!(rt; (c, d), (b, a));
-    assert_eq!(rt; moved(&region, 3), Some((None, None, Some(2))));
-    assert_eq!(rt; faults(&region, 3), Some((0, 1)));
-    assert_eq!(rt; moved(&region, 4), Some((None, None, None)));
-    assert_eq!(rt; moved(&region, 5), Some((None, None, None)));
+    for run in RUNS {
+        let pages = FailingPages::build(alloc, vec![in alloc; 3]?);
+        let mut region = region_of(alloc, run, 48, 0, pages)?;
+        expect_second_purged(&rt, &mut region, run)?;
+    }
+    Ok(())
+}
+
+fn expect_second_purged<P: Pages>(
+    rt: &impl Abort,
+    region: &mut ClassHeap<P>,
+    run: u64,
+) -> Result<(), Fail> {
+    let [a, b, c, d] = two_and_two(region)?;
+    assert_eq!(rt; (c, d), (b, a), "run {run}");
+    for (at, expected) in SECOND_PURGED.into_iter().enumerate() {
+        assert_eq!(rt; moved(region, at), Some(expected), "run {run}, call {at}");
+    }
+    assert_eq!(rt; faults(region, 3), Some((0, 1)), "run {run}");
     Ok(())
 }
 
 #[test]
 fn write_after_a_free_is_found(rt: HostRuntime) -> Result<(), Fail> {
     let alloc = rt.alloc();
-    let mut region = region(alloc, 48, 1, PlainPages::new(alloc))?;
-    let (d, e) = stained_block(alloc, &mut region)?;
+    for run in RUNS {
+        let mut region = region_of(alloc, run, 48, 1, PlainPages::new(alloc))?;
+        expect_found(&rt, alloc, &mut region, run)?;
+    }
+    Ok(())
+}
+
+fn expect_found<P: Pages>(
+    rt: &impl Abort,
+    alloc: Global,
+    region: &mut ClassHeap<P>,
+    run: u64,
+) -> Result<(), Fail> {
+    let (d, e) = stained_block(alloc, region)?;
     assert!(rt;
         matches!(
             d,
@@ -512,7 +535,8 @@ fn write_after_a_free_is_found(rt: HostRuntime) -> Result<(), Fail> {
                 found: 0x41,
                 ..
             }
-        )
+        ),
+        "run {run}"
     );
     assert!(rt;
         matches!(
@@ -521,9 +545,10 @@ fn write_after_a_free_is_found(rt: HostRuntime) -> Result<(), Fail> {
                 usable: 131_064,
                 ..
             }
-        )
+        ),
+        "run {run}"
     );
-    assert_eq!(rt; moved(&region, 8), Some((Some(6), None, None)));
+    assert_eq!(rt; moved(region, 8), Some((Some(6), None, None)), "run {run}");
     Ok(())
 }
 
@@ -531,10 +556,18 @@ fn write_after_a_free_is_found(rt: HostRuntime) -> Result<(), Fail> {
 fn retired_slab_forgets_its_bytes(rt: HostRuntime) -> Result<(), Fail> {
     let alloc = rt.alloc();
     let mut region = region(alloc, 48, 1, PlainPages::new(alloc))?;
-    let (z, a, d) = stained_second(alloc, &mut region)?;
+    expect_forgotten(&rt, alloc, &mut region)
+}
+
+fn expect_forgotten<P: Pages>(
+    rt: &impl Abort,
+    alloc: Global,
+    region: &mut ClassHeap<P>,
+) -> Result<(), Fail> {
+    let (z, a, d) = stained_second(alloc, region)?;
     assert_eq!(rt; d, z);
-    assert_eq!(rt; moved(&region, 10), Some((Some(8), None, None)));
-    assert_eq!(rt; trap(&mut region, a)?, Some(a));
+    assert_eq!(rt; moved(region, 10), Some((Some(8), None, None)));
+    assert_eq!(rt; trap(region, a)?, Some(a));
     Ok(())
 }
 
@@ -591,10 +624,14 @@ fn failed_page_draws_nothing(rt: HostRuntime) -> Result<(), Fail> {
     let alloc = rt.alloc();
     let pages = FailingPages::build(alloc, vec![in alloc; 1]?);
     let mut region = region(alloc, 7, 1, pages)?;
-    assert!(rt; matches!(allot(&mut region, 100)?, Reply::PagesFailed));
-    assert_eq!(rt; given(&mut region, 100)?, BLOCK);
-    assert_eq!(rt; faults(&region, 0), Some((0, 1)));
-    assert_eq!(rt; faults(&region, 1), Some((1, 1)));
+    expect_nothing_drawn(&rt, &mut region)
+}
+
+fn expect_nothing_drawn<P: Pages>(rt: &impl Abort, region: &mut ClassHeap<P>) -> Result<(), Fail> {
+    assert!(rt; matches!(allot(region, 100)?, Reply::PagesFailed));
+    assert_eq!(rt; given(region, 100)?, BLOCK);
+    assert_eq!(rt; faults(region, 0), Some((0, 1)));
+    assert_eq!(rt; faults(region, 1), Some((1, 1)));
     Ok(())
 }
 
@@ -614,21 +651,32 @@ fn slabs_of_no_bytes(rt: HostRuntime) -> Result<(), Fail> {
 fn bytes_that_were_written_are_read(rt: HostRuntime) -> Result<(), Fail> {
     let alloc = rt.alloc();
     let mut region = region(alloc, 7, 1, PlainPages::new(alloc))?;
-    let block = given(&mut region, 100)?;
-    stain(alloc, &mut region, block)?;
-    assert_eq!(rt;
-        two_runs(&mut region, block)?,
-        (Some((0x41, 1)), Some((0, 4)))
-    );
+    let stained = stained_bytes(alloc, &mut region)?;
+    assert_eq!(rt; stained, (Some((0x41, 1)), Some((0, 4))));
     Ok(())
+}
+
+/// The first two runs of five bytes of a block whose first byte was written.
+fn stained_bytes<P: Pages>(alloc: Global, region: &mut ClassHeap<P>) -> Result<(Run, Run), Fail> {
+    let block = given(region, 100)?;
+    stain(alloc, region, block)?;
+    two_runs(region, block)
 }
 
 #[test]
 fn pages_that_lend_nothing(rt: HostRuntime) -> Result<(), Fail> {
     let alloc = rt.alloc();
     let mut region = region(alloc, 7, 1, SilentPages::new(alloc))?;
-    let block = given(&mut region, 100)?;
-    assert_eq!(rt; trap(&mut region, block)?, Some(block));
-    assert!(rt; write_traps(alloc, &mut region, block)?);
-    free(&mut region, block)
+    expect_nothing_lent(&rt, alloc, &mut region)
+}
+
+fn expect_nothing_lent<P: Pages>(
+    rt: &impl Abort,
+    alloc: Global,
+    region: &mut ClassHeap<P>,
+) -> Result<(), Fail> {
+    let block = given(region, 100)?;
+    assert_eq!(rt; trap(region, block)?, Some(block));
+    assert!(rt; write_traps(alloc, region, block)?);
+    free(region, block)
 }

@@ -1,4 +1,5 @@
-//! Examples of the large region over pages in memory.
+//! Examples of the large region over pages in memory. A test makes the region, and a function over any pages looks at
+//! its replies: so each has few ways out while a region is to be dropped, and its proof is short.
 ghost use Rattle.std.specs.Prelude.{◌≡◌, ◌≤◌, ◌^◌, IsTrue, length};
 ghost use Rattle.std.specs.FinMap as map;
 ghost use Rattle.hm_model.specs.Runs.{expand};
@@ -9,6 +10,7 @@ use hm_model::{Reply, Runs, Who};
 use hm_outside::{FailingPages, NoMemory, Pages, PlainPages, SilentPages};
 use hm_sizes::{Config, LARGE_START};
 use std::alloc::Global;
+use std::process::Abort;
 use std::test::Fail;
 
 const WHO: Who = Who {
@@ -42,41 +44,70 @@ fn standard<P: Pages>(alloc: Global, pages: P) -> Result<LargeHeap<P>, NoMemory>
     LargeHeap::build(alloc, &Config::standard(), 0, pages)
 }
 
-/// Allots at any page.
-fn allot<P: Pages>(region: &mut LargeHeap<P>, asked: u64) -> Result<Reply, NoMemory>
-    requires { asked ≤ 2 ^ 30 }
-{
-    region.allot(WHO, asked, 1)
-}
-
-/// The address and the usable bytes of the block that is given.
+/// The address and the usable bytes of the block that is given at any page.
 fn given<P: Pages>(region: &mut LargeHeap<P>, asked: u64) -> Result<(u64, u64), Fail>
     requires { asked ≤ 2 ^ 30 }
 {
-    block_of(allot(region, asked)?)
+    block_of(region.allot(WHO, asked, 1)?)
+}
+
+/// Whether no range is free for a block.
+fn is_full<P: Pages>(region: &mut LargeHeap<P>, asked: u64) -> Result<bool, NoMemory>
+    requires { asked ≤ 2 ^ 30 }
+{
+    Ok(matches!(region.allot(WHO, asked, 1)?, Reply::NoSpace))
+}
+
+/// Whether a page fails as a block is allotted.
+fn allotting_fails<P: Pages>(region: &mut LargeHeap<P>, asked: u64) -> Result<bool, NoMemory>
+    requires { asked ≤ 2 ^ 30 }
+{
+    Ok(matches!(region.allot(WHO, asked, 1)?, Reply::PagesFailed))
 }
 
 /// Takes a block back.
-fn free<P: Pages>(region: &mut LargeHeap<P>, addr: u64) -> Result<Reply, NoMemory> {
-    region.give_back(WHO, addr, None)
+fn free<P: Pages>(region: &mut LargeHeap<P>, addr: u64) -> Result<(), Fail> {
+    match region.give_back(WHO, addr, None)? {
+        Reply::Freed => Ok(()),
+        _ => Err(Fail::new("not freed")),
+    }
 }
 
-/// The usable bytes of a block.
-fn measure<P: Pages>(region: &mut LargeHeap<P>, addr: u64) -> Result<Reply, NoMemory> {
-    region.measure(WHO, addr)
+/// Whether a page fails as a block is taken back.
+fn freeing_fails<P: Pages>(region: &mut LargeHeap<P>, addr: u64) -> Result<bool, NoMemory> {
+    Ok(matches!(region.give_back(WHO, addr, None)?, Reply::PagesFailed))
 }
 
-/// One byte at an address.
-fn fetch_one<P: Pages>(region: &mut LargeHeap<P>, addr: u64) -> Result<Reply, NoMemory> {
-    region.fetch(WHO, addr.min(LAST), 1)
+/// The usable bytes of a live block that starts here.
+fn measured<P: Pages>(region: &mut LargeHeap<P>, addr: u64) -> Result<Option<u64>, Fail> {
+    match region.measure(WHO, addr)? {
+        Reply::Usable(bytes) => Ok(Some(bytes)),
+        Reply::NotLive => Ok(None),
+        _ => Err(Fail::new("not measured")),
+    }
 }
 
-/// Writes from an address on.
-fn fill_at<P: Pages>(region: &mut LargeHeap<P>, addr: u64, runs: &Runs) -> Result<Reply, NoMemory>
-    requires some { 1 ≤ length (expand runs.now) }
-    requires most { length (expand runs.now) ≤ 2 ^ 30 }
-{
-    region.fill(WHO, addr.min(LAST), runs)
+/// The first address of a byte that cannot be read, if it cannot.
+fn trap<P: Pages>(region: &mut LargeHeap<P>, addr: u64) -> Result<Option<u64>, Fail> {
+    match region.fetch(WHO, addr.min(LAST), 1)? {
+        Reply::Bytes(_) => Ok(None),
+        Reply::Trap { addr } => Ok(Some(addr)),
+        _ => Err(Fail::new("not read")),
+    }
+}
+
+/// The first address of a hundred bytes that cannot be written, if they cannot.
+fn write_trap<P: Pages>(
+    alloc: Global,
+    region: &mut LargeHeap<P>,
+    addr: u64,
+) -> Result<Option<u64>, Fail> {
+    let runs = Runs::same(alloc, 7, 100)?;
+    match region.fill(WHO, addr.min(LAST), &runs)? {
+        Reply::Filled => Ok(None),
+        Reply::Trap { addr } => Ok(Some(addr)),
+        _ => Err(Fail::new("not written")),
+    }
 }
 
 /// How many words the last entry holds, and what it released.
@@ -97,11 +128,18 @@ fn block_of(reply: Reply) -> Result<(u64, u64), Fail> {
 fn size_of_a_block(rt: HostRuntime) -> Result<(), Fail> {
     let alloc = rt.alloc();
     let mut region = standard(alloc, PlainPages::new(alloc))?;
-    let (addr, usable) = given(&mut region, 200_000)?;
+    expect_size_of_a_block(&rt, &mut region)
+}
+
+fn expect_size_of_a_block<P: Pages>(
+    rt: &impl Abort,
+    region: &mut LargeHeap<P>,
+) -> Result<(), Fail> {
+    let (addr, usable) = given(region, 200_000)?;
     assert_eq!(rt; usable, 229_376);
     assert_eq!(rt; addr % 4096, 0);
     assert!(rt; addr > LARGE_START);
-    assert!(rt; matches!(measure(&mut region, addr)?, Reply::Usable(229_376)));
+    assert_eq!(rt; measured(region, addr)?, Some(229_376));
     Ok(())
 }
 
@@ -109,15 +147,17 @@ fn size_of_a_block(rt: HostRuntime) -> Result<(), Fail> {
 fn trap_at_the_end(rt: HostRuntime) -> Result<(), Fail> {
     let alloc = rt.alloc();
     let mut region = standard(alloc, PlainPages::new(alloc))?;
-    let (addr, usable) = given(&mut region, 200_000)?;
+    expect_trap_at_the_end(&rt, &mut region)
+}
+
+fn expect_trap_at_the_end<P: Pages>(
+    rt: &impl Abort,
+    region: &mut LargeHeap<P>,
+) -> Result<(), Fail> {
+    let (addr, usable) = given(region, 200_000)?;
     let end = addr.wrapping_add(usable);
-    assert!(rt; matches!(fetch_one(&mut region, end)?, Reply::Trap { addr } if addr == end));
-    assert!(rt;
-        matches!(
-            fetch_one(&mut region, end.wrapping_sub(1))?,
-            Reply::Bytes(_)
-        )
-    );
+    assert_eq!(rt; trap(region, end)?, Some(end));
+    assert_eq!(rt; trap(region, end.wrapping_sub(1))?, None);
     Ok(())
 }
 
@@ -125,9 +165,13 @@ fn trap_at_the_end(rt: HostRuntime) -> Result<(), Fail> {
 fn refused_frees(rt: HostRuntime) -> Result<(), Fail> {
     let alloc = rt.alloc();
     let mut region = standard(alloc, PlainPages::new(alloc))?;
-    let (addr, _) = given(&mut region, 200_000)?;
+    expect_refused_frees(&rt, &mut region)
+}
+
+fn expect_refused_frees<P: Pages>(rt: &impl Abort, region: &mut LargeHeap<P>) -> Result<(), Fail> {
+    let (addr, _) = given(region, 200_000)?;
     let inside = addr.wrapping_add(8);
-    assert!(rt; matches!(free(&mut region, inside)?, Reply::NotLive));
+    assert!(rt; matches!(region.give_back(WHO, inside, None)?, Reply::NotLive));
     assert!(rt;
         matches!(
             region.give_back(WHO, addr, Some(100_000))?,
@@ -144,9 +188,13 @@ fn refused_frees(rt: HostRuntime) -> Result<(), Fail> {
 fn freed_block(rt: HostRuntime) -> Result<(), Fail> {
     let alloc = rt.alloc();
     let mut region = standard(alloc, PlainPages::new(alloc))?;
-    let (addr, _) = given(&mut region, 200_000)?;
+    expect_freed_block(&rt, &mut region)
+}
+
+fn expect_freed_block<P: Pages>(rt: &impl Abort, region: &mut LargeHeap<P>) -> Result<(), Fail> {
+    let (addr, _) = given(region, 200_000)?;
     assert!(rt; matches!(region.give_back(WHO, addr, Some(220_000))?, Reply::Freed));
-    assert!(rt; matches!(measure(&mut region, addr)?, Reply::NotLive));
+    assert_eq!(rt; measured(region, addr)?, None);
     Ok(())
 }
 
@@ -154,10 +202,17 @@ fn freed_block(rt: HostRuntime) -> Result<(), Fail> {
 fn great_block_draws_no_place(rt: HostRuntime) -> Result<(), Fail> {
     let alloc = rt.alloc();
     let mut region = standard(alloc, PlainPages::new(alloc))?;
-    let (addr, _) = given(&mut region, 40_000_000)?;
-    assert_eq!(rt; last_draws(&region), Some((1, None)));
-    assert!(rt; matches!(free(&mut region, addr)?, Reply::Freed));
-    assert_eq!(rt; last_draws(&region), Some((0, None)));
+    expect_great_block_draws_no_place(&rt, &mut region)
+}
+
+fn expect_great_block_draws_no_place<P: Pages>(
+    rt: &impl Abort,
+    region: &mut LargeHeap<P>,
+) -> Result<(), Fail> {
+    let (addr, _) = given(region, 40_000_000)?;
+    assert_eq!(rt; last_draws(region), Some((1, None)));
+    free(region, addr)?;
+    assert_eq!(rt; last_draws(region), Some((0, None)));
     Ok(())
 }
 
@@ -165,11 +220,18 @@ fn great_block_draws_no_place(rt: HostRuntime) -> Result<(), Fail> {
 fn space_stays_in_quarantine(rt: HostRuntime) -> Result<(), Fail> {
     let alloc = rt.alloc();
     let mut region = region_of(alloc, PlainPages::new(alloc))?;
-    let (addr, usable) = given(&mut region, 500_000)?;
+    expect_space_stays_in_quarantine(&rt, &mut region)
+}
+
+fn expect_space_stays_in_quarantine<P: Pages>(
+    rt: &impl Abort,
+    region: &mut LargeHeap<P>,
+) -> Result<(), Fail> {
+    let (addr, usable) = given(region, 500_000)?;
     assert_eq!(rt; usable, 524_288);
-    assert!(rt; matches!(allot(&mut region, 500_000)?, Reply::NoSpace));
-    assert!(rt; matches!(free(&mut region, addr)?, Reply::Freed));
-    assert!(rt; matches!(allot(&mut region, 500_000)?, Reply::NoSpace));
+    assert!(rt; is_full(region, 500_000)?);
+    free(region, addr)?;
+    assert!(rt; is_full(region, 500_000)?);
     Ok(())
 }
 
@@ -177,6 +239,10 @@ fn space_stays_in_quarantine(rt: HostRuntime) -> Result<(), Fail> {
 fn aligned_blocks(rt: HostRuntime) -> Result<(), Fail> {
     let alloc = rt.alloc();
     let mut region = standard(alloc, PlainPages::new(alloc))?;
+    expect_aligned_blocks(&rt, &mut region)
+}
+
+fn expect_aligned_blocks<P: Pages>(rt: &impl Abort, region: &mut LargeHeap<P>) -> Result<(), Fail> {
     let (page, _) = block_of(region.allot(WHO, 5_000, 4096)?)?;
     assert_eq!(rt; page % 4096, 0);
     let (block, usable) = block_of(region.allot(WHO, 5_000, 1 << 21)?)?;
@@ -189,9 +255,16 @@ fn aligned_blocks(rt: HostRuntime) -> Result<(), Fail> {
 fn written_bytes(rt: HostRuntime) -> Result<(), Fail> {
     let alloc = rt.alloc();
     let mut region = standard(alloc, PlainPages::new(alloc))?;
-    let (addr, _) = given(&mut region, 10_000)?;
-    let runs = Runs::same(alloc, 7, 100)?;
-    assert!(rt; matches!(fill_at(&mut region, addr, &runs)?, Reply::Filled));
+    expect_written_bytes(&rt, alloc, &mut region)
+}
+
+fn expect_written_bytes<P: Pages>(
+    rt: &impl Abort,
+    alloc: Global,
+    region: &mut LargeHeap<P>,
+) -> Result<(), Fail> {
+    let (addr, _) = given(region, 10_000)?;
+    assert_eq!(rt; write_trap(alloc, region, addr)?, None);
     match region.fetch(WHO, addr.min(LAST), 101)? {
         Reply::Bytes(bytes) => assert_eq!(rt; bytes.pairs(), [(7, 100), (0, 1)].as_slice()),
         _ => return Err(Fail::new("not read")),
@@ -204,9 +277,16 @@ fn failed_page_gives_nothing(rt: HostRuntime) -> Result<(), Fail> {
     let alloc = rt.alloc();
     let pages = FailingPages::build(alloc, vec![in alloc; 1]?);
     let mut region = standard(alloc, pages)?;
-    assert!(rt; matches!(allot(&mut region, 200_000)?, Reply::PagesFailed));
+    expect_failed_page_gives_nothing(&rt, &mut region)
+}
+
+fn expect_failed_page_gives_nothing<P: Pages>(
+    rt: &impl Abort,
+    region: &mut LargeHeap<P>,
+) -> Result<(), Fail> {
+    assert!(rt; allotting_fails(region, 200_000)?);
     assert_eq!(rt; region.faults(), 1);
-    assert!(rt; matches!(allot(&mut region, 200_000)?, Reply::Given { .. }));
+    let _block = given(region, 200_000)?;
     Ok(())
 }
 
@@ -215,39 +295,54 @@ fn failed_drop_leaves_the_block(rt: HostRuntime) -> Result<(), Fail> {
     let alloc = rt.alloc();
     let pages = FailingPages::build(alloc, vec![in alloc; 2]?);
     let mut region = standard(alloc, pages)?;
-    let (addr, _) = given(&mut region, 200_000)?;
-    assert!(rt; matches!(free(&mut region, addr)?, Reply::PagesFailed));
-    assert!(rt; matches!(measure(&mut region, addr)?, Reply::Usable(229_376)));
-    assert!(rt; matches!(free(&mut region, addr)?, Reply::Freed));
-    Ok(())
+    expect_failed_drop_leaves_the_block(&rt, &mut region)
+}
+
+fn expect_failed_drop_leaves_the_block<P: Pages>(
+    rt: &impl Abort,
+    region: &mut LargeHeap<P>,
+) -> Result<(), Fail> {
+    let (addr, _) = given(region, 200_000)?;
+    assert!(rt; freeing_fails(region, addr)?);
+    assert_eq!(rt; measured(region, addr)?, Some(229_376));
+    free(region, addr)
 }
 
 #[test]
 fn pages_that_lend_nothing(rt: HostRuntime) -> Result<(), Fail> {
     let alloc = rt.alloc();
     let mut region = standard(alloc, SilentPages::new(alloc))?;
-    let (block, _) = given(&mut region, 200_000)?;
-    assert!(rt; matches!(fetch_one(&mut region, block)?, Reply::Trap { addr } if addr == block));
-    let runs = Runs::same(alloc, 7, 100)?;
-    assert!(rt;
-        matches!(fill_at(&mut region, block, &runs)?, Reply::Trap { addr } if addr == block)
-    );
-    assert!(rt; matches!(free(&mut region, block)?, Reply::Freed));
-    Ok(())
+    expect_pages_that_lend_nothing(&rt, alloc, &mut region)
+}
+
+fn expect_pages_that_lend_nothing<P: Pages>(
+    rt: &impl Abort,
+    alloc: Global,
+    region: &mut LargeHeap<P>,
+) -> Result<(), Fail> {
+    let (block, _) = given(region, 200_000)?;
+    assert_eq!(rt; trap(region, block)?, Some(block));
+    assert_eq!(rt; write_trap(alloc, region, block)?, Some(block));
+    free(region, block)
 }
 
 #[test]
 fn freed_block_that_pages_lend(rt: HostRuntime) -> Result<(), Fail> {
     let alloc = rt.alloc();
     let mut region = standard(alloc, LendingPages::build(alloc)?)?;
-    let (block, _) = given(&mut region, 200_000)?;
-    let runs = Runs::same(alloc, 7, 100)?;
-    assert!(rt; matches!(fill_at(&mut region, block, &runs)?, Reply::Filled));
-    assert!(rt; matches!(fetch_one(&mut region, block)?, Reply::Bytes(_)));
-    assert!(rt; matches!(free(&mut region, block)?, Reply::Freed));
-    assert!(rt; matches!(fetch_one(&mut region, block)?, Reply::Trap { addr } if addr == block));
-    assert!(rt;
-        matches!(fill_at(&mut region, block, &runs)?, Reply::Trap { addr } if addr == block)
-    );
+    expect_freed_block_that_pages_lend(&rt, alloc, &mut region)
+}
+
+fn expect_freed_block_that_pages_lend<P: Pages>(
+    rt: &impl Abort,
+    alloc: Global,
+    region: &mut LargeHeap<P>,
+) -> Result<(), Fail> {
+    let (block, _) = given(region, 200_000)?;
+    assert_eq!(rt; write_trap(alloc, region, block)?, None);
+    assert_eq!(rt; trap(region, block)?, None);
+    free(region, block)?;
+    assert_eq!(rt; trap(region, block)?, Some(block));
+    assert_eq!(rt; write_trap(alloc, region, block)?, Some(block));
     Ok(())
 }

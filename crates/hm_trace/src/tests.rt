@@ -1,6 +1,6 @@
 //! Texts that are traces, the first faults of texts that are none, and stress traces.
 use crate::{
-    FaultKind, Name, Place, ReadRefusal, Script, Step, TraceFault, read_trace, stress_trace,
+    FaultKind, Name, Place, ReadRefusal, Script, Step, Trace, TraceFault, read_trace, stress_trace,
     write_trace,
 };
 use std::alloc::{AllocError, Global};
@@ -254,14 +254,26 @@ fn steps_of(scripts: &[Script], thread: u32) -> Option<&[Step]> {
 fn stress_traces(rt: HostRuntime) -> Result<(), Fail> {
     for (number, thread, j, name, size, other) in GROUPS {
         let trace = stress_trace(&rt, rt.alloc(), number)?;
-        assert_eq!(rt; trace.rounds().len(), 1);
-        let scripts = trace.rounds().first().ok_or("no round")?.scripts();
-        assert_eq!(rt; scripts.len(), 16);
-        let steps = steps_of(scripts, thread).ok_or("no thread")?;
-        assert_eq!(rt; steps.len(), 12_500);
-        let found = steps.chunks(5).nth(j).ok_or("no group")?;
         let expected = group(name, size, other).ok_or("no name")?;
-        assert_eq!(rt; found, expected.as_slice());
+        expect_group(&rt, &trace, thread, j, &expected)?;
     }
+    Ok(())
+}
+
+/// A stress trace has one round of sixteen scripts, and this group stands at this place of a thread's.
+fn expect_group(
+    rt: &impl Abort,
+    trace: &Trace,
+    thread: u32,
+    j: usize,
+    expected: &[Step],
+) -> Result<(), Fail> {
+    assert_eq!(rt; trace.rounds().len(), 1);
+    let scripts = trace.rounds().first().ok_or("no round")?.scripts();
+    assert_eq!(rt; scripts.len(), 16);
+    let steps = steps_of(scripts, thread).ok_or("no thread")?;
+    assert_eq!(rt; steps.len(), 12_500);
+    let found = steps.chunks(5).nth(j).ok_or("no group")?;
+    assert_eq!(rt; found, expected);
     Ok(())
 }
