@@ -169,23 +169,38 @@ fn source_fails_at_each_call(rt: HostRuntime) -> Result<(), Fail> {
     Ok(())
 }
 
+// The status of a run over a sink that takes so many bytes at a time and fails at one call, or at none where that is
+// 0, and what the sink holds. The heap is closed in any case.
+fn ending_of<R: Threads + Wait + Sync>(
+    rt: &R,
+    alloc: Global,
+    piece: usize,
+    call: u64,
+) -> Result<(u8, Vec<u8>), Fail> {
+    let mut fail_calls = Vec::new(alloc);
+    fail_calls.push(call)?;
+    let mut sink = VecSink::build(alloc, 99, piece, fail_calls)?;
+    let run = run_plain(rt, alloc, "run", TEXT, &mut sink)?;
+    let _closed = run.closed.ok_or("closed")?;
+    Ok((run.status, sink.held))
+}
+
 // The report goes in seven pieces of 4 bytes.
 #[test]
 fn sink_fails_at_each_call(rt: HostRuntime) -> Result<(), Fail> {
-    let alloc = rt.alloc();
     for call in 1..9 {
-        let mut fail_calls = Vec::new(alloc);
-        fail_calls.push(call as u64)?;
-        let mut sink = VecSink::build(alloc, 99, 4, fail_calls)?;
-        let run = run_plain(&rt, alloc, "run", TEXT, &mut sink)?;
-        let held = if call < 8 { 4 * (call - 1) } else { 28 };
-        assert_eq!(rt; run.status, if call < 8 { 5 } else { 0 });
-        assert_eq!(rt; sink.held.as_slice(), &REPORT[..held]);
-        assert!(rt; run.closed.is_some());
+        let (status, held) = ending_of(&rt, rt.alloc(), 4, call as u64)?;
+        let len = if call < 8 { 4 * (call - 1) } else { 28 };
+        assert_eq!(rt; status, if call < 8 { 5 } else { 0 });
+        assert_eq!(rt; held.as_slice(), &REPORT[..len]);
     }
-    let mut sink = VecSink::build(alloc, 99, 0, Vec::new(alloc))?;
-    let run = run_plain(&rt, alloc, "run", TEXT, &mut sink)?;
-    assert_eq!(rt; run.status, 5);
-    assert!(rt; sink.held.is_empty() && run.closed.is_some());
+    Ok(())
+}
+
+#[test]
+fn sink_takes_nothing(rt: HostRuntime) -> Result<(), Fail> {
+    let (status, held) = ending_of(&rt, rt.alloc(), 0, 0)?;
+    assert_eq!(rt; status, 5);
+    assert!(rt; held.is_empty());
     Ok(())
 }

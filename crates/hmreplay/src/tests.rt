@@ -2,12 +2,13 @@
 //! of a round, what the number of a run moves, and what is asked of a source.
 ghost use Rattle.std.specs.Prelude.{None};
 
-use crate::run::replay;
+use crate::run::{Run, replay};
 use crate::test_runs::{failing_maker, replay_plain, run_plain, run_text, source, text_of, words};
 use hm_frames::FrameMaker;
 use hm_outside::{Gate, NoGate, PageMaker, PlainMaker, RegionId, Source, SourceFault, VecSink};
 use hm_trace::{read_trace, write_trace};
 use std::alloc::Global;
+use std::process::Abort;
 use std::sync::Wait;
 use std::sync::atomic::{AtomicU64, Ordering};
 use std::test::Fail;
@@ -209,48 +210,36 @@ fn check_row<R: Threads + Wait + Sync, M: PageMaker>(
     Ok(is_told && run.status == row.status && run.closed.is_some())
 }
 
+// Checks each row, with these words behind its own.
+fn check_rows<R: Threads + Wait + Sync + Abort, M: PageMaker>(
+    rt: &R,
+    alloc: Global,
+    more: &str,
+    maker: &mut M,
+) -> Result<(), Fail> {
+    for row in &ROWS {
+        assert!(rt; check_row(rt, alloc, row, more, maker)?, "{}", row.steps);
+    }
+    Ok(())
+}
+
 // Pages in raw memory and plain ones give the same bytes.
 #[test]
 fn traces(rt: HostRuntime) -> Result<(), Fail> {
-    let alloc = rt.alloc();
-    for row in &ROWS {
-        assert!(rt;
-            check_row(&rt, alloc, row, "", &mut PlainMaker)?,
-            "{}",
-            row.steps
-        );
-        assert!(rt;
-            check_row(&rt, alloc, row, "", &mut FrameMaker)?,
-            "{}",
-            row.steps
-        );
-    }
-    Ok(())
+    check_rows(&rt, rt.alloc(), "", &mut PlainMaker)?;
+    check_rows(&rt, rt.alloc(), "", &mut FrameMaker)
 }
 
 // What is written hangs on no number of the run.
 #[test]
 fn traces_of_other_numbers(rt: HostRuntime) -> Result<(), Fail> {
-    let alloc = rt.alloc();
-    for row in &ROWS {
-        assert!(rt;
-            check_row(&rt, alloc, row, " --seed 7", &mut FrameMaker)?,
-            "{}",
-            row.steps
-        );
-        assert!(rt;
-            check_row(
-                &rt,
-                alloc,
-                row,
-                " --seed 18446744073709551615",
-                &mut FrameMaker
-            )?,
-            "{}",
-            row.steps
-        );
-    }
-    Ok(())
+    check_rows(&rt, rt.alloc(), " --seed 7", &mut FrameMaker)?;
+    check_rows(
+        &rt,
+        rt.alloc(),
+        " --seed 18446744073709551615",
+        &mut FrameMaker,
+    )
 }
 
 // Every second slab is a guard, and the region's slabs end with the fourth.
@@ -385,15 +374,18 @@ fn endings(rt: HostRuntime) -> Result<(), Fail> {
     Ok(())
 }
 
-// A trace is written as it was read.
+// Whether the trace of these steps is written as it was read.
+fn comes_back(alloc: Global, steps: &str) -> Result<bool, Fail> {
+    let text = text_of(alloc, steps)?;
+    let trace = read_trace(alloc, text.as_bytes()).ok().ok_or("no trace")?;
+    let written = write_trace(alloc, &trace)?;
+    Ok(written.as_slice() == text.as_bytes())
+}
+
 #[test]
 fn texts_come_back(rt: HostRuntime) -> Result<(), Fail> {
-    let alloc = rt.alloc();
     for row in &ROWS {
-        let text = text_of(alloc, row.steps)?;
-        let trace = read_trace(alloc, text.as_bytes()).ok().ok_or("no trace")?;
-        let written = write_trace(alloc, &trace)?;
-        assert_eq!(rt; written.as_slice(), text.as_bytes());
+        assert!(rt; comes_back(rt.alloc(), row.steps)?, "{}", row.steps);
     }
     Ok(())
 }
@@ -464,15 +456,20 @@ fn failed_page(rt: HostRuntime) -> Result<(), Fail> {
         sink.held.as_slice(),
         b"1.1.1 pages failed\n1.1.2 given 104\n".as_slice()
     );
-    let closed = run.closed.ok_or("closed")?;
-    let history = closed.histories.items().get(7).ok_or("region 7")?;
+    let counts = faults_of(alloc, &run, 7)?;
+    assert_eq!(rt; counts.as_slice(), [(0, 1), (1, 1)].as_slice());
+    Ok(())
+}
+
+// The counts of page faults at the start and the end of each call of a region.
+fn faults_of<P>(alloc: Global, run: &Run<P>, place: usize) -> Result<Vec<(u64, u64)>, Fail> {
+    let closed = run.closed.as_ref().ok_or("closed")?;
+    let history = closed.histories.items().get(place).ok_or("region")?;
     let mut counts = Vec::new(alloc);
     for entry in history.entries.items() {
-        counts.push(entry.faults_before)?;
-        counts.push(entry.faults_after)?;
+        counts.push((entry.faults_before, entry.faults_after))?;
     }
-    assert_eq!(rt; counts.as_slice(), [0, 1, 1, 1].as_slice());
-    Ok(())
+    Ok(counts)
 }
 
 /// A gate that holds the first call in each of two regions until both were entered, or for 10,000,000 turns.

@@ -1,10 +1,13 @@
 //! Lists of words after the program's name: which of them are accepted, by the status that the run of an empty trace
 //! ends with, and what accepted ones ask for.
 
-use crate::test_runs::{replay_plain, run_plain, source, words};
+use crate::test_runs::{replay_plain, source, words};
 use crate::words::{Asked, Command, Options, Output, read_words};
 use hm_outside::VecSink;
+use std::alloc::Global;
+use std::sync::Wait;
 use std::test::Fail;
+use std::thread::Threads;
 
 /// Words that are accepted with an empty trace, and the status.
 const WORDS: [(&str, u8); 31] = [
@@ -44,18 +47,26 @@ const WORDS: [(&str, u8); 31] = [
     ("--seed 7 run", 2),
 ];
 
+// The status of the run of an empty trace with these words.
+fn status_of<R: Threads + Wait + Sync>(
+    rt: &R,
+    alloc: Global,
+    asked: &[String],
+) -> Result<u8, Fail> {
+    let mut sink = VecSink::build(alloc, 65_536, 65_536, Vec::new(alloc))?;
+    let mut source = source(alloc, b"hmtrace 1\nend\n", 99, 0)?;
+    let run = replay_plain(rt, alloc, asked, &mut source, &mut sink);
+    Ok(run.status)
+}
+
 #[test]
 fn accepted_words(rt: HostRuntime) -> Result<(), Fail> {
     let alloc = rt.alloc();
-    for (asked, status) in WORDS {
-        let mut sink = VecSink::build(alloc, 65_536, 65_536, Vec::new(alloc))?;
-        let run = run_plain(&rt, alloc, asked, b"hmtrace 1\nend\n", &mut sink)?;
-        assert_eq!(rt; run.status, status, "{asked}");
+    for (line, status) in WORDS {
+        let asked = words(alloc, line)?;
+        assert_eq!(rt; status_of(&rt, alloc, &asked)?, status, "{line}");
     }
-    let mut sink = VecSink::build(alloc, 99, 99, Vec::new(alloc))?;
-    let mut source = source(alloc, b"hmtrace 1\nend\n", 99, 0)?;
-    let run = replay_plain(&rt, alloc, &[], &mut source, &mut sink);
-    assert_eq!(rt; run.status, 2);
+    assert_eq!(rt; status_of(&rt, alloc, &[])?, 2);
     Ok(())
 }
 
