@@ -1,6 +1,6 @@
 //! Tables of calls of a heap on one pass, each call with its answer; calls of several passes, and the end
 //! of a heap.
-ghost use Rattle.std.specs.Prelude.{OnOk};
+ghost use Rattle.std.specs.Prelude.{◌≡◌, OnOk};
 ghost use Rattle.hm_heap.specs.Passes.{AreOf};
 
 use crate::{Closed, Heap, Pass};
@@ -474,6 +474,27 @@ fn each_region_has_pages_and_a_history(rt: HostRuntime) -> Result<(), Fail> {
     Ok(())
 }
 
+/// Two passes are split off, each asks for 100 bytes, and both are joined.
+fn two_passes<R: Wait, P: Pages, G: Gate>(
+    rt: &R,
+    alloc: Global,
+    heap: &Heap<P, G>,
+    root: &mut Pass,
+) -> Result<(Answer, Answer), NoMemory>
+    requires of { AreOf heap.now.locks root.old.turns }
+    requires root { (root.old.caller ≡ 0) × (root.old.splits ≡ 0) × (root.old.out ≡ 0) }
+    ensures of { OnOk result (AreOf heap.entry.now.locks root.new.turns) }
+    ensures root { OnOk result ((root.new.caller ≡ 0) × (root.new.out ≡ 0)) }
+{
+    let mut first = heap.split(alloc, root, 1, 1)?;
+    let mut second = heap.split(alloc, root, 1, 2)?;
+    let given = heap.malloc(rt, &mut first, 1, 100)?;
+    let other = heap.malloc(rt, &mut second, 1, 100)?;
+    heap.join(root, first);
+    heap.join(root, second);
+    Ok((given, other))
+}
+
 /// How many entries the history of a region has.
 fn entries_of<P>(closed: &Closed<P>, region: usize) -> Option<usize> {
     let history = closed.histories.items().get(region)?;
@@ -484,12 +505,7 @@ fn entries_of<P>(closed: &Closed<P>, region: usize) -> Option<usize> {
 fn passes_are_joined_and_closed(rt: HostRuntime) -> Result<(), Fail> {
     let config = Config::standard();
     let (heap, mut root) = Heap::build(rt.alloc(), config, 1, &mut PlainMaker, &NoGate)?;
-    let mut first = heap.split(rt.alloc(), &mut root, 1, 1)?;
-    let mut second = heap.split(rt.alloc(), &mut root, 1, 2)?;
-    let given = heap.malloc(&rt, &mut first, 1, 100)?;
-    let other = heap.malloc(&rt, &mut second, 1, 100)?;
-    heap.join(&mut root, first);
-    heap.join(&mut root, second);
+    let (given, other) = two_passes(&rt, rt.alloc(), &heap, &mut root)?;
     assert_eq!(rt;
         (told_by(&given), told_by(&other)),
         (Told::Given(104), Told::Given(104))

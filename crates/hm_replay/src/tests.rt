@@ -139,6 +139,25 @@ fn run_alone<R: Wait, P: Pages, G: Gate>(
     results
 }
 
+/// The reports of two scripts of a round, each run alone, one after the other.
+fn reports_alone<R: Wait, P: Pages, G: Gate>(
+    rt: &R,
+    alloc: Global,
+    heap: &Heap<P, G>,
+    root: &mut Pass,
+    first: &Script,
+    second: &Script,
+) -> Result<(Vec<u8>, Vec<u8>), NoMemory>
+    requires of { AreOf heap.now.locks root.old.turns }
+    requires root { (root.old.caller ≡ 0) × (root.old.splits ≡ 0) }
+{
+    let mut env = Env::build(alloc);
+    let set = run_alone(rt, alloc, heap, root, first, &mut env)?;
+    let seen = run_alone(rt, alloc, heap, root, second, &mut env)?;
+    let told = report(alloc, slice::from_ref(&set))?;
+    Ok((told, report(alloc, slice::from_ref(&seen))?))
+}
+
 #[test]
 fn a_script_sees_and_sets_names(rt: HostRuntime) -> Result<(), Fail> {
     let alloc = rt.alloc();
@@ -154,17 +173,13 @@ fn a_script_sees_and_sets_names(rt: HostRuntime) -> Result<(), Fail> {
         return Err(Fail::new("not two scripts"));
     };
     let (heap, mut root) = Heap::build(alloc, Config::standard(), 1, &mut PlainMaker, &NoGate)?;
-    let mut env = Env::build(alloc);
-    let set = run_alone(&rt, alloc, &heap, &mut root, first, &mut env)?;
-    let told = report(alloc, slice::from_ref(&set))?;
+    let (set, seen) = reports_alone(&rt, alloc, &heap, &mut root, first, second)?;
     assert_eq!(rt;
-        told.as_slice(),
+        set.as_slice(),
         b"1.1.1 given 104\n1.1.2 size 104\n".as_slice()
     );
-    let seen = run_alone(&rt, alloc, &heap, &mut root, second, &mut env)?;
-    let told = report(alloc, slice::from_ref(&seen))?;
     assert_eq!(rt;
-        told.as_slice(),
+        seen.as_slice(),
         b"1.2.1 size 104\n1.2.2 freed\n1.2.3 skipped\n".as_slice()
     );
     Ok(())
