@@ -1,8 +1,7 @@
 //! Examples of the large region over pages in memory. A test makes the region, and a function over any pages looks at
 //! its replies: so each has few ways out while a region is to be dropped, and its proof is short.
-ghost use Rattle.std.specs.Prelude.{◌≡◌, ◌≤◌, ◌^◌, IsTrue, length};
+ghost use Rattle.std.specs.Prelude.{◌≡◌, ◌≤◌, ◌^◌, IsTrue};
 ghost use Rattle.std.specs.FinMap as map;
-ghost use Rattle.hm_model.specs.Runs.{expand};
 
 use crate::LargeHeap;
 use crate::lending_pages::LendingPages;
