@@ -415,7 +415,7 @@ fn readings(rt: HostRuntime) -> Result<(), Fail> {
     Ok(())
 }
 
-/// What two requests, two frees and two requests do to slabs where the second slab that is empty is retired.
+/// What two requests, two frees and two requests do to slabs, where the second slab that is empty is retired.
 const SECOND_RETIRED: [Moved; 6] = [
     (Some(0), None, None),
     (Some(2), None, None),
@@ -475,7 +475,7 @@ fn expect_refused<P: Pages>(
     Ok(())
 }
 
-/// What they do where the second slab stays, since its pages fail, and is purged.
+/// What the same six calls do where the second slab stays, since its pages fail, and is purged.
 const SECOND_PURGED: [Moved; 6] = [
     (Some(0), None, None),
     (Some(2), None, None),
