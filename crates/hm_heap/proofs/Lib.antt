@@ -12,3 +12,4 @@ pub mod Founding
 pub mod Closing
 pub mod Answering
 pub mod Blocks
+pub mod Fronts

@@ -17,6 +17,11 @@ use Rattle.hm_large.specs.Laws as large_laws
 use Rattle.hm_large.specs.Rules as large
 use Rattle.hm_heap.specs.Lawful.{class_terms, large_terms, IsRegionOf, IsLawful}
 
+-- ---- fronts
+-- what a lawful history begins with is lawful
+abbrev pub FrontsLawful : Type 0
+FrontsLawful = (o : Origin) (entries later : List Entry) → IsLawful o (entries ++ later) → IsLawful o entries
+
 -- ---- live blocks
 -- the address q is of the live block that begins at a: of its slot, or one of its bytes
 pub record IsOfBlock (o : Origin) (history : List Entry) (a q : ℕ) : Type 0 where

@@ -1,8 +1,13 @@
 //! Laws of lawful histories, whatever the region. Each function does nothing of its own: its contract is the
 //! law.
-ghost use Rattle.hm_heap.specs.Laws.{BlocksApart, BlocksDelayed, BlocksZeroed, HomesOfBlocks, RegionsApart, SlotsDelayed, SlotsZeroed};
+ghost use Rattle.hm_heap.specs.Laws.{BlocksApart, BlocksDelayed, BlocksZeroed, FrontsLawful, HomesOfBlocks, RegionsApart, SlotsDelayed, SlotsZeroed};
 
 use hm_sizes::home_laws;
+
+/// What a lawful history begins with is lawful, so the other laws hold after any number of its entries.
+pub fn lawful_fronts()
+    ensures { FrontsLawful }
+{}
 
 /// The home of each address of a live block is the block's region.
 pub fn homes_of_blocks()

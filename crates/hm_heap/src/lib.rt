@@ -18,7 +18,7 @@ mod split;
 
 pub use close::{Closed, History};
 pub use heap::Heap;
-pub use laws::{apart_blocks, delayed_blocks, homes_of_blocks, zeroed_blocks};
+pub use laws::{apart_blocks, delayed_blocks, homes_of_blocks, lawful_fronts, zeroed_blocks};
 pub use pass::Pass;
 pub use region::Region;
 

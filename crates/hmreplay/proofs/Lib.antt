@@ -5,7 +5,6 @@ pub mod TooLong
 pub mod Counting
 pub mod Numerals
 pub mod Valid
-pub mod Fronts
 pub mod Causes
 pub mod Outcomes
 pub mod Handing

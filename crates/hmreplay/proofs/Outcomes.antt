@@ -24,7 +24,7 @@ use Rattle.hmreplay.specs.declared.words.Options.{Options}
 use Rattle.hmreplay.specs.Words.{config_of}
 use Rattle.hmreplay.specs.Replayed.{origin_at, AreEnds, IsReplayed}
 use Rattle.hmreplay.specs.Laws.{Begins, RegionsApart}
-use Rattle.hmreplay.proofs.Fronts.{lawful_front}
+use Rattle.hm_heap.proofs.Fronts.{lawful_front}
 
 module _ {P : Type 0} (meaning : pages.Ghosts P) where
   -- ---- closing

@@ -4,14 +4,14 @@ use Rattle.hm_choice.specs.Stream.{Words, after_word}
 use Rattle.hm_model.specs.declared.entry.Entry.{Entry}
 use Rattle.hm_model.specs.Machine.{Legal_split}
 use Rattle.hm_sizes.specs.Origins.{Origin}
-use Rattle.hm_heap.specs.ClassDrawn.{AreDrawn}
+use Rattle.hm_class_rules.specs.Drawn.{AreDrawn}
 use Rattle.hm_class_rules.specs.Draws.{stream_of, words_of, words_from, all_words}
 use Rattle.hm_class_rules.proofs.Streams.{same_head, same_tail}
-use Rattle.hm_heap.specs.ClassRules as class
+use Rattle.hm_class_rules.specs.Rules as class
 use Rattle.hm_class_rules.specs.State as class_state
 use Rattle.hm_class_rules.specs.Steps as class_steps
-use Rattle.hm_heap.specs.LargeDrawn as large_draws
-use Rattle.hm_heap.specs.LargeRules as large
+use Rattle.hm_large.specs.Draws as large_draws
+use Rattle.hm_large.specs.Rules as large
 use Rattle.hm_large.specs.State as large_state
 use Rattle.hm_heap.specs.Lawful.{arena_of, class_terms, large_terms, IsLawful}
 
