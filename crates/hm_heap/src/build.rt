@@ -18,7 +18,7 @@ use hm_turn::{Turn, TurnLock};
 use std::alloc::Global;
 
 // The lock of a class region, and its first turn.
-fn found_class<P: Pages>(
+fn class_lock<P: Pages>(
     alloc: Global,
     config: &Config,
     seed: u64,
@@ -39,7 +39,7 @@ fn found_class<P: Pages>(
 }
 
 // The lock of the large region, and its first turn.
-fn found_large<P: Pages>(
+fn large_lock<P: Pages>(
     alloc: Global,
     config: &Config,
     seed: u64,
@@ -76,12 +76,12 @@ impl<'g, P: Pages, G: Gate> Heap<'g, P, G> {
         let mut turns = Vec::with_capacity(alloc, count as usize + 1)?;
         for region in 0..count {
             let pages = maker.make(alloc, RegionId(region))?;
-            let (lock, turn) = found_class(alloc, &config, seed, region, pages)?;
+            let (lock, turn) = class_lock(alloc, &config, seed, region, pages)?;
             locks.push_reserved(lock);
             turns.push_reserved(turn);
         }
         let pages = maker.make(alloc, RegionId(LARGE))?;
-        let (lock, turn) = found_large(alloc, &config, seed, pages)?;
+        let (lock, turn) = large_lock(alloc, &config, seed, pages)?;
         locks.push_reserved(lock);
         turns.push_reserved(turn);
         let pass = Pass {

@@ -5,6 +5,7 @@ ghost use Rattle.hm_heap.specs.Passes.{AreOf, region_at};
 ghost use Rattle.hm_heap.specs.Parts.{who_of, HasPart, HasTried};
 
 use crate::enter::{enter_at, try_enter_at};
+use crate::homes::large_place;
 use crate::pass::Pass;
 use crate::region::Region;
 use crate::request::Request;
@@ -45,7 +46,7 @@ pub(crate) fn region_at(config: &Config, place: usize) -> RegionId
     requires { config.now.arenas ≤ 4 }
     ensures { result.0 ≡ region_at config.now place }
 {
-    if place < (config.arenas * CLASSES) as usize {
+    if place < large_place(config) {
         RegionId(place as u32)
     } else {
         RegionId(LARGE)

@@ -32,7 +32,8 @@ pub(crate) fn large_place(config: &Config) -> usize
     (config.arenas * CLASSES) as usize
 }
 
-/// The place of the region in which a block of this kind is asked for. None is for one that is too large.
+/// The place of the region in which a block of this kind is asked for. None is for one that is too large. `asked` is
+/// read by the clauses alone.
 pub(crate) fn place_for(config: &Config, thread: u32, kind: Kind, asked: u64) -> Option<usize>
     requires valid { IsValid config.now }
     requires thread { 1 ≤ thread }

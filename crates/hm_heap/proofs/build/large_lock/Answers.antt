@@ -3,7 +3,7 @@ use Rattle.hm_heap.specs.Origins.{numbers_of}
 use Rattle.hm_large.specs.Region.{Region, origin}
 use Rattle.hm_heap.proofs.Founding.{founded}
 use Rattle.hm_heap.proofs.LargeRegions.{large_origin_at}
-use Rattle.hm_heap.proofs.build.found_large.Goals as goal
+use Rattle.hm_heap.proofs.build.large_lock.Goals as goal
 
 pub returns : goal.returns
 returns g c =

@@ -3,7 +3,7 @@ use Rattle.hm_heap.specs.Origins.{numbers_of}
 use Rattle.hm_class.specs.Region.{Region, origin}
 use Rattle.hm_heap.proofs.Founding.{founded}
 use Rattle.hm_heap.proofs.ClassRegions.{class_origin_at}
-use Rattle.hm_heap.proofs.build.found_class.Goals as goal
+use Rattle.hm_heap.proofs.build.class_lock.Goals as goal
 
 pub returns : goal.returns
 returns g c =
