@@ -14,7 +14,7 @@ ghost use Rattle.hm_large.specs.Kept.{Shows, AreGuarded};
 ghost use Rattle.hm_large.specs.Stored.{HeldByNone, IsLeft};
 
 use crate::store::Store;
-use hm_model::Runs;
+use hm_model::{Reply, Runs};
 use hm_outside::{NoMemory, Pages};
 use std::alloc::Global;
 
@@ -24,6 +24,21 @@ pub enum Reading {
     Bytes(Runs),
     /// No bytes: it traps at this address.
     Trap(u64),
+}
+
+impl Reading {
+    /// The reply to a fetch, twice.
+    pub fn replies(self) -> Result<(Reply, Reply), NoMemory>
+        ensures { IfOk result (λ both. (both.0 ≡ fetch_reply self) × (both.1 ≡ fetch_reply self)) }
+    {
+        match self {
+            Reading::Bytes(runs) => {
+                let copy = runs.copy()?;
+                Ok((Reply::Bytes(runs), Reply::Bytes(copy)))
+            }
+            Reading::Trap(addr) => Ok((Reply::Trap { addr }, Reply::Trap { addr })),
+        }
+    }
 }
 
 // How many bytes a live block has from the address on: 0 where the address is in none.
@@ -119,15 +134,13 @@ pub fn write<P: Pages>(store: &Store, pages: &mut P, addr: u64, runs: &Runs) -> 
     ensures unchanged { IsSome result → P.runs pages.new ≡ P.runs pages.old }
 {
     let len = runs.len();
-    match trap_from(store, addr, len) {
-        Some(trap) => Some(trap),
-        None => {
-            if !pages.holds(addr, len as usize) {
-                return Some(addr);
-            }
-            let bytes = pages.bytes_mut(addr, len as usize);
-            write_runs(bytes, runs.pairs());
-            None
-        }
+    if let Some(trap) = trap_from(store, addr, len) {
+        return Some(trap);
     }
+    if !pages.holds(addr, len as usize) {
+        return Some(addr);
+    }
+    let bytes = pages.bytes_mut(addr, len as usize);
+    write_runs(bytes, runs.pairs());
+    None
 }

@@ -97,9 +97,7 @@ fn open<P: Pages>(
     ensures unchanged { OnErr result (IsTrue (P.told pages.old) → P.runs pages.new ≡ P.runs pages.old) }
     ensures cause { HasRefusalCause (P.faults pages.old) (P.faults pages.new) result }
 {
-    if blocks.insert(addr, block).is_err() {
-        return Err(PageRefusal::NoMemory);
-    }
+    blocks.insert(addr, block)?;
     let opened = pages.make_accessible(addr, (block.size / PAGE) as u32);
     if opened.is_err() {
         let _block = blocks.remove(addr);

@@ -15,7 +15,7 @@ ghost use Rattle.hm_large.specs.Access.{fill_reply};
 ghost use Rattle.hm_large.specs.Calls.{Added, IsBuilt, TrapsIn};
 ghost use Rattle.hm_large.specs.Stored.{attempt_reply, free_draws, measured_reply};
 
-use crate::access::{Reading, read, write};
+use crate::access::{read, write};
 use crate::allot::{Attempt, Outcome, allot, size_of_block};
 use crate::judge::{Verdict, judge, live_block};
 use crate::release::{Freeing, mark_failed, release};
@@ -343,22 +343,12 @@ impl<P: Pages> LargeHeap<P> {
     {
         self.entries.reserve(self.store.owed + 1)?;
         let faults = self.pages.faults();
-        match read(&self.store, &self.pages, self.alloc, addr, len)? {
-            Reading::Bytes(runs) => {
-                let reply = Reply::Bytes(runs.copy()?);
-                let call = Call::Fetch { addr, len };
-                self.entries
-                    .push_reserved(Entry::plain(who, call, reply, faults, faults));
-                Ok(Reply::Bytes(runs))
-            }
-            Reading::Trap(trap) => {
-                let reply = Reply::Trap { addr: trap };
-                let call = Call::Fetch { addr, len };
-                self.entries
-                    .push_reserved(Entry::plain(who, call, reply, faults, faults));
-                Ok(Reply::Trap { addr: trap })
-            }
-        }
+        let found = read(&self.store, &self.pages, self.alloc, addr, len)?;
+        let (reply, answer) = found.replies()?;
+        let call = Call::Fetch { addr, len };
+        self.entries
+            .push_reserved(Entry::plain(who, call, reply, faults, faults));
+        Ok(answer)
     }
 
     /// Writes bytes from an address on, or names the first address that is not accessible. A live range that

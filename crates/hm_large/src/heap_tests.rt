@@ -124,6 +124,19 @@ fn block_of(reply: Reply) -> Result<(u64, u64), Fail> {
 }
 
 #[test]
+fn readings(rt: HostRuntime) -> Result<(), Fail> {
+    let alloc = rt.alloc();
+    let mut region = region_of(alloc, PlainPages::new(alloc))?;
+    let (block, _) = given(&mut region, 163_840)?;
+    assert!(rt; region.spare() >= 1, "room for the free");
+    assert!(rt; region.pages().holds(block, 163_840));
+    let (entries, pages) = region.into_entries();
+    assert_eq!(rt; entries.len(), 1);
+    assert!(rt; !pages.holds(block, 163_841), "a guard");
+    Ok(())
+}
+
+#[test]
 fn size_of_a_block(rt: HostRuntime) -> Result<(), Fail> {
     let alloc = rt.alloc();
     let mut region = standard(alloc, PlainPages::new(alloc))?;

@@ -18,19 +18,19 @@ returns-in-Some-clause-trap g c =
 -- the pages do not lend the live range, so they do not tell
 pub returns-then-not-holds-clause-trap : goal.returns-then-not-holds-clause-trap
 returns-then-not-holds-clause-trap g c =
-    λ config n s sound guarded shows. ap (λ (o : Option ℕ). unwrap_or o c.args.addr) (subst (λ (k : ℕ). None ≡ first_trap s.live c.args.addr k) c.len-len.ensures.bytes (c.in-None.ensures.value config n s sound guarded shows))
+    λ config n s sound guarded shows. ap (λ (o : Option ℕ). unwrap_or o c.args.addr) (subst (λ (k : ℕ). None ≡ first_trap s.live c.args.addr k) c.len-len.ensures.bytes (c.in_default.ensures.value config n s sound guarded shows))
 
 pub returns-then-not-holds-clause-value : goal.returns-then-not-holds-clause-value
 returns-then-not-holds-clause-value g c =
     λ config n s sound guarded shows tells holds. let runs = g.P.Pages.runs c.args.pages.now in
     let len = length (expand c.args.runs.now) in
     let bytes = c.len-len.ensures.bytes in
-    absurd (false≢true (c.in-None.ensures.held config n s sound shows (subst (λ (k : ℕ). HeldByNone s.live c.args.addr k) (sym bytes)
+    absurd (false≢true (c.in_default.ensures.held config n s sound shows (subst (λ (k : ℕ). HeldByNone s.live c.args.addr k) (sym bytes)
     (held_by_none config s runs c.args.addr len sound holds c.requires.some (λ held. false≢true ((c.if-not-holds.ensures.told tells).1 (subst (λ (k : ℕ). IsHeld runs c.args.addr k) (sym bytes) held)))))))
 
 -- they lend it
-pub returns-else-not-holds-clause-trap : goal.returns-else-not-holds-clause-trap
-returns-else-not-holds-clause-trap g c = λ config n s sound guarded shows. sym (subst (λ (k : ℕ). None ≡ first_trap s.live c.args.addr k) c.len-len.ensures.bytes (c.in-None.ensures.value config n s sound guarded shows))
+pub returns-clause-trap : goal.returns-clause-trap
+returns-clause-trap g c = λ config n s sound guarded shows. sym (subst (λ (k : ℕ). None ≡ first_trap s.live c.args.addr k) c.len-len.ensures.bytes (c.in_default.ensures.value config n s sound guarded shows))
 
-pub returns-else-not-holds-clause-value : goal.returns-else-not-holds-clause-value
-returns-else-not-holds-clause-value g c = λ config n s sound guarded shows tells holds. subst (λ (k : ℕ). None ≡ first_trap s.live c.args.addr k) c.len-len.ensures.bytes (c.in-None.ensures.value config n s sound guarded shows)
+pub returns-clause-value : goal.returns-clause-value
+returns-clause-value g c = λ config n s sound guarded shows tells holds. subst (λ (k : ℕ). None ≡ first_trap s.live c.args.addr k) c.len-len.ensures.bytes (c.in_default.ensures.value config n s sound guarded shows)
