@@ -76,10 +76,7 @@ fn draw_canary(stream: &mut Stream, shape: &Shape) -> Option<Canary>
 fn value_of(canary: Option<Canary>) -> u64
     ensures { result ≡ unwrap_or (canary_value canary) 0 }
 {
-    match canary {
-        Some(canary) => canary.canary,
-        None => 0,
-    }
+    canary.map_or(0, |canary| canary.canary)
 }
 
 /// Finds a slab for the next block. One is opened where no open one serves.

@@ -75,12 +75,8 @@ pub fn start_draws(canary: Option<Canary>, word: u32) -> Draws
 pub fn opened_choices(slab: u64, canary: Option<Canary>) -> Choices
     ensures { result ≡ chose_opened slab canary }
 {
-    let canary = match canary {
-        Some(canary) => Some(canary.canary),
-        None => None,
-    };
     Choices {
-        canary,
+        canary: canary.map(|canary| canary.canary),
         opened: Some(slab),
         ..Choices::none()
     }

@@ -183,8 +183,8 @@ impl Slabs {
         }
     }
 
-    /// Whether a slot was ever given.
-    pub fn was_given(&self, slot: Slot) -> bool
+    // Whether a slot was ever given.
+    fn was_given(&self, slot: Slot) -> bool
         requires { IsWithin self.now.slabs slot.slab slot.index }
         ensures { result ≡ passes_at was_given self.now.slabs slot.slab slot.index }
     {

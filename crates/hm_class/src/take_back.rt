@@ -82,7 +82,8 @@ pub fn hold<P: Pages>(
     pass(quarantine, stream, shape, addr)
 }
 
-// Drops the pages of a slab, where it has any. Where they do not go their bytes are made zero.
+// Drops the pages of a slab, where it has any, and says whether they went. Where they do not go their bytes are made
+// zero.
 fn drop_slab<P: Pages>(pages: &mut P, shape: &Shape, slab: u64) -> bool
     requires shape { IsShape shape.now }
     requires slab { slab < shape.now.limit }
