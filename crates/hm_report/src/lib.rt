@@ -6,12 +6,13 @@ mod counts;
 mod findings;
 mod lines;
 mod results;
+mod summary_line;
 mod text;
 
-pub use counts::{RunSummary, summary};
 pub use findings::has_finding;
 pub use lines::report;
 pub use results::{Results, StepResult};
+pub use summary_line::{RunSummary, summary};
 
 #[cfg(test)]
 mod tests;
