@@ -16,15 +16,16 @@ pub enum Refusal {
 
 impl Refusal {
     ghost use Rattle.hmreplay.specs.Endings.{status_of, line_of};
+    ghost use Rattle.hmreplay.specs.Statuses.{code_of};
 
     /// The status that the program ends with, unless the sink fails.
-    pub fn status(self) -> u8
-        ensures { result ≡ status_of self }
+    pub fn status(self) -> Status
+        ensures { code_of result ≡ status_of self }
     {
         match self {
-            Refusal::Usage => Status::Usage.code(),
-            Refusal::ReadFault => Status::ReadFault.code(),
-            Refusal::TooLong => Status::TooLong.code(),
+            Refusal::Usage => Status::Usage,
+            Refusal::ReadFault => Status::ReadFault,
+            Refusal::TooLong => Status::TooLong,
         }
     }
 

@@ -45,7 +45,7 @@ fn refuse<K: Sink, P>(sink: &mut K, refusal: Refusal) -> Run<P>
     ensures status { result.status ≢ 6 }
 {
     Run {
-        status: finish(sink, refusal.status(), refusal.line()),
+        status: finish(sink, refusal.status(), refusal.line()).code(),
         closed: None,
         results: None,
     }
@@ -79,7 +79,7 @@ fn refuse_text<K: Sink, P>(
 {
     let line = line_of_fault(alloc, fault)?;
     Ok(Run {
-        status: finish(sink, Status::NoTrace.code(), line.as_bytes()),
+        status: finish(sink, Status::NoTrace, line.as_bytes()).code(),
         closed: None,
         results: None,
     })
@@ -120,7 +120,7 @@ fn write_results<K: Sink, P>(sink: &mut K, ran: Ran<P>, found: bool, text: &[u8]
     };
     let Ran { closed, results } = ran;
     Run {
-        status: finish(sink, planned.code(), text),
+        status: finish(sink, planned, text).code(),
         closed: Some(closed),
         results: Some(List::of(results)),
     }

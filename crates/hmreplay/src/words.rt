@@ -77,7 +77,7 @@ fn are_digits(bytes: &[u8]) -> bool
 fn is_numeral(word: &str) -> bool
     ensures { result ≡ is_numeral word.now }
 {
-    1 <= word.len() && word.len() <= 20 && are_digits(word.as_bytes())
+    (1..=20).contains(&word.len()) && are_digits(word.as_bytes())
 }
 
 // The value of such a word, up to 2^64 - 1.
@@ -95,7 +95,7 @@ fn number(word: &str) -> Option<u64>
 fn is_space(most: u64, number: u64) -> bool
     ensures { result ≡ is_space most number }
 {
-    number % PAGE == 0 && LEAST_SPACE <= number && number <= most
+    number % PAGE == 0 && (LEAST_SPACE..=most).contains(&number)
 }
 
 // Whether an option may have this value.

@@ -1,6 +1,7 @@
 //! Writing a text to a sink.
 ghost use Rattle.std.specs.Prelude.{◌≢◌, OnOk, OnErr};
 ghost use Rattle.hm_outside.specs.Streams.{Put};
+ghost use Rattle.hmreplay.specs.Statuses.{code_of};
 ghost use Rattle.hmreplay.specs.Streams.{HasFailed, IsFrontPut, IsWritten, sink_of};
 
 use crate::status::Status;
@@ -22,13 +23,13 @@ fn write_all<K: Sink>(sink: &mut K, text: &[u8]) -> Result<(), SinkFault>
     Ok(())
 }
 
-/// Writes the text and answers the status that is planned, or 5 where the sink fails.
-pub fn finish<K: Sink>(sink: &mut K, planned: u8, text: &[u8]) -> u8
-    ensures written { IsWritten result planned (sink_of K.Sink sink.old sink.new) text.now }
-    ensures status { planned ≢ 6 → result ≢ 6 }
+/// Writes the text and answers the status that is planned, or that of a failed sink.
+pub fn finish<K: Sink>(sink: &mut K, planned: Status, text: &[u8]) -> Status
+    ensures written { IsWritten (code_of result) (code_of planned) (sink_of K.Sink sink.old sink.new) text.now }
+    ensures status { code_of planned ≢ 6 → code_of result ≢ 6 }
 {
     match write_all(sink, text) {
         Ok(()) => planned,
-        Err(_) => Status::WriteFault.code(),
+        Err(_) => Status::WriteFault,
     }
 }
