@@ -7,7 +7,7 @@ use crate::frame::Frame;
 use hm_outside::{HasRun, NoMemory};
 use std::alloc::Global;
 
-/// No more runs are kept.
+/// At most so many runs are kept.
 const MOST_KEPT: usize = 8;
 
 /// No run of more bytes is kept: 256 pages.

@@ -42,14 +42,8 @@ fn run_rounds<R: Threads + Wait + Sync, P: Pages, G: Gate>(
 }
 
 /// The reports of the scripts of a trace, one after another.
-fn report_of<R: Threads + Wait + Sync>(
-    rt: &R,
-    alloc: Global,
-    text: &[u8],
-) -> Result<Vec<u8>, NoMemory> {
-    let Ok(trace) = read_trace(alloc, text) else {
-        return Err(NoMemory);
-    };
+fn report_of<R: Threads + Wait + Sync>(rt: &R, alloc: Global, text: &str) -> Result<Vec<u8>, Fail> {
+    let trace = read_trace(alloc, text.as_bytes())?;
     let (heap, mut root) = Heap::build(alloc, Config::standard(), 1, &mut PlainMaker, &NoGate)?;
     let results = run_rounds(rt, alloc, &heap, &mut root, trace.rounds())?;
     let mut told = Vec::new(alloc);
@@ -61,47 +55,47 @@ fn report_of<R: Threads + Wait + Sync>(
 }
 
 /// A trace and its report.
-const TABLE: [(&[u8], &[u8]); 5] = [
-    (b"hmtrace 1\nend\n", b""),
+const TABLE: [(&str, &str); 5] = [
+    ("hmtrace 1\nend\n", ""),
     (
-        b"hmtrace 1\nround\nthread 1\nmalloc x 100\nwrite x 3 41\nrealloc y x 104\nrealloc z y 105\nread z 105\n\
-          aligned p 64 100\naligned r 3 10\ncalloc s 9223372036854775808 2\nfree s\nsfree z 106\nsize x-8\nend\n",
-        b"1.1.1 given 104\n1.1.2 written\n1.1.3 kept 104\n1.1.4 given 120\n1.1.5 bytes 41*3 00*102\n\
-          1.1.6 given 120\n1.1.7 bad alignment\n1.1.8 overflow\n1.1.9 skipped\n1.1.10 freed\n1.1.11 no slot\n",
+        "hmtrace 1\nround\nthread 1\nmalloc x 100\nwrite x 3 41\nrealloc y x 104\nrealloc z y 105\nread z 105\n\
+         aligned p 64 100\naligned r 3 10\ncalloc s 9223372036854775808 2\nfree s\nsfree z 106\nsize x-8\nend\n",
+        "1.1.1 given 104\n1.1.2 written\n1.1.3 kept 104\n1.1.4 given 120\n1.1.5 bytes 41*3 00*102\n\
+         1.1.6 given 120\n1.1.7 bad alignment\n1.1.8 overflow\n1.1.9 skipped\n1.1.10 freed\n1.1.11 no slot\n",
     ),
     (
-        b"hmtrace 1\nround\nthread 1\nfree null\nfree @1000\nfree q\nsize null\nend\n",
-        b"1.1.1 nothing\n1.1.2 outside\n1.1.3 skipped\n1.1.4 size 0\n",
+        "hmtrace 1\nround\nthread 1\nfree null\nfree @1000\nfree q\nsize null\nend\n",
+        "1.1.1 nothing\n1.1.2 outside\n1.1.3 skipped\n1.1.4 size 0\n",
     ),
     (
-        b"hmtrace 1\nround\nthread 1\nmalloc a 100\nround\nthread 1\nmalloc b 100\nsize a\nthread 2\nsize a\nround\n\
-          thread 1\nfree a\nsize b\nend\n",
-        b"1.1.1 given 104\n2.1.1 given 104\n2.1.2 size 104\n2.2.1 size 104\n3.1.1 freed\n3.1.2 size 104\n",
+        "hmtrace 1\nround\nthread 1\nmalloc a 100\nround\nthread 1\nmalloc b 100\nsize a\nthread 2\nsize a\nround\n\
+         thread 1\nfree a\nsize b\nend\n",
+        "1.1.1 given 104\n2.1.1 given 104\n2.1.2 size 104\n2.2.1 size 104\n3.1.1 freed\n3.1.2 size 104\n",
     ),
     (
-        b"hmtrace 1\nround\nthread 1\nmalloc a 100\nround\nthread 1\naligned a 3 10\nsize a\nthread 2\nsize a\nround\n\
-          thread 1\nsize a\nend\n",
-        b"1.1.1 given 104\n2.1.1 bad alignment\n2.1.2 skipped\n2.2.1 size 104\n3.1.1 skipped\n",
+        "hmtrace 1\nround\nthread 1\nmalloc a 100\nround\nthread 1\naligned a 3 10\nsize a\nthread 2\nsize a\nround\n\
+         thread 1\nsize a\nend\n",
+        "1.1.1 given 104\n2.1.1 bad alignment\n2.1.2 skipped\n2.2.1 size 104\n3.1.1 skipped\n",
     ),
 ];
 
 /// A trace, and two reports of which one is its, as the scripts of its second round come to run.
-const EITHER: [(&[u8], &[u8], &[u8]); 2] = [
+const EITHER: [(&str, &str, &str); 2] = [
     (
-        b"hmtrace 1\nround\nthread 1\nmalloc x 100\nround\nthread 1\nfree x\nthread 2\nfree x\nend\n",
-        b"1.1.1 given 104\n2.1.1 freed\n2.2.1 double free\n",
-        b"1.1.1 given 104\n2.1.1 double free\n2.2.1 freed\n",
+        "hmtrace 1\nround\nthread 1\nmalloc x 100\nround\nthread 1\nfree x\nthread 2\nfree x\nend\n",
+        "1.1.1 given 104\n2.1.1 freed\n2.2.1 double free\n",
+        "1.1.1 given 104\n2.1.1 double free\n2.2.1 freed\n",
     ),
     (
-        b"hmtrace 1\nround\nthread 1\nmalloc buf 4096\nmalloc s 13\nwrite s 13 61\nthread 2\ncalloc tab 10 24\n\
-          aligned page 4096 8192\nfree s\nround\nthread 1\nrealloc tab tab 480\nfree page\nthread 2\nread s 14\n\
-          size buf\nfree s\nfree buf\nsize tab\nround\nthread 7\nsize tab\nend\n",
-        b"1.1.1 given 5112\n1.1.2 given 24\n1.1.3 written\n1.2.1 given 248\n1.2.2 given 12280\n1.2.3 skipped\n\
-          2.1.1 given 504\n2.1.2 freed\n2.2.1 bytes 61*13 00*1\n2.2.2 size 5112\n2.2.3 freed\n2.2.4 freed\n\
-          2.2.5 size 248\n3.7.1 size 504\n",
-        b"1.1.1 given 5112\n1.1.2 given 24\n1.1.3 written\n1.2.1 given 248\n1.2.2 given 12280\n1.2.3 skipped\n\
-          2.1.1 given 504\n2.1.2 freed\n2.2.1 bytes 61*13 00*1\n2.2.2 size 5112\n2.2.3 freed\n2.2.4 freed\n\
-          2.2.5 double free\n3.7.1 size 504\n",
+        "hmtrace 1\nround\nthread 1\nmalloc buf 4096\nmalloc s 13\nwrite s 13 61\nthread 2\ncalloc tab 10 24\n\
+         aligned page 4096 8192\nfree s\nround\nthread 1\nrealloc tab tab 480\nfree page\nthread 2\nread s 14\n\
+         size buf\nfree s\nfree buf\nsize tab\nround\nthread 7\nsize tab\nend\n",
+        "1.1.1 given 5112\n1.1.2 given 24\n1.1.3 written\n1.2.1 given 248\n1.2.2 given 12280\n1.2.3 skipped\n\
+         2.1.1 given 504\n2.1.2 freed\n2.2.1 bytes 61*13 00*1\n2.2.2 size 5112\n2.2.3 freed\n2.2.4 freed\n\
+         2.2.5 size 248\n3.7.1 size 504\n",
+        "1.1.1 given 5112\n1.1.2 given 24\n1.1.3 written\n1.2.1 given 248\n1.2.2 given 12280\n1.2.3 skipped\n\
+         2.1.1 given 504\n2.1.2 freed\n2.2.1 bytes 61*13 00*1\n2.2.2 size 5112\n2.2.3 freed\n2.2.4 freed\n\
+         2.2.5 double free\n3.7.1 size 504\n",
     ),
 ];
 
@@ -109,11 +103,12 @@ const EITHER: [(&[u8], &[u8], &[u8]); 2] = [
 fn reports_of_rounds(rt: HostRuntime) -> Result<(), Fail> {
     for (text, report) in &TABLE {
         let told = report_of(&rt, rt.alloc(), text)?;
-        assert!(rt; told.as_slice() == *report);
+        assert!(rt; told.as_slice() == report.as_bytes(), "{text}");
     }
     for (text, one, other) in &EITHER {
         let told = report_of(&rt, rt.alloc(), text)?;
-        assert!(rt; told.as_slice() == *one || told.as_slice() == *other);
+        let is_either = told.as_slice() == one.as_bytes() || told.as_slice() == other.as_bytes();
+        assert!(rt; is_either, "{text}");
     }
     Ok(())
 }
@@ -163,9 +158,7 @@ fn a_script_sees_and_sets_names(rt: HostRuntime) -> Result<(), Fail> {
     let alloc = rt.alloc();
     let text =
         b"hmtrace 1\nround\nthread 1\nmalloc a 100\nsize a\nthread 2\nsize a\nfree a\nsize b\nend\n";
-    let Ok(trace) = read_trace(alloc, text) else {
-        return Err(Fail::new("no trace"));
-    };
+    let trace = read_trace(alloc, text)?;
     let [round] = trace.rounds() else {
         return Err(Fail::new("not one round"));
     };
@@ -239,9 +232,7 @@ fn agreeing(results: &Results, entries: &[Entry], caller: u32) -> usize {
 fn many_scripts_at_once(rt: HostRuntime) -> Result<(), Fail> {
     let alloc = rt.alloc();
     let text = many_scripts(alloc)?;
-    let Ok(trace) = read_trace(alloc, &text) else {
-        return Err(Fail::new("no trace"));
-    };
+    let trace = read_trace(alloc, &text)?;
     let (heap, mut root) = Heap::build(alloc, Config::standard(), 1, &mut PlainMaker, &NoGate)?;
     let results = run_rounds(&rt, alloc, &heap, &mut root, trace.rounds())?;
     let closed = heap.close(alloc, root)?;

@@ -7,7 +7,8 @@ use crate::test_runs::{failing_maker, replay_plain, run_plain, run_text, source,
 use hm_frames::FrameMaker;
 use hm_outside::{Gate, NoGate, PageMaker, PlainMaker, RegionId, Source, SourceFault, VecSink};
 use hm_trace::{read_trace, write_trace};
-use std::alloc::Global;
+use std::alloc::{AllocError, Global};
+use std::fmt::Write;
 use std::process::Abort;
 use std::sync::Wait;
 use std::sync::atomic::{AtomicU64, Ordering};
@@ -377,7 +378,7 @@ fn endings(rt: HostRuntime) -> Result<(), Fail> {
 // Whether the trace of these steps is written as it was read.
 fn comes_back(alloc: Global, steps: &str) -> Result<bool, Fail> {
     let text = text_of(alloc, steps)?;
-    let trace = read_trace(alloc, text.as_bytes()).ok().ok_or("no trace")?;
+    let trace = read_trace(alloc, text.as_bytes())?;
     let written = write_trace(alloc, &trace)?;
     Ok(written.as_slice() == text.as_bytes())
 }
@@ -535,34 +536,38 @@ fn threads_of_a_round_run_at_once(rt: HostRuntime) -> Result<(), Fail> {
     Ok(())
 }
 
-// A round of 16 threads: each allots 50 blocks and frees them.
-fn many_threads(alloc: Global) -> Result<String, Fail> {
-    let mut text = String::new(alloc);
-    text.push_str("hmtrace 1\nround\n")?;
-    for thread in 1..17 {
-        text.push_str(format!(in alloc; "thread {thread}\n")?.as_str())?;
-        for i in 0..50 {
-            text.push_str(format!(in alloc; "malloc t{thread}n{i} 100\n")?.as_str())?;
-        }
-        for i in 0..50 {
-            text.push_str(format!(in alloc; "free t{thread}n{i}\n")?.as_str())?;
+// The steps of a thread that allots 50 blocks and then frees them, and their report.
+fn push_thread(text: &mut String, report: &mut String, thread: u8) -> Result<(), AllocError> {
+    write!(text, "thread {thread}\n")?;
+    for step in 1..101 {
+        let block = step % 50;
+        if step <= 50 {
+            write!(text, "malloc t{thread}n{block} 100\n")?;
+            write!(report, "1.{thread}.{step} given 104\n")?;
+        } else {
+            write!(text, "free t{thread}n{block}\n")?;
+            write!(report, "1.{thread}.{step} freed\n")?;
         }
     }
+    Ok(())
+}
+
+// A round of 16 such threads, and its report.
+fn many_threads(alloc: Global) -> Result<(String, String), Fail> {
+    let mut text = String::new(alloc);
+    let mut report = String::new(alloc);
+    text.push_str("hmtrace 1\nround\n")?;
+    for thread in 1..17 {
+        push_thread(&mut text, &mut report, thread)?;
+    }
     text.push_str("end\n")?;
-    Ok(text)
+    Ok((text, report))
 }
 
 #[test]
 fn sixteen_threads(rt: HostRuntime) -> Result<(), Fail> {
     let alloc = rt.alloc();
-    let text = many_threads(alloc)?;
-    let mut expected = String::new(alloc);
-    for thread in 1..17 {
-        for i in 1..101 {
-            let told = if i < 51 { "given 104" } else { "freed" };
-            expected.push_str(format!(in alloc; "1.{thread}.{i} {told}\n")?.as_str())?;
-        }
-    }
+    let (text, expected) = many_threads(alloc)?;
     let mut sink = VecSink::build(alloc, 65_536, 999, Vec::new(alloc))?;
     let run = run_text(
         &rt,

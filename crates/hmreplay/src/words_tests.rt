@@ -9,7 +9,7 @@ use std::sync::Wait;
 use std::test::Fail;
 use std::thread::Threads;
 
-/// Words that are accepted with an empty trace, and the status.
+/// Words, and the status that the run of an empty trace ends with: 0 where they are accepted, else 2.
 const WORDS: [(&str, u8); 31] = [
     ("run --seed 7", 0),
     ("run --seed 0007 --large-space 1048576", 0),
