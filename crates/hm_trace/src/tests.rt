@@ -159,29 +159,55 @@ fn text(
     Ok(bytes)
 }
 
-fn expect_fault(rt: &impl Abort, alloc: Global, text: &[u8], line: u64, kind: FaultKind) {
+/// The text has this first fault. `row` names it where it has another.
+fn expect_fault(
+    rt: &impl Abort,
+    alloc: Global,
+    row: &str,
+    text: &[u8],
+    line: u64,
+    kind: FaultKind,
+) {
     let found = read_trace(alloc, text).err();
     let fault = ReadRefusal::Fault(TraceFault { line, kind });
-    assert_eq!(rt; found, Some(fault));
+    assert_eq!(rt; found, Some(fault), "{row}");
 }
 
 #[test]
-fn first_faults(rt: HostRuntime) -> Result<(), Fail> {
-    let alloc = rt.alloc();
+fn first_faults_of_texts(rt: HostRuntime) -> Result<(), Fail> {
     for (text, line, kind) in FAULTS {
-        expect_fault(&rt, alloc, text.as_bytes(), line, kind);
+        expect_fault(&rt, rt.alloc(), text, text.as_bytes(), line, kind);
     }
+    Ok(())
+}
+
+#[test]
+fn faults_of_a_step(rt: HostRuntime) -> Result<(), Fail> {
+    let alloc = rt.alloc();
     for (step, kind) in STEP_FAULTS {
         let text = text(alloc, "hmtrace 1\nround\nthread 1\n", step, 1, "\n")?;
-        expect_fault(&rt, alloc, &text, 4, kind);
+        expect_fault(&rt, alloc, step, &text, 4, kind);
     }
+    Ok(())
+}
+
+#[test]
+fn first_faults_of_long_texts(rt: HostRuntime) -> Result<(), Fail> {
+    let alloc = rt.alloc();
     for (piece, times, tail, line, kind) in LONG_FAULTS {
         let text = text(alloc, "hmtrace 1\n", piece, times, tail)?;
-        expect_fault(&rt, alloc, &text, line, kind);
+        expect_fault(&rt, alloc, piece, &text, line, kind);
     }
+    Ok(())
+}
+
+#[test]
+fn one_step_too_many(rt: HostRuntime) -> Result<(), Fail> {
+    let alloc = rt.alloc();
     let head = "hmtrace 1\nround\nthread 1\nmalloc x 8\n";
-    let steps = text(alloc, head, "size x\n", 199_999, "thread 2\nmalloc x 8\n")?;
-    expect_fault(&rt, alloc, &steps, 200_005, FaultKind::TooManySteps);
+    let tail = "thread 2\nmalloc x 8\n";
+    let text = text(alloc, head, "size x\n", 199_999, tail)?;
+    expect_fault(&rt, alloc, tail, &text, 200_005, FaultKind::TooManySteps);
     Ok(())
 }
 
