@@ -17,12 +17,12 @@ QUARTERS = ((0, 4, 8, 12), (1, 5, 9, 13), (2, 6, 10, 14), (3, 7, 11, 15),
             (0, 5, 10, 15), (1, 6, 11, 12), (2, 7, 8, 13), (3, 4, 9, 14))
 
 
-def chacha_block(key_words, counter, number, double_rounds=4):
+def chacha_block(key_words, counter, number):
     """The 16 words of one block: 64-bit counter and 64-bit stream number, 8 rounds."""
     start = [0x61707865, 0x3320646E, 0x79622D32, 0x6B206574] + list(key_words) + [
         counter & MASK32, counter >> 32, number & MASK32, number >> 32]
     state = list(start)
-    for _ in range(double_rounds):
+    for _ in range(4):
         for a, b, c, d in QUARTERS:
             quarter_round(state, a, b, c, d)
     return [(one + two) & MASK32 for one, two in zip(state, start)]

@@ -40,8 +40,7 @@ class TraceMaker:
 
     def __init__(self, seed, steps=None):
         self.rng = random.Random(seed)
-        self.theme = self.rng.choice(sorted(THEMES))
-        self.classes, self.large_share, count, weights = THEMES[self.theme]
+        self.classes, self.large_share, count, weights = THEMES[self.rng.choice(sorted(THEMES))]
         self.weights = dict(WEIGHTS, **weights)
         self.pool = ['n%d' % k for k in range(count)] + self.rng.sample(ODD_NAMES, 3)
         self.seed = self.rng.choice([0, 1, 7, 2 ** 32, MASK64, self.rng.getrandbits(64),
@@ -175,7 +174,7 @@ class TraceMaker:
         if self.set_name(names) is None and self.rng.random() < 0.8:
             kind = 'malloc'
         if kind == 'story':
-            self.waiting = self.some_story(names)
+            self.waiting = self.some_story()
             return self.waiting.pop(0)
         name, size = self.rng.choice(self.pool), str(self.some_size())
         if kind == 'malloc':
@@ -328,7 +327,7 @@ class TraceMaker:
                                   self.some_size()])
         return ['sfree', name, str(stated)]
 
-    def some_story(self, names):
+    def some_story(self):
         """A few steps that belong together."""
         name, other = self.rng.choice(self.pool), self.rng.choice(self.pool)
         size = self.some_size() % 10 ** 6
