@@ -20,15 +20,12 @@ use hm_model::{Choices, Draws};
 use hm_outside::Pages;
 use hm_sizes::Shape;
 
-// The first usable byte of a slot that is not zero, where slots have bytes.
+// The first usable byte of a slot that is not zero. Where slots have no bytes, none is usable.
 fn stain<P: Pages>(pages: &P, shape: &Shape, addr: u64) -> Option<(u64, u8)>
     requires { IsShape shape.now }
     ensures value { Stains P.Pages shape.now pages.now addr result }
     ensures found { IfSome result (λ r. (r.0 < usable shape.now) × (r.1 ≢ 0)) }
 {
-    if !shape.has_bytes() {
-        return None;
-    }
     first_nonzero(pages, addr, shape.usable() as usize)
 }
 
