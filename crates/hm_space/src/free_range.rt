@@ -1,11 +1,24 @@
 //! A free range of addresses, and the lowest place in it where a block fits.
-ghost use Rattle.std.specs.Prelude.{◌≡◌, ◌+◌, ◌^◌, ◌<◌, ◌≤◌, ◌==◌, ℕ, IfSome, IfNone};
+ghost use Rattle.std.specs.Prelude.{◌≡◌, ◌+◌, ◌%◌, ◌^◌, ◌<◌, ◌≤◌, ◌==◌, ℕ, IfSome, IfNone};
 
 /// The `len` addresses from `start` on.
 #[derive(Clone, Copy, Debug, PartialEq, Eq)]
 pub struct FreeRange {
     pub start: u64,
     pub len: u64,
+}
+
+/// How far a number is past a multiple of `align`. A power of two, as alignments mostly are, takes no division, which
+/// would be most of a search through many free ranges.
+fn past_multiple(number: u64, align: u64) -> u64
+    requires { 1 ≤ align }
+    ensures { result ≡ number % align }
+{
+    if align.is_power_of_two() {
+        number & (align - 1)
+    } else {
+        number % align
+    }
 }
 
 impl FreeRange {
@@ -38,7 +51,7 @@ impl FreeRange {
         if self.len < len {
             return None;
         }
-        let past = (self.start + front) % align;
+        let past = past_multiple(self.start + front, align);
         let skip = if past == 0 { 0 } else { align - past };
         if skip <= self.len - len {
             Some(self.start + skip)
