@@ -1,4 +1,4 @@
-//! The accessible runs of pages, each found by its first address or by one within it, searched by halves.
+//! The accessible runs of pages, each found by its first address or by one within it, in a tree.
 ghost use Rattle.std.specs.Prelude.{◌≡◌, ◌<◌, ◌↔◌, IsTrue, IsSome, Some, length, OnOk, OnErr, IfSome};
 ghost use Rattle.std.specs.FinMap as map;
 ghost use Rattle.std.specs.Borrow.{sem, Lends, Array, u8};
@@ -9,6 +9,7 @@ ghost use Rattle.hm_outside.specs.contracts.run_map.RunMap.{the_row};
 use crate::NoMemory;
 use crate::run_table::{HasRun, RunTable};
 use std::alloc::Global;
+use std::collections::BTreeMap;
 use std::marker::Model;
 
 /// Contracts see the bytes of each run, by its first address.
@@ -18,19 +19,19 @@ pub struct RunMap<R: HasRun> {
 }
 
 impl<R: HasRun> Model for RunMap<R> {
-    ghost use Rattle.std.specs.Prelude.{IsTrue, map as map_list};
     ghost use Rattle.std.specs.FinMap as map;
     ghost use Rattle.std.specs.Coded.{coded_ℕ, coded_list};
     ghost use Rattle.hm_outside.specs.PageRuns.{PageRuns};
-    ghost use Rattle.hm_outside.specs.RunLists.{runs_of, is_ordered};
+    ghost use Rattle.hm_outside.specs.RunLists.{runs_of};
+    ghost use Rattle.hm_outside.specs.RunTables.{listed, IsTable};
 
     ghost Value = { PageRuns };
 
     ghost coded = { map.code coded_ℕ (coded_list coded_ℕ) };
 
-    ghost view = { λ m. runs_of (map_list R.entry m.table.runs.items) };
+    ghost view = { λ m. runs_of (listed R.entry m.table.runs.entries) };
 
-    ghost invariant = { λ m. IsTrue (is_ordered (map_list R.entry m.table.runs.items)) };
+    ghost invariant = { λ m. IsTable R.entry m.table.runs.entries };
 }
 
 impl<R: HasRun> RunMap<R> {
@@ -40,32 +41,31 @@ impl<R: HasRun> RunMap<R> {
     {
         RunMap {
             table: RunTable {
-                runs: Vec::new(alloc),
+                runs: BTreeMap::new(alloc),
             },
         }
     }
 
-    /// Takes a run that is not empty and meets no other. Its time grows with the runs above it.
+    /// Takes a run that is not empty and meets no other.
     pub fn insert(&mut self, run: R) -> Result<(), NoMemory>
         requires some { 0 < length (R.entry run).1 }
         requires apart { MeetsNone self.old (R.entry run).0 (length (R.entry run).1) }
         ensures made { OnOk result (self.new ≡ map.insert self.old (R.entry run).0 (R.entry run).1) }
         ensures unchanged { OnErr result (self.new ≡ self.old) }
     {
-        let i = self.table.count_begun(run.first());
-        self.table.runs.insert(i, run)?;
+        let first = run.first();
+        self.table.runs.insert(first, run)?;
         Ok(())
     }
 
-    /// Gives the run that begins there. Its time grows with the runs above it.
+    /// Gives the run that begins there.
     pub fn remove(&mut self, first: u64) -> R
         requires { IsSome (map.get self.old first) }
         ensures gone { self.new ≡ map.remove self.old first }
         ensures first { (R.entry result).0 ≡ first }
         ensures bytes { map.get self.old first ≡ Some (R.entry result).1 }
     {
-        let i = self.table.count_begun(first) - 1;
-        self.table.runs.remove(i)
+        self.table.runs.remove(&first).unwrap()
     }
 
     /// Makes all bytes of the run that begins there zero.
@@ -73,8 +73,7 @@ impl<R: HasRun> RunMap<R> {
         requires { IsSome (map.get self.old first) }
         ensures { IfSome (map.get self.old first) (λ b. self.new ≡ map.insert self.old first (zeros (length b))) }
     {
-        let i = self.table.count_begun(first) - 1;
-        self.table.runs[i].clear();
+        self.table.runs.get_mut(&first).unwrap().clear();
     }
 
     /// The bytes of a range. Some comes exactly where it is not empty and lies in one run.
@@ -82,8 +81,7 @@ impl<R: HasRun> RunMap<R> {
         ensures length { IfSome result (λ s. length s.now ≡ len) }
         ensures value { ReadGives self.now addr len result }
     {
-        let i = self.table.place_of(addr, len)?;
-        let run = &self.table.runs[i];
+        let run = self.table.run_of(addr, len)?;
         let from = (addr - run.first()) as usize;
         Some(&run.bytes()[from..from + len])
     }
@@ -93,7 +91,7 @@ impl<R: HasRun> RunMap<R> {
         ensures held { IsTrue result ↔ IsHeld self.now addr len }
         ensures can { IsTrue result ↔ CanWrite self.now addr len }
     {
-        self.table.place_of(addr, len).is_some()
+        self.table.run_of(addr, len).is_some()
     }
 
     /// The bytes of a range, to be written.
@@ -104,8 +102,8 @@ impl<R: HasRun> RunMap<R> {
         ensures length { length result.now ≡ len }
         ensures value { Reads self.old addr len result.now }
     {
-        let i = self.table.count_begun(addr) - 1;
-        let from = (addr - self.table.runs[i].first()) as usize;
-        self.table.part_at(i, from, len)
+        let first = self.table.run_of(addr, len).unwrap().first();
+        let run = self.table.runs.get_mut(&first).unwrap();
+        run.bytes_at((addr - first) as usize, len)
     }
 }

@@ -1,82 +1,76 @@
-use Rattle.std.proofs.Common.{◌≡◌, ◌+◌, ◌-◌, ◌≤◌, ◌∙◌, ℕ, length, take, drop, Option, slice_get, refl, sym, ap, subst, arith}
+use Rattle.std.proofs.Common.{◌≡◌, ◌-◌, ◌+◌, ◌≤◌, ◌∙◌, ℕ, List, length, take, drop, Option, Some, Bor, refl, sym, ap, subst, arith}
 use Rattle.std.specs.Prelude.{IfSome}
-use Rattle.hm_outside.specs.declared.run_table.RunTable.{RunTable}
-use Rattle.hm_outside.specs.RunLists.{is_ordered, runs_of}
-use Rattle.hm_outside.specs.TableLends.{with_run}
-use Rattle.hm_outside.proofs.Ordered.{listed_by}
-use Rattle.hm_outside.proofs.Places.{can_here, chosen, chosen_lies, written_over, reads_here}
+use Rattle.std.specs.Map.{values_of}
+use Rattle.hm_outside.specs.RunTables.{HasRange}
+use Rattle.hm_outside.proofs.Places.{can_is, reads_here}
+use Rattle.hm_outside.proofs.Tables.{range_found, written_in, written_at, lent_some, lent_is}
 use Rattle.hm_outside.proofs.run_map.RunMap.bytes_mut.Goals as goal
 
-pub overflow_sub-i : goal.overflow_sub-i
-overflow_sub-i g c = (can_here g.R.HasRun.entry c.self.inside.table.runs.items c.args.self.now c.count_begun-i.result c.args.addr c.args.len c.requires c.self.invariant c.self.view_is c.count_begun-i.ensures).some
+pub unwrap-requires : goal.unwrap-requires
+unwrap-requires g c =
+    (can_is g.R.HasRun.entry c.self.inside.table.runs.entries c.args.self.now c.args.addr c.args.len c.run_of.result c.self.view_is c.self.invariant c.run_of.ensures.run c.run_of.ensures.nowhere).1 c.requires
 
-pub index-requires : goal.index-requires
-index-requires g c =
-    let here = can_here g.R.HasRun.entry c.self.inside.table.runs.items c.args.self.now c.count_begun-i.result c.args.addr c.args.len c.requires c.self.invariant c.self.view_is c.count_begun-i.ensures in
-    omega (arith, here.within, c.self.inside.table.runs.ok.0)
+-- the run that was found, where the search answered one
+ranged : {X : Type 0} (entry : X → ℕ × List ℕ) (runs : List (ℕ × X)) (addr len : ℕ) (found : Option (Bor X)) (run : Bor X) → found ≡ Some run → IfSome found (λ r. HasRange entry runs addr len r.now) → HasRange entry runs addr len run.now
+ranged entry runs addr len found run is has = subst (λ (o : Option (Bor _)). IfSome o (λ r. HasRange entry runs addr len r.now)) is has
 
-pub overflow_sub-from : goal.overflow_sub-from
-overflow_sub-from g c =
+pub unwrap-run-requires : goal.unwrap-run-requires
+unwrap-run-requires g c =
     let entry = g.R.HasRun.entry in
-    let runs = c.self.inside.table.runs.items in
-    let here = can_here entry runs c.args.self.now c.count_begun-i.result c.args.addr c.args.len c.requires c.self.invariant c.self.view_is c.count_begun-i.ensures in
-    let it = chosen entry runs (c.count_begun-i.result - 1) c.requires.0 c.index.result.now here.here c.index.ensures in
-    let lies = chosen_lies entry runs (c.count_begun-i.result - 1) c.args.addr c.args.len c.requires.0 c.index.result.now it c.requires.2 in
-    omega (arith, lies.from, c.first.ensures)
+    let runs = c.self.inside.table.runs.entries in
+    let x = c.unwrap.result.now in
+    let h : HasRange entry runs c.args.addr c.args.len x = ranged entry runs c.args.addr c.args.len c.run_of.result c.unwrap.result c.unwrap.ensures c.run_of.ensures.run in
+    lent_some entry runs c.first-first.result c.get_mut.result x (range_found entry runs c.args.addr c.args.len c.first-first.result x c.self.invariant h c.first-first.ensures) c.get_mut.ensures.value
 
-pub part_at-requires-clause-at : goal.part_at-requires-clause-at
-part_at-requires-clause-at g c = (can_here g.R.HasRun.entry c.self.inside.table.runs.items c.args.self.now c.count_begun-i.result c.args.addr c.args.len c.requires c.self.invariant c.self.view_is c.count_begun-i.ensures).within
+pub overflow_sub-addr : goal.overflow_sub-addr
+overflow_sub-addr g c =
+    let h = ranged g.R.HasRun.entry c.self.inside.table.runs.entries c.args.addr c.args.len c.run_of.result c.unwrap.result c.unwrap.ensures c.run_of.ensures.run in
+    omega (arith, h.lies.from, c.first-first.ensures)
 
-pub part_at-requires-clause-within : goal.part_at-requires-clause-within
-part_at-requires-clause-within g c =
+pub bytes_at-requires : goal.bytes_at-requires
+bytes_at-requires g c =
     let entry = g.R.HasRun.entry in
-    let runs = c.self.inside.table.runs.items in
-    let here = can_here entry runs c.args.self.now c.count_begun-i.result c.args.addr c.args.len c.requires c.self.invariant c.self.view_is c.count_begun-i.ensures in
-    let it = chosen entry runs (c.count_begun-i.result - 1) c.requires.0 c.index.result.now here.here c.index.ensures in
-    let lies = chosen_lies entry runs (c.count_begun-i.result - 1) c.args.addr c.args.len c.requires.0 c.index.result.now it c.requires.2 in
-    subst (λ (o : Option g.row.R.Denot). IfSome o (λ r. c.args.addr - c.first.result + c.args.len ≤ length (entry r).1)) (sym it.here) (omega (arith, c.first.ensures, lies.from, lies.to))
+    let runs = c.self.inside.table.runs.entries in
+    let x = c.unwrap.result.now in
+    let first = c.first-first.result in
+    let h : HasRange entry runs c.args.addr c.args.len x = ranged entry runs c.args.addr c.args.len c.run_of.result c.unwrap.result c.unwrap.ensures c.run_of.ensures.run in
+    let is = lent_is entry runs first c.get_mut.result c.unwrap-run.result x (range_found entry runs c.args.addr c.args.len first x c.self.invariant h c.first-first.ensures) c.get_mut.ensures.value c.unwrap-run.ensures in
+    subst (λ (r : g.row.R.Denot). c.args.addr - first + c.args.len ≤ length (entry r).1) (sym is) (omega (arith, c.first-first.ensures, h.lies.from, h.lies.to))
 
 pub invariant_of-self-lent : goal.invariant_of-self-lent
 invariant_of-self-lent g c w =
     let entry = g.R.HasRun.entry in
-    let after = g.R.HasRun.after_write in
-    let runs = c.self.inside.table.runs.items in
-    let n = c.count_begun-i.result in
-    let x = c.index.result.now in
-    let here = can_here entry runs c.args.self.now n c.args.addr c.args.len c.requires c.self.invariant c.self.view_is c.count_begun-i.ensures in
-    let it = chosen entry runs (n - 1) c.requires.0 x here.here c.index.ensures in
-    let lies = chosen_lies entry runs (n - 1) c.args.addr c.args.len c.requires.0 x it c.requires.2 in
-    let table : RunTable g.row.R.Denot = record { runs = c.self.inside.table.runs } in
-    let from = c.args.addr - (entry x).0 in
-    let put = g.met.R.HasRun.written x from c.args.len w (omega (arith, lies.from, lies.to)) in
-    ap (λ (q : ℕ). is_ordered (listed_by entry (with_run after table (n - 1) (c.args.addr - q) c.args.len w (slice_get runs (n - 1))).runs.items)) c.first.ensures
-    ∙ ap (λ (o : Option g.row.R.Denot). is_ordered (listed_by entry (with_run after table (n - 1) from c.args.len w o).runs.items)) it.here
-    ∙ (written_over entry g.R.HasRun.put runs c.args.self.now (n - 1) c.args.addr c.args.len x (after x from c.args.len w) w c.requires c.self.invariant c.self.view_is it put).ordered
+    let runs = c.self.inside.table.runs.entries in
+    let x = c.unwrap.result.now in
+    let first = c.first-first.result in
+    let lent = c.unwrap-run.result.now in
+    let h : HasRange entry runs c.args.addr c.args.len x = ranged entry runs c.args.addr c.args.len c.run_of.result c.unwrap.result c.unwrap.ensures c.run_of.ensures.run in
+    let is = lent_is entry runs first c.get_mut.result c.unwrap-run.result x (range_found entry runs c.args.addr c.args.len first x c.self.invariant h c.first-first.ensures) c.get_mut.ensures.value c.unwrap-run.ensures in
+    let over = written_at entry g.R.HasRun.put g.R.HasRun.after_write g.met.R.HasRun.written x lent c.args.addr first c.args.len w is c.first-first.ensures h.lies in
+    (written_in entry g.R.HasRun.put runs _ c.args.self.now c.args.addr c.args.len first x _ w c.self.invariant c.self.view_is c.requires h c.first-first.ensures over
+    (c.get_mut.follows.holds (g.R.HasRun.after_write lent (c.args.addr - first) c.args.len w)).0).table
 
 pub returns : goal.returns
 returns g c =
     let entry = g.R.HasRun.entry in
-    let after = g.R.HasRun.after_write in
-    let runs = c.self.inside.table.runs.items in
-    let n = c.count_begun-i.result in
-    let x = c.index.result.now in
-    let here = can_here entry runs c.args.self.now n c.args.addr c.args.len c.requires c.self.invariant c.self.view_is c.count_begun-i.ensures in
-    let it = chosen entry runs (n - 1) c.requires.0 x here.here c.index.ensures in
-    let lies = chosen_lies entry runs (n - 1) c.args.addr c.args.len c.requires.0 x it c.requires.2 in
-    let table : RunTable g.row.R.Denot = record { runs = c.self.inside.table.runs } in
-    let from = c.args.addr - (entry x).0 in (
+    let runs = c.self.inside.table.runs.entries in
+    let x = c.unwrap.result.now in
+    let first = c.first-first.result in
+    let lent = c.unwrap-run.result.now in
+    let h : HasRange entry runs c.args.addr c.args.len x = ranged entry runs c.args.addr c.args.len c.run_of.result c.unwrap.result c.unwrap.ensures c.run_of.ensures.run in
+    let is = lent_is entry runs first c.get_mut.result c.unwrap-run.result x (range_found entry runs c.args.addr c.args.len first x c.self.invariant h c.first-first.ensures) c.get_mut.ensures.value c.unwrap-run.ensures in (
       (
         refl,
-        λ w. ap (λ (q : ℕ). runs_of (listed_by entry (with_run after table (n - 1) (c.args.addr - q) c.args.len w (slice_get runs (n - 1))).runs.items)) c.first.ensures
-            ∙ ap (λ (o : Option g.row.R.Denot). runs_of (listed_by entry (with_run after table (n - 1) from c.args.len w o).runs.items)) it.here
-            ∙ (written_over entry g.R.HasRun.put runs c.args.self.now (n - 1) c.args.addr c.args.len x (after x from c.args.len w) w c.requires c.self.invariant c.self.view_is it
-            (g.met.R.HasRun.written x from c.args.len w (omega (arith, lies.from, lies.to)))).told_is,
+        λ w. (let over = written_at entry g.R.HasRun.put g.R.HasRun.after_write g.met.R.HasRun.written x lent c.args.addr first c.args.len w is c.first-first.ensures h.lies in
+            (written_in entry g.R.HasRun.put runs _ c.args.self.now c.args.addr c.args.len first x _ w c.self.invariant c.self.view_is c.requires h c.first-first.ensures over
+            (c.get_mut.follows.holds (g.R.HasRun.after_write lent (c.args.addr - first) c.args.len w)).0).told_is),
       ),
       record {
         writes_back = tt;
-        length = c.part_at.ensures.length;
-        value = reads_here entry runs c.args.self.now (n - 1) c.args.addr c.args.len c.requires.0 x c.part_at.result.now c.self.invariant c.self.view_is it c.requires.2
-            (subst (λ (o : Option g.row.R.Denot). IfSome o (λ r. c.part_at.result.now ≡ take c.args.len (drop (c.args.addr - c.first.result) (entry r).1))) it.here c.part_at.ensures.value
-            ∙ ap (λ (q : ℕ). take c.args.len (drop (c.args.addr - q) (entry x).1)) c.first.ensures);
+        length = c.bytes_at.ensures.length;
+        value = reads_here entry (values_of runs) c.args.self.now h.place c.args.addr c.args.len (entry x) x c.bytes_at.result.now c.self.invariant.ordered c.self.view_is (record { here = h.here; is = refl }) h.lies
+            (c.bytes_at.ensures.value
+            ∙ ap (λ (r : g.row.R.Denot). take c.args.len (drop (c.args.addr - first) (entry r).1)) is
+            ∙ ap (λ (q : ℕ). take c.args.len (drop (c.args.addr - q) (entry x).1)) c.first-first.ensures);
       },
     )
