@@ -7,7 +7,7 @@ ghost use Rattle.hm_outside.specs.RunLists.{CanWrite, with_range_by};
 ghost use Rattle.hm_outside.specs.contracts.run_map.RunMap.{the_row};
 
 use crate::NoMemory;
-use crate::run_table::{HasRun, RunTable};
+use crate::run_table::{HasRun, run_of};
 use std::alloc::Global;
 use std::collections::BTreeMap;
 use std::marker::Model;
@@ -15,7 +15,7 @@ use std::marker::Model;
 /// Contracts see the bytes of each run, by its first address.
 #[derive(Drop)]
 pub struct RunMap<R: HasRun> {
-    table: RunTable<R>,
+    runs: BTreeMap<u64, R>,
 }
 
 impl<R: HasRun> Model for RunMap<R> {
@@ -29,9 +29,9 @@ impl<R: HasRun> Model for RunMap<R> {
 
     ghost coded = { map.code coded_ℕ (coded_list coded_ℕ) };
 
-    ghost view = { λ m. runs_of (listed R.entry m.table.runs.entries) };
+    ghost view = { λ m. runs_of (listed R.entry m.runs.entries) };
 
-    ghost invariant = { λ m. IsTable R.entry m.table.runs.entries };
+    ghost invariant = { λ m. IsTable R.entry m.runs.entries };
 }
 
 impl<R: HasRun> RunMap<R> {
@@ -40,9 +40,7 @@ impl<R: HasRun> RunMap<R> {
         ensures { result ≡ map.empty }
     {
         RunMap {
-            table: RunTable {
-                runs: BTreeMap::new(alloc),
-            },
+            runs: BTreeMap::new(alloc),
         }
     }
 
@@ -54,7 +52,7 @@ impl<R: HasRun> RunMap<R> {
         ensures unchanged { OnErr result (self.new ≡ self.old) }
     {
         let first = run.first();
-        self.table.runs.insert(first, run)?;
+        self.runs.insert(first, run)?;
         Ok(())
     }
 
@@ -65,7 +63,7 @@ impl<R: HasRun> RunMap<R> {
         ensures first { (R.entry result).0 ≡ first }
         ensures bytes { map.get self.old first ≡ Some (R.entry result).1 }
     {
-        self.table.runs.remove(&first).unwrap()
+        self.runs.remove(&first).unwrap()
     }
 
     /// Makes all bytes of the run that begins there zero.
@@ -73,7 +71,7 @@ impl<R: HasRun> RunMap<R> {
         requires { IsSome (map.get self.old first) }
         ensures { IfSome (map.get self.old first) (λ b. self.new ≡ map.insert self.old first (zeros (length b))) }
     {
-        self.table.runs.get_mut(&first).unwrap().clear();
+        self.runs.get_mut(&first).unwrap().clear();
     }
 
     /// The bytes of a range. Some comes exactly where it is not empty and lies in one run.
@@ -81,7 +79,7 @@ impl<R: HasRun> RunMap<R> {
         ensures length { IfSome result (λ s. length s.now ≡ len) }
         ensures value { ReadGives self.now addr len result }
     {
-        let run = self.table.run_of(addr, len)?;
+        let run = run_of(&self.runs, addr, len)?;
         let from = (addr - run.first()) as usize;
         Some(&run.bytes()[from..from + len])
     }
@@ -91,7 +89,7 @@ impl<R: HasRun> RunMap<R> {
         ensures held { IsTrue result ↔ IsHeld self.now addr len }
         ensures can { IsTrue result ↔ CanWrite self.now addr len }
     {
-        self.table.run_of(addr, len).is_some()
+        run_of(&self.runs, addr, len).is_some()
     }
 
     /// The bytes of a range, to be written.
@@ -102,8 +100,8 @@ impl<R: HasRun> RunMap<R> {
         ensures length { length result.now ≡ len }
         ensures value { Reads self.old addr len result.now }
     {
-        let first = self.table.run_of(addr, len).unwrap().first();
-        let run = self.table.runs.get_mut(&first).unwrap();
+        let first = run_of(&self.runs, addr, len).unwrap().first();
+        let run = self.runs.get_mut(&first).unwrap();
         run.bytes_at((addr - first) as usize, len)
     }
 }
