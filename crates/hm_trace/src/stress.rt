@@ -1,6 +1,6 @@
 //! The stress trace of a number: one round in which each thread makes groups of five steps, whose sizes follow
 //! from the number.
-ghost use Rattle.std.specs.Prelude.{◌≡◌, ◌+◌, ◌≤◌, ◌<◌, [], ◌++◌, length, slice_get, EachIndex, IfOk, OnOk, Some};
+ghost use Rattle.std.specs.Prelude.{◌≡◌, ◌+◌, ◌≤◌, ◌<◌, ◌%◌, [], ◌++◌, length, slice_get, EachIndex, IfOk, OnOk, Some};
 ghost use Rattle.std.specs.Option.{option_map};
 ghost use Rattle.hm_trace.specs.Stress.{first, next, size_for, name_at, group, groups, scripts, stress};
 ghost use Rattle.hm_trace.specs.Views.{name_view, steps_view};
@@ -28,7 +28,7 @@ const MULTIPLIER: u64 = 6_364_136_223_846_793_005;
 /// What is then added, as in the same generator.
 const INCREMENT: u64 = 1_442_695_040_888_963_407;
 
-/// The stress trace of a number. Each of its scripts is made by a thread of its own.
+/// The stress trace of a number. Each two of its scripts are made by a thread of their own.
 pub fn stress_trace<R: Threads>(rt: &R, alloc: Global, number: u64) -> Result<Trace, NoMemory>
     ensures exact { IfOk result (λ trace. trace ≡ stress number) }
 {
@@ -46,9 +46,9 @@ fn scripts_of<R: Threads>(rt: &R, alloc: Global, number: u64) -> Result<Vec<Scri
     scripts_from(rt, alloc, number, 0)
 }
 
-/// The scripts of the threads after `from`. Each is made by a thread of its own, and this one takes the memory for it
-/// and then does nothing but wait: a thread that starts another and then works may keep it waiting for its processor,
-/// and threads that take memory at the same time hold each other up.
+/// The scripts of the threads after `from`. Each two are made by a thread of their own, and this one takes the memory for
+/// them and then does nothing but wait: a thread that starts another and then works may keep it waiting for its
+/// processor, and threads that take memory at the same time hold each other up.
 #[cycle(scripts)]
 fn scripts_from<R: Threads>(
     rt: &R,
@@ -57,21 +57,29 @@ fn scripts_from<R: Threads>(
     from: u32,
 ) -> Result<Vec<Script>, AllocError>
     requires within { from ≤ 16 }
+    requires even { from % 2 ≡ 0 }
     ensures { IfOk result (λ list. scripts number from ++ list.items ≡ scripts number 16) }
 {
     if from == MAX_THREADS {
         return Ok(Vec::new(alloc));
     }
-    let thread = from + 1;
-    let names = names_of(alloc, thread)?;
-    let room = Vec::with_capacity(alloc, STEPS)?;
+    let (low, high) = (from + 1, from + 2);
+    let low_names = names_of(alloc, low)?;
+    let high_names = names_of(alloc, high)?;
+    let low_room = Vec::with_capacity(alloc, STEPS)?;
+    let high_room = Vec::with_capacity(alloc, STEPS)?;
+    let two = || {
+        let low_steps = steps_in(low_room, number, low, &low_names);
+        (low_steps, steps_in(high_room, number, high, &high_names))
+    };
     let others = || -> Result<Vec<Script>, AllocError>
-        requires { from < 16 }
-        ensures { IfOk result (λ list. scripts number (from + 1) ++ list.items ≡ scripts number 16) }
-    { scripts_from(rt, alloc, number, from + 1) };
-    let (steps, rest) = join(rt, || steps_in(room, number, thread, &names), others);
+        requires { (from < 16) × (from % 2 ≡ 0) }
+        ensures { IfOk result (λ list. scripts number (from + 2) ++ list.items ≡ scripts number 16) }
+    { scripts_from(rt, alloc, number, from + 2) };
+    let ((low_steps, high_steps), rest) = join(rt, two, others);
     let mut scripts = Vec::new(alloc);
-    scripts.push(Script::of(thread, steps?))?;
+    scripts.push(Script::of(low, low_steps?))?;
+    scripts.push(Script::of(high, high_steps?))?;
     scripts.append(&mut rest?)?;
     Ok(scripts)
 }
