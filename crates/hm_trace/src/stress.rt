@@ -28,7 +28,7 @@ const MULTIPLIER: u64 = 6_364_136_223_846_793_005;
 /// What is then added, as in the same generator.
 const INCREMENT: u64 = 1_442_695_040_888_963_407;
 
-/// The stress trace of a number. Each two of its scripts are made by a thread of their own.
+/// The stress trace of a number. Each thread that is started for it makes two of its scripts.
 pub fn stress_trace<R: Threads>(rt: &R, alloc: Global, number: u64) -> Result<Trace, NoMemory>
     ensures exact { IfOk result (λ trace. trace ≡ stress number) }
 {
@@ -46,9 +46,9 @@ fn scripts_of<R: Threads>(rt: &R, alloc: Global, number: u64) -> Result<Vec<Scri
     scripts_from(rt, alloc, number, 0)
 }
 
-/// The scripts of the threads after `from`. Each two are made by a thread of their own, and this one takes the memory for
-/// them and then does nothing but wait: a thread that starts another and then works may keep it waiting for its
-/// processor, and threads that take memory at the same time hold each other up.
+/// The scripts of the threads after `from`. A thread makes two of them, one after the other, and this one takes the
+/// memory for them and then does nothing but wait: a thread that starts another and then works may keep it waiting for
+/// its processor, and threads that take memory at the same time hold each other up.
 #[cycle(scripts)]
 fn scripts_from<R: Threads>(
     rt: &R,

@@ -1,4 +1,4 @@
-use Rattle.std.proofs.Common.{◌≡◌, ◌∙◌, ◌+◌, ◌++◌, ◌∷◌, ℕ, List, ap, sym, subst, arith}
+use Rattle.std.proofs.Common.{◌≡◌, ◌∙◌, ◌+◌, ◌++◌, ◌∷◌, List, ap, arith}
 use Rattle.std.proofs.lemmas.Grind.{common_steps}
 use Rattle.hm_trace.specs.Stress.{groups, script, scripts}
 use Rattle.hm_trace.specs.Views.{steps_view, ScriptView}
@@ -31,9 +31,6 @@ returns g t c =
     let from = c.args.from in
     let rest = c.in_ok-rest.field-0.items in
     let whole = scripts n 16 in
-    let same : from + 1 + 1 ≡ from + 2 = omega arith in
-    let after : scripts n (from + 2) ++ rest ≡ whole = grind (arith, common_steps) in
-    let with_high : scripts n (from + 1) ++ script n (from + 2) ∷ rest ≡ whole =
-    subst (λ (k : ℕ). scripts n (from + 1) ++ script n k ∷ rest ≡ whole) same (scripts_with n (from + 1) rest whole (subst (λ (k : ℕ). scripts n k ++ rest ≡ whole) (sym same) after)) in
-    let both : c.append.new.self.items ≡ script n (from + 1) ∷ script n (from + 2) ∷ rest = grind (arith, common_steps) in
-    ap (λ (l : List ScriptView). scripts n from ++ l) both ∙ scripts_with n from (script n (from + 2) ∷ rest) whole with_high
+    let after : scripts n (from + 1 + 1) ++ rest ≡ whole = grind (arith, common_steps) in
+    let both : c.append.new.self.items ≡ script n (from + 1) ∷ script n (from + 1 + 1) ∷ rest = grind (arith, common_steps) in
+    ap (λ (l : List ScriptView). scripts n from ++ l) both ∙ scripts_with n from (script n (from + 1 + 1) ∷ rest) whole (scripts_with n (from + 1) rest whole after)
