@@ -33,7 +33,7 @@ impl SpareFrames {
     /// memory.
     pub(crate) fn keep(&mut self, frame: Frame) {
         let room = self.frames.capacity().min(MOST_KEPT);
-        if self.frames.len() < room && frame.bytes().len() <= LONGEST_KEPT {
+        if self.frames.len() < room && frame.len() <= LONGEST_KEPT {
             self.frames.push_reserved(frame);
         }
     }
@@ -42,10 +42,7 @@ impl SpareFrames {
     fn take(&mut self, len: usize) -> Option<Frame>
         ensures { IfSome result (λ r. length r.run ≡ len) }
     {
-        let i = self
-            .frames
-            .iter()
-            .position(|frame| frame.bytes().len() == len)?;
+        let i = self.frames.iter().position(|frame| frame.len() == len)?;
         Some(self.frames.swap_remove(i))
     }
 

@@ -3,10 +3,15 @@ use Rattle.std.proofs.Common.{◌≡◌, ℕ, ◌+◌, ◌*◌, ◌/◌, ◌%◌
 use Rattle.std.proofs.lemmas.Bool.{lt-ltb}
 use Rattle.std.proofs.lemmas.Nat.{div-mul-add, mod-mul-add}
 use mathlib.Core.Logic.{inl}
+use Rattle.std.specs.Box.{with_value}
+use Rattle.std.specs.Global.{Box}
 use Rattle.hm_outside.specs.declared.memory.NoMemory.{NoMemory}
 use Rattle.hm_outside.specs.declared.pages.Pages as pages
 use Rattle.hm_model.specs.declared.entry.Call.{Call}
+use Rattle.hm_model.specs.declared.entry.Call.TheVariants.{Allot, GiveBack, Measure, Fetch, Fill}
 use Rattle.hm_model.specs.declared.entry.Reply.{Reply}
+use Rattle.hm_model.specs.declared.entry.Who.{Who}
+use Rattle.hm_model.specs.Served.{ServesCall}
 use Rattle.hm_model.specs.Replies.{IsClassReply}
 use Rattle.hm_sizes.specs.declared.class.ClassId.{ClassId}
 use Rattle.hm_sizes.specs.declared.config.Config.{Config}
@@ -16,12 +21,16 @@ use Rattle.hm_sizes.specs.Shapes.{has_bytes, usable}
 use Rattle.hm_class_rules.specs.Draws.{drawn_shape}
 use Rattle.hm_class_rules.specs.Drawn.{IsDrawn}
 use Rattle.hm_class_rules.specs.Rules.{Terms, IsLegal, IsLiveBlock, state, wrong_size, wrong_canary}
+use Rattle.hm_class.specs.Calls.{class_regions, Accepts}
 use Rattle.hm_class.specs.Region.{Region, IsRegion, IsTakenBack, HoldsSlabs, origin, terms, region_shape}
 use Rattle.hm_large.specs.Rules as large_state
-use Rattle.hm_heap.specs.Accepted.{IsAcceptedFree}
+use Rattle.hm_heap.specs.Accepted.{IsAcceptedFree, IsAccepted}
 use Rattle.hm_heap.specs.Lawful.{arena_of, class_in, class_terms, large_terms, IsLawful, IsSound, Holds, fault_count}
 use Rattle.hm_heap.specs.Origins.{numbers_of}
+use Rattle.hm_heap.specs.Regions.{regions}
 use Rattle.hm_heap.specs.Requests.{IsReply}
+use Rattle.hm_heap.specs.declared.region.Region.{Region as Either}
+use Rattle.hm_heap.specs.declared.region.Region.TheVariants.{Class}
 
 -- ---- its arena and class are read from its number
 abbrev terms_with : Config → ℕ → Bool → ℕ → ClassId → Terms
@@ -81,14 +90,12 @@ module _ {P : Type 0} (meaning : pages.Ghosts P) (r : Region P) (h : IsRegion me
   }
 
   -- ---- what is replied
-  pub class_replies : (call asked : Call) (result : Result Reply NoMemory) → call ≡ asked → IfOk result (IsClassReply (usable (region_shape r)) asked)
-      → IfOk result (IsReply (origin meaning.told r) call)
-  class_replies call asked (Ok reply) is kind = record {
-    class = λ lt. subst (λ (c : Call). IsClassReply (usable (class_terms (origin meaning.told r)).shape) c reply) (sym is)
-        (subst (λ (t : Terms). IsClassReply (usable t.shape) asked reply) (sym same) kind);
+  pub class_replies : (call : Call) (result : Result Reply NoMemory) → IfOk result (IsClassReply (usable (region_shape r)) call) → IfOk result (IsReply (origin meaning.told r) call)
+  class_replies call (Ok reply) fits = record {
+    class = λ lt. subst (λ (t : Terms). IsClassReply (usable t.shape) call reply) (sym same) fits;
     large = λ e. absurd (not_large e);
   }
-  class_replies call asked (Err none) is kind = tt
+  class_replies call (Err none) fits = tt
 
   -- ---- a free that never lacks memory
   pub class_taken : (a : ℕ) (stated : Option ℕ) → IsAcceptedFree (origin meaning.told r) r.entries a stated → IsTakenBack meaning.told r a stated
@@ -100,6 +107,26 @@ module _ {P : Type 0} (meaning : pages.Ghosts P) (r : Region P) (h : IsRegion me
         size = subst (λ (t : Terms). wrong_size t.shape stated ≡ None) same s.size;
         canary = subst (λ (t : Terms). wrong_canary t.shape (state t r.entries) a ≡ None) same s.canary;
       }
+
+  pub class_accepts : (call : Call) → IsAccepted (origin meaning.told r) r.entries call → Accepts meaning.told r call
+  class_accepts (Allot asked align) x = absurd x
+  class_accepts (Measure a) x = absurd x
+  class_accepts (Fetch a len) x = absurd x
+  class_accepts (Fill a runs) x = absurd x
+  class_accepts (GiveBack a stated) x = class_taken a stated x
+
+-- ---- a call that it serves is one that a region of either kind serves
+pub class_serves : {P : Type 0} (meaning : pages.Ghosts P) (held : Box (Region P)) (new : Region P) {old : Either P} {who : Who} {call : Call} {r : Result Reply NoMemory}
+    → Class held ≡ old → ServesCall (class_regions meaning) who call held.value new r → ServesCall (regions meaning) who call old (Class (with_value held new)) r
+class_serves meaning held new {old} {who} {call} {r} is s = subst (λ (z : Either _). ServesCall (regions meaning) who call z (Class (with_value held new)) r) is (record {
+  before = class_sound meaning held.value s.before;
+  after = class_sound meaning new s.after;
+  origin = s.origin;
+  added = s.added;
+  replies = class_replies meaning held.value s.before call r s.replies;
+  memory = s.memory;
+  accepted = λ x. s.accepted (class_accepts meaning held.value s.before call x);
+})
 
 -- ---- a new region
 pub class_origin_at : {P : Type 0} (told : P → Bool) (r : Region P) (c : Config) (number region : ℕ) → r.config ≡ c → r.number ≡ number

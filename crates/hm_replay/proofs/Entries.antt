@@ -132,7 +132,7 @@ both_callers : (first count : ℕ) (es fs : List Entry) → AreOfCallers first c
 both_callers first count [] fs a b = b
 both_callers first count (e ∷ es) fs a b = (a.0, a.1, both_callers first count es fs a.2 b)
 
-callers_of : (caller : ℕ) (rounds : List (List ScriptView)) (es : List Entry) → InRounds caller rounds es
+pub callers_of : (caller : ℕ) (rounds : List (List ScriptView)) (es : List Entry) → InRounds caller rounds es
     → AreOfCallers caller (script_count rounds) es
 callers_of caller [] es seen = subst (AreOfCallers caller 0) (sym seen) tt
 callers_of caller (scripts ∷ rounds) es seen =

@@ -15,3 +15,4 @@ pub mod Begun
 pub mod Replaying
 pub mod Ascending
 pub mod Entries
+mod Counting

@@ -1,11 +1,11 @@
 -- Rounds one after another on a new heap: what is known of the first pass, and what the closed histories say.
-use Rattle.std.specs.Prelude.{◌≡◌, true, ℕ, ◌+◌, ◌<◌, ◌≤◌, List, [], ◌∷◌, ◌++◌, length, slice_index_or}
+use Rattle.std.specs.Prelude.{◌≡◌, true, ℕ, ◌+◌, ◌*◌, ◌<◌, ◌≤◌, sum_by, List, [], ◌∷◌, ◌++◌, length, slice_index_or}
 use Rattle.std.specs.List.{list_all, AllByRecursion as EachIs}
 use Rattle.hm_report.specs.declared.results.Results.{Results}
 use Rattle.hm_report.specs.Findings.{ascends}
 use Rattle.hm_sizes.specs.declared.config.Config.{Config}
-use Rattle.hm_trace.specs.Limits.{max_threads}
-use Rattle.hm_trace.specs.Traces.{is_round}
+use Rattle.hm_trace.specs.Limits.{most_threads}
+use Rattle.hm_trace.specs.Traces.{is_round, total_steps}
 use Rattle.hm_trace.specs.Views.{ScriptView}
 use Rattle.hm_turn.specs.Known.{Lock, Known, IsWhole}
 use Rattle.hm_heap.specs.declared.close.History.{History}
@@ -69,9 +69,16 @@ EntriesAreOfTrace = (c : Config) (hs : List History) (rounds : List (List Script
     → AreReplayed c hs rounds results last
     → (r : ℕ) (h : History) → r < length hs → EachIs (IsOfTrace 1 1 rounds) (slice_index_or hs r h).entries
 
+-- of how many entries there are: together at most five for each step
+abbrev pub FewEntries : Type 0
+FewEntries = (c : Config) (hs : List History) (rounds : List (List ScriptView)) (results : List Results)
+    (last : Names)
+    → AreReplayed c hs rounds results last
+    → sum_by (λ (h : History). length h.entries) hs ≤ 5 * total_steps rounds
+
 -- of the scripts of a round
 abbrev pub RoundsAreSmall : Type 0
-RoundsAreSmall = (scripts : List ScriptView) → is_round scripts ≡ true → length scripts ≤ max_threads
+RoundsAreSmall = (scripts : List ScriptView) → is_round scripts ≡ true → length scripts ≤ most_threads
 
 -- of the results' order, which is that of a report
 abbrev pub ResultsAscend : Type 0

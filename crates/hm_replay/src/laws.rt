@@ -1,6 +1,6 @@
 //! Laws of rounds one after another on a new heap. Each function does nothing of its own: its contract is the
 //! law.
-ghost use Rattle.hm_replay.specs.Replays.{NewReplays, RoundsGoOn, ReplaysClose, EntriesAreOfTrace, ResultsAscend, RoundsAreSmall};
+ghost use Rattle.hm_replay.specs.Replays.{NewReplays, RoundsGoOn, ReplaysClose, EntriesAreOfTrace, ResultsAscend, FewEntries, RoundsAreSmall};
 
 /// What is known of the first pass after some rounds, and of the histories when the heap is closed; and that
 /// the results stand in the order of a report.
@@ -10,9 +10,10 @@ pub fn replayed_rounds()
     ensures closed { ReplaysClose }
     ensures entries { EntriesAreOfTrace }
     ensures order { ResultsAscend }
+    ensures few { FewEntries }
 {}
 
-/// A round has at most 16 scripts, one for each thread.
+/// A round has at most 64 scripts, one for each thread.
 pub fn small_rounds()
     ensures { RoundsAreSmall }
 {}

@@ -4,7 +4,7 @@ ghost use Rattle.hm_heap.specs.Passes.{AreOf};
 ghost use Rattle.hm_replay.specs.Names.{held};
 ghost use Rattle.hm_replay.specs.RoundOf.{BeginsRound, LeavesRoot, ended_in};
 ghost use Rattle.hm_replay.specs.Rounds.{RunsRound};
-ghost use Rattle.hm_replay.specs.Workers.{IsToRun, HasRun, KeepsMade, MakesFront, LeavesNames, HasParted, IsBegun, FinishedTo};
+ghost use Rattle.hm_replay.specs.Workers.{IsToRun, WasRun, HasParted, IsBegun, FinishedTo};
 
 use crate::env::Env;
 use crate::left::NameLeft;
@@ -31,11 +31,7 @@ struct Worker<'s, 'e> {
 impl<'s, 'e> Worker<'s, 'e> {
     fn run<R: Wait, P: Pages, G: Gate>(&mut self, rt: &R, alloc: Global, heap: &Heap<'_, P, G>)
         requires { IsToRun heap.now.locks self.old }
-        ensures script { self.new.script ≡ self.old.script }
-        ensures run { HasRun heap.now.locks self.old.pass self.new.pass }
-        ensures made { KeepsMade heap.now.config self.old self.new }
-        ensures front { MakesFront heap.now.config self.old self.new }
-        ensures names { LeavesNames self.new }
+        ensures run { WasRun heap.now self.old self.new }
     {
         let results = run_with(
             rt,
@@ -66,17 +62,8 @@ fn work<R: Threads + Wait + Sync, P: Pages, G: Gate>(
     requires ready { (i : ℕ) (w : _) → i < length workers.old.items
         → IsToRun heap.now.locks (slice_index_or workers.old.items i w) }
     ensures len { vec_len workers.new ≡ vec_len workers.old }
-    ensures script { (i : ℕ) (w : _) → i < length workers.old.items
-        → (slice_index_or workers.new.items i w).script ≡ (slice_index_or workers.old.items i w).script }
-    ensures run { (i : ℕ) (w : _) → i < length workers.old.items
-        → HasRun heap.now.locks (slice_index_or workers.old.items i w).pass
-        (slice_index_or workers.new.items i w).pass }
-    ensures made { (i : ℕ) (w : _) → i < length workers.old.items
-        → KeepsMade heap.now.config (slice_index_or workers.old.items i w) (slice_index_or workers.new.items i w) }
-    ensures fronts { (i : ℕ) (w : _) → i < length workers.old.items
-        → MakesFront heap.now.config (slice_index_or workers.old.items i w) (slice_index_or workers.new.items i w) }
-    ensures names { (i : ℕ) (w : _) → i < length workers.old.items
-        → LeavesNames (slice_index_or workers.new.items i w) }
+    ensures each { (i : ℕ) (w : _) → i < length workers.old.items
+        → WasRun heap.now (slice_index_or workers.old.items i w) (slice_index_or workers.new.items i w) }
 {
     for_each_mut(
         rt,
@@ -179,14 +166,14 @@ pub fn run_round<R: Threads + Wait + Sync, P: Pages, G: Gate>(
 ) -> Result<Vec<Results>, NoMemory>
     requires of { AreOf heap.now.locks root.old.turns }
     requires root { root.old.caller ≡ 0 }
-    requires few { root.old.splits + length round.now < 2 ^ 32 }
+    requires few { root.old.splits + length round.now.scripts < 2 ^ 32 }
     ensures of { AreOf heap.now.locks root.new.turns }
-    ensures root { LeavesRoot (length round.now) root.old root.new }
-    ensures splits { IfOk result (λ _. root.new.splits ≡ root.old.splits + length round.now) }
-    ensures at_most { (root.old.splits ≤ root.new.splits) × (root.new.splits ≤ root.old.splits + length round.now) }
+    ensures root { LeavesRoot (length round.now.scripts) root.old root.new }
+    ensures splits { IfOk result (λ _. root.new.splits ≡ root.old.splits + length round.now.scripts) }
+    ensures at_most { (root.old.splits ≤ root.new.splits) × (root.new.splits ≤ root.old.splits + length round.now.scripts) }
     ensures ran { IfOk result (λ results. RunsRound heap.now.config (ended_in root.new.turns) (root.old.splits + 1)
-        number (held env.old) (held env.old) round.now results.items (held env.new)) }
-    ensures begun { BeginsRound heap.now.config number (held env.old) round.now root.old root.new }
+        number (held env.old) (held env.old) round.now.scripts results.items (held env.new)) }
+    ensures begun { BeginsRound heap.now.config number (held env.old) round.now.scripts root.old root.new }
     ensures memory { OnErr result (env.new ≡ env.old) }
 {
     let scripts = round.scripts();

@@ -1,10 +1,10 @@
 //! One script, step by step.
 ghost use Rattle.std.specs.Prelude.{◌≡◌, ◌≤◌, ℕ, [], length, true, IfOk, OnErr};
 ghost use Rattle.std.specs.List.{list_all};
-ghost use Rattle.hm_trace.specs.Limits.{max_steps};
+ghost use Rattle.hm_trace.specs.Limits.{most_steps};
 ghost use Rattle.hm_trace.specs.Traces.{is_step};
 ghost use Rattle.hm_trace.specs.Views.{step_view, steps_view};
-ghost use Rattle.hm_heap.specs.Passes.{AreOf};
+ghost use Rattle.hm_heap.specs.Passes.{AreOf, GoesOnAs};
 ghost use Rattle.hm_replay.specs.Gains.{GainsResult, GainsResults, GainsStop, GainsFrontOf, AllGrew, terms_of, mine_of};
 ghost use Rattle.hm_replay.specs.Names.{held, touched_all, touched_by};
 ghost use Rattle.hm_replay.specs.Scripts.{IsFront, IsRun};
@@ -34,8 +34,7 @@ fn run_step<R: Wait, P: Pages, G: Gate, E: Addresses>(
 ) -> Result<StepResult, NoMemory>
     requires of { AreOf heap.now.locks pass.old.turns }
     requires valid { is_step (step_view step.now) ≡ true }
-    ensures same { pass.new ≡ record pass.old { turns = pass.new.turns } }
-    ensures of { AreOf heap.now.locks pass.new.turns }
+    ensures goes_on { GoesOnAs heap.now pass.old pass.new }
     ensures grew { AllGrew pass.old.turns pass.new.turns }
     ensures ran { IfOk result
         (GainsResult heap.now pass.old pass.new step_number (E.names env.old) (step_view step.now)) }
@@ -71,9 +70,8 @@ fn run_steps<R: Wait, P: Pages, G: Gate, E: Addresses>(
 ) -> Result<Vec<StepResult>, NoMemory>
     requires of { AreOf heap.now.locks pass.old.turns }
     requires valid { list_all is_step (steps_view steps.now) ≡ true }
-    requires few { length steps.now ≤ max_steps }
-    ensures same { pass.new ≡ record pass.old { turns = pass.new.turns } }
-    ensures of { AreOf heap.now.locks pass.new.turns }
+    requires few { length steps.now ≤ most_steps }
+    ensures goes_on { GoesOnAs heap.now pass.old pass.new }
     ensures grew { AllGrew pass.old.turns pass.new.turns }
     ensures ran { IfOk result (λ rs. GainsResults heap.now pass.old pass.new (E.names env.old) (steps_view steps.now)
         rs.items (E.names env.new)) }
@@ -101,8 +99,7 @@ pub(crate) fn run_with<R: Wait, P: Pages, G: Gate, E: Addresses>(
     requires of { AreOf heap.now.locks pass.old.turns }
     requires thread { pass.old.thread ≡ script.now.thread }
     requires fresh { (place : ℕ) → mine_of pass.old.turns place ≡ [] }
-    ensures same { pass.new ≡ record pass.old { turns = pass.new.turns } }
-    ensures of { AreOf heap.now.locks pass.new.turns }
+    ensures goes_on { GoesOnAs heap.now pass.old pass.new }
     ensures grew { AllGrew pass.old.turns pass.new.turns }
     ensures results { IfOk result (λ rs. (rs.round ≡ pass.old.round) × (rs.thread ≡ script.now.thread)) }
     ensures ran { IfOk result (λ rs. IsRun (terms_of heap.now pass.old) (E.names env.old) script.now.steps rs.items
@@ -133,8 +130,7 @@ pub fn run_script<R: Wait, P: Pages, G: Gate>(
     requires of { AreOf heap.now.locks pass.old.turns }
     requires thread { pass.old.thread ≡ script.now.thread }
     requires fresh { (place : ℕ) → mine_of pass.old.turns place ≡ [] }
-    ensures same { pass.new ≡ record pass.old { turns = pass.new.turns } }
-    ensures of { AreOf heap.now.locks pass.new.turns }
+    ensures goes_on { GoesOnAs heap.now pass.old pass.new }
     ensures grew { AllGrew pass.old.turns pass.new.turns }
     ensures results { IfOk result (λ rs. (rs.round ≡ pass.old.round) × (rs.thread ≡ script.now.thread)) }
     ensures ran { IfOk result (λ rs. IsRun (terms_of heap.now pass.old) (held env.old) script.now.steps rs.items

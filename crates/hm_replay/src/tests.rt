@@ -10,6 +10,7 @@ use hm_report::{Results, StepResult, report};
 use hm_sizes::{CLASSES, Config};
 use hm_trace::{Round, Script, read_trace};
 use std::alloc::Global;
+use std::process::Abort;
 use std::slice;
 use std::sync::Wait;
 use std::test::Fail;
@@ -32,7 +33,7 @@ fn run_rounds<R: Threads + Wait + Sync, P: Pages, G: Gate>(
     let mut env = Env::build(alloc);
     let mut all = Vec::new(alloc);
     for (index, round) in rounds.iter().enumerate() {
-        // Both are called for their contracts: these are the scripts of a round, so there are at most 16.
+        // Both are called for their contracts: these are the scripts of a round, so there are at most 64.
         let _ = round.scripts();
         small_rounds();
         let mut results = run_round(rt, alloc, heap, root, index as u32 + 1, round, &mut env)?;
@@ -48,14 +49,14 @@ fn report_of<R: Threads + Wait + Sync>(rt: &R, alloc: Global, text: &str) -> Res
     let results = run_rounds(rt, alloc, &heap, &mut root, trace.rounds())?;
     let mut told = Vec::new(alloc);
     for of_script in &results {
-        let lines = report(alloc, slice::from_ref(of_script))?;
+        let lines = report(alloc, &[], slice::from_ref(of_script))?;
         told.extend_from_slice(&lines)?;
     }
     Ok(told)
 }
 
 /// A trace and its report.
-const TABLE: [(&str, &str); 5] = [
+const TABLE: [(&str, &str); 6] = [
     ("hmtrace 1\nend\n", ""),
     (
         "hmtrace 1\nround\nthread 1\nmalloc x 100\nwrite x 3 41\nrealloc y x 104\nrealloc z y 105\nread z 105\n\
@@ -76,6 +77,10 @@ const TABLE: [(&str, &str); 5] = [
         "hmtrace 1\nround\nthread 1\nmalloc a 100\nround\nthread 1\naligned a 3 10\nsize a\nthread 2\nsize a\nround\n\
          thread 1\nsize a\nend\n",
         "1.1.1 given 104\n2.1.1 bad alignment\n2.1.2 skipped\n2.2.1 size 104\n3.1.1 skipped\n",
+    ),
+    (
+        "hmtrace 2\nround\nnote warm up\nthread 64\nmalloc x 100\nend\n",
+        "1.64.1 given 104\n",
     ),
 ];
 
@@ -149,8 +154,8 @@ fn reports_alone<R: Wait, P: Pages, G: Gate>(
     let mut env = Env::build(alloc);
     let set = run_alone(rt, alloc, heap, root, first, &mut env)?;
     let seen = run_alone(rt, alloc, heap, root, second, &mut env)?;
-    let told = report(alloc, slice::from_ref(&set))?;
-    Ok((told, report(alloc, slice::from_ref(&seen))?))
+    let told = report(alloc, &[], slice::from_ref(&set))?;
+    Ok((told, report(alloc, &[], slice::from_ref(&seen))?))
 }
 
 #[test]
@@ -178,15 +183,17 @@ fn a_script_sees_and_sets_names(rt: HostRuntime) -> Result<(), Fail> {
     Ok(())
 }
 
-/// A round of 16 scripts of 1,000 steps: each allots a block and gives it back, 500 times.
-fn many_scripts(alloc: Global) -> Result<Vec<u8>, NoMemory> {
+/// A round of this version with so many scripts: each allots a block and gives it back, so many times.
+fn many_scripts(alloc: Global, version: u8, scripts: u8, pairs: u32) -> Result<Vec<u8>, NoMemory> {
     let mut text = Vec::new(alloc);
-    text.extend_from_slice(b"hmtrace 1\nround\n")?;
-    for thread in 1u8..17 {
+    let header = format!(in alloc; "hmtrace {version}\nround\n")?;
+    text.extend_from_slice(header.as_bytes())?;
+    for before in 0..scripts {
+        let thread = before + 1;
         let head = format!(in alloc; "thread {thread}\n")?;
         let pair = format!(in alloc; "malloc n{thread} 100\nfree n{thread}\n")?;
         text.extend_from_slice(head.as_bytes())?;
-        for _ in 0u32..500 {
+        for _ in 0..pairs {
             text.extend_from_slice(pair.as_bytes())?;
         }
     }
@@ -228,22 +235,38 @@ fn agreeing(results: &Results, entries: &[Entry], caller: u32) -> usize {
         .count()
 }
 
-#[test]
-fn many_scripts_at_once(rt: HostRuntime) -> Result<(), Fail> {
-    let alloc = rt.alloc();
-    let text = many_scripts(alloc)?;
-    let trace = read_trace(alloc, &text)?;
+/// The text is a round of so many scripts, each of so many steps, and its results are those of the histories.
+fn expect_agreeing<R: Threads + Wait + Sync + Abort>(
+    rt: &R,
+    alloc: Global,
+    text: &[u8],
+    scripts: u8,
+    steps: usize,
+) -> Result<(), Fail> {
+    let trace = read_trace(alloc, text)?;
     let (heap, mut root) = Heap::build(alloc, Config::standard(), 1, &mut PlainMaker, &NoGate)?;
-    let results = run_rounds(&rt, alloc, &heap, &mut root, trace.rounds())?;
+    let results = run_rounds(rt, alloc, &heap, &mut root, trace.rounds())?;
     let closed = heap.close(alloc, root)?;
-    assert_eq!(rt; results.len(), 16);
+    assert_eq!(rt; results.len(), scripts as usize);
     for (index, of_script) in results.iter().enumerate() {
         let history = closed.histories.items().get(place_of_script(index));
         let entries = history
             .map(|history| history.entries.items())
             .unwrap_or(&[]);
-        assert_eq!(rt; of_script.items.items().len(), 1000);
-        assert_eq!(rt; agreeing(of_script, entries, index as u32 + 1), 1000);
+        assert_eq!(rt; of_script.items.items().len(), steps);
+        assert_eq!(rt; agreeing(of_script, entries, index as u32 + 1), steps);
     }
     Ok(())
+}
+
+#[test]
+fn many_scripts_at_once(rt: HostRuntime) -> Result<(), Fail> {
+    let text = many_scripts(rt.alloc(), 1, 16, 500)?;
+    expect_agreeing(&rt, rt.alloc(), &text, 16, 1000)
+}
+
+#[test]
+fn sixty_four_scripts_at_once(rt: HostRuntime) -> Result<(), Fail> {
+    let text = many_scripts(rt.alloc(), 2, 64, 50)?;
+    expect_agreeing(&rt, rt.alloc(), &text, 64, 100)
 }

@@ -4,13 +4,13 @@ use Rattle.std.proofs.lemmas.List.Sums.{sum_by_more, count_by-le-length}
 use Rattle.hm_report.specs.Summary.{is_of, kind_of, count_in, count}
 use Rattle.hm_report.specs.declared.results.Results.{Results}
 use Rattle.hm_report.specs.declared.results.StepResult.{StepResult}
-use Rattle.hm_report.specs.Counts.{count_of, one_if, with_one_more, sum_of}
+use Rattle.hm_report.specs.Counts.{count_of, one_if, with_one_more}
 use Rattle.hm_report.specs.declared.counts.Kind.{Kind}
 use Rattle.hm_report.specs.declared.counts.Kind.TheVariants.{Given, Written, Size, Bytes, Freed, Skipped, Other}
 use Rattle.hm_report.specs.declared.counts.Counts.{Counts}
 
 -- one more of a kind is one more where it is asked for, and changes no other count
-pub count_of-with_one_more : (counts : Counts ℕ) (kind k : Kind) → count_of (with_one_more counts kind) k ≡ count_of counts k + one_if kind k
+pub count_of-with_one_more : (counts : Counts) (kind k : Kind) → count_of (with_one_more counts kind) k ≡ count_of counts k + one_if kind k
 count_of-with_one_more counts kind Given = refl
 count_of-with_one_more counts kind Written = refl
 count_of-with_one_more counts kind Size = refl
@@ -18,15 +18,6 @@ count_of-with_one_more counts kind Bytes = refl
 count_of-with_one_more counts kind Freed = refl
 count_of-with_one_more counts kind Skipped = refl
 count_of-with_one_more counts kind Other = refl
-
-pub count_of-sum_of : (a b : Counts ℕ) (kind : Kind) → count_of (sum_of a b) kind ≡ count_of a kind + count_of b kind
-count_of-sum_of a b Given = refl
-count_of-sum_of a b Written = refl
-count_of-sum_of a b Size = refl
-count_of-sum_of a b Bytes = refl
-count_of-sum_of a b Freed = refl
-count_of-sum_of a b Skipped = refl
-count_of-sum_of a b Other = refl
 
 -- a script's results so far, and one more
 pub counted_more : (kind : Kind) (steps : List StepResult) (i : ℕ) (step : StepResult) → i < length steps → step ≡ get_or steps i step → count_by (λ s. is_of kind s) (take (i + 1) steps) ≡ count_by (λ s. is_of kind s) (take i steps) + one_if (kind_of step) kind

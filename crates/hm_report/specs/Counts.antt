@@ -6,7 +6,7 @@ use Rattle.hm_report.specs.declared.counts.Kind.TheVariants.{Given, Written, Siz
 use Rattle.hm_report.specs.declared.counts.Counts.{Counts}
 
 -- the count of this kind
-abbrev pub count_of : Counts ℕ → Kind → ℕ
+abbrev pub count_of : Counts → Kind → ℕ
 count_of counts Given = counts.given
 count_of counts Written = counts.written
 count_of counts Size = counts.size
@@ -20,7 +20,7 @@ abbrev pub one_if : Kind → Kind → ℕ
 one_if kind wanted = if is_same kind wanted then 1 else 0
 
 -- the counts after one more of this kind
-abbrev pub with_one_more : Counts ℕ → Kind → Counts ℕ
+abbrev pub with_one_more : Counts → Kind → Counts
 with_one_more counts kind =
     record {
       given = counts.given + one_if kind Given;
@@ -30,17 +30,4 @@ with_one_more counts kind =
       freed = counts.freed + one_if kind Freed;
       skipped = counts.skipped + one_if kind Skipped;
       other = counts.other + one_if kind Other;
-    }
-
--- the counts of both
-abbrev pub sum_of : Counts ℕ → Counts ℕ → Counts ℕ
-sum_of a b =
-    record {
-      given = a.given + b.given;
-      written = a.written + b.written;
-      size = a.size + b.size;
-      bytes = a.bytes + b.bytes;
-      freed = a.freed + b.freed;
-      skipped = a.skipped + b.skipped;
-      other = a.other + b.other;
     }

@@ -56,7 +56,7 @@ abbrev pub step_count : List Results → ℕ
 step_count results = sum_by (λ (script : Results). length script.items) results
 
 -- how many results of all scripts there are of each kind
-abbrev pub counts_of : List Results → Counts ℕ
+abbrev pub counts_of : List Results → Counts
 counts_of results =
     record {
       given = count Given results;
@@ -77,7 +77,7 @@ abbrev pub end_text : ℕ → List ℕ
 end_text others = if others == 0 then 10 ∷ [] else codes " other " ++ decimal others ++ 10 ∷ []
 
 -- the line of the run of this number: its steps, and these counts
-abbrev pub counts_line : ℕ → ℕ → Counts ℕ → List ℕ
+abbrev pub counts_line : ℕ → ℕ → Counts → List ℕ
 counts_line number steps counts =
     (codes "stress " ++ decimal number ++ codes ": steps " ++ decimal steps)
     ++ number_text (codes "given") counts.given

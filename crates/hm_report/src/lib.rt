@@ -1,16 +1,18 @@
-//! The results of a replay: their text, one line for each step, their summary, and whether an answer
+//! The results of a replay: their text, one line for each note and each step, their summary, and whether an answer
 //! among them is a finding.
 #![tactic(auto)]
 
 mod counts;
 mod findings;
 mod lines;
+mod notes;
 mod results;
 mod summary_line;
 mod text;
 
-pub use findings::has_finding;
+pub use findings::{has_finding, is_finding_reply};
 pub use lines::report;
+pub use notes::{Note, RoundNotes};
 pub use results::{Results, StepResult};
 pub use summary_line::{RunSummary, summary};
 

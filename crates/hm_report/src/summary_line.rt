@@ -3,12 +3,11 @@ ghost use Rattle.std.specs.Prelude.{◌≡◌, ◌++◌, length, IfOk, OnOk, str
 ghost use Rattle.hm_report.specs.Findings.{has_finding};
 ghost use Rattle.hm_report.specs.Summary.{step_count, counts_of, number_text, end_text, counts_line, summary_text};
 
-use crate::counts::{Counts, tally};
+use crate::counts::Counts;
 use crate::{Results, has_finding};
 use hm_outside::NoMemory;
 use std::alloc::{AllocError, Global};
 use std::fmt::Write;
-use std::thread::Threads;
 
 /// The summary of a run, and whether an answer among its results is a finding.
 #[derive(Debug, Drop)]
@@ -17,18 +16,12 @@ pub struct RunSummary {
     pub found: bool,
 }
 
-/// The summary of a run of the stress trace of this number: one line; and whether an answer is a finding. At
-/// most four threads count the results.
-pub fn summary<R: Threads>(
-    rt: &R,
-    alloc: Global,
-    number: u64,
-    results: &[Results],
-) -> Result<RunSummary, NoMemory>
+/// The summary of a run of the stress trace of this number: one line; and whether an answer is a finding.
+pub fn summary(alloc: Global, number: u64, results: &[Results]) -> Result<RunSummary, NoMemory>
     ensures text { IfOk result (λ summary. summary.text.items ≡ summary_text number results.now) }
     ensures found { IfOk result (λ summary. summary.found ≡ has_finding results.now) }
 {
-    let counts = tally(rt, results);
+    let counts = Counts::of(results);
     let mut out = String::new(alloc);
     push_line(&mut out, number, step_count(results), &counts)?;
     Ok(RunSummary {
@@ -38,19 +31,14 @@ pub fn summary<R: Threads>(
 }
 
 /// Whether some answer is a finding. Where each result is of a kind that has a word, none is.
-fn is_found(counts: &Counts<u128>, results: &[Results]) -> bool
+fn is_found(counts: &Counts, results: &[Results]) -> bool
     requires { counts.now ≡ counts_of results.now }
     ensures { result ≡ has_finding results.now }
 {
     counts.other > 0 && has_finding(results)
 }
 
-fn push_line(
-    out: &mut String,
-    number: u64,
-    steps: u128,
-    counts: &Counts<u128>,
-) -> Result<(), AllocError>
+fn push_line(out: &mut String, number: u64, steps: u128, counts: &Counts) -> Result<(), AllocError>
     ensures { OnOk result (string_bytes out.new ≡ string_bytes out.old ++ counts_line number steps counts.now) }
 {
     write!(out, "stress {number}: steps {steps}")?;

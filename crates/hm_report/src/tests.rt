@@ -1,5 +1,7 @@
 //! The text of each answer and whether it is a finding, the lines of reports, and what summaries count.
-use crate::{Results, StepResult, has_finding, report, summary};
+ghost use Rattle.std.specs.Prelude.{◌≡◌, IfOk};
+
+use crate::{Note, Results, RoundNotes, StepResult, has_finding, report, summary};
 use hm_model::{Answer, Reply, Runs};
 use hm_outside::List;
 use std::alloc::{AllocError, Global};
@@ -182,7 +184,7 @@ fn texts_of_answers(rt: HostRuntime) -> Result<(), Fail> {
         assert_eq!(rt; has_finding(&results), is_finding, "{text}");
         let line = format!(in rt.alloc(); "1.2.1 {text}\n")?;
         assert_eq!(rt;
-            report(rt.alloc(), &results)?.as_slice(),
+            report(rt.alloc(), &[], &results)?.as_slice(),
             line.as_bytes(),
             "{text}"
         );
@@ -193,7 +195,7 @@ fn texts_of_answers(rt: HostRuntime) -> Result<(), Fail> {
 #[test]
 fn lines_of_scripts(rt: HostRuntime) -> Result<(), Fail> {
     let alloc = rt.alloc();
-    assert_eq!(rt; report(alloc, &[])?.len(), 0);
+    assert_eq!(rt; report(alloc, &[], &[])?.len(), 0);
     let runs: [&[(u8, u64)]; 2] = [&[(0, u64::MAX)], &[(0x61, 13), (0, 1), (0xff, 2)]];
     let mut steps = Vec::new(alloc);
     for pairs in runs {
@@ -228,7 +230,62 @@ fn lines_of_scripts(rt: HostRuntime) -> Result<(), Fail> {
     ];
     let text =
         b"1.2.1 bytes 00*18446744073709551615\n1.2.2 bytes 61*13 00*1 ff*2\n4294967295.1.1 skipped\n";
-    assert_eq!(rt; report(alloc, &results)?.as_slice(), text.as_slice());
+    assert_eq!(rt; report(alloc, &[], &results)?.as_slice(), text.as_slice());
+    Ok(())
+}
+
+/// The notes of a round.
+fn notes(alloc: Global, round: u32, texts: &[&str]) -> Result<RoundNotes, Fail>
+    ensures { IfOk result (λ made. made.round ≡ round) }
+{
+    let mut notes = Vec::new(alloc);
+    for text in texts {
+        notes.push(Note::of(Vec::from_slice(alloc, text.as_bytes())?))?;
+    }
+    Ok(RoundNotes {
+        round,
+        notes: List::of(notes),
+    })
+}
+
+/// A script of this round with one skipped step.
+fn skipped(alloc: Global, round: u32, thread: u32) -> Result<Results, Fail>
+    ensures round { IfOk result (λ made. made.round ≡ round) }
+    ensures thread { IfOk result (λ made. made.thread ≡ thread) }
+{
+    let step = StepResult {
+        base: 0,
+        answer: None,
+    };
+    Ok(Results {
+        round,
+        thread,
+        items: List::of(vec![in alloc; step]?),
+    })
+}
+
+#[test]
+fn notes_stand_before_their_rounds(rt: HostRuntime) -> Result<(), Fail> {
+    let alloc = rt.alloc();
+    let notes = [
+        notes(alloc, 1, &["warm up", "~!0"])?,
+        notes(alloc, 2, &[])?,
+        notes(alloc, 3, &["a"])?,
+        notes(alloc, 5, &["end"])?,
+    ];
+    let results = [
+        skipped(alloc, 1, 63)?,
+        skipped(alloc, 1, 64)?,
+        skipped(alloc, 2, 1)?,
+        skipped(alloc, 4, 1)?,
+    ];
+    let text =
+        b"1 note warm up\n1 note ~!0\n1.63.1 skipped\n1.64.1 skipped\n2.1.1 skipped\n3 note a\n4.1.1 skipped\n5 note end\n";
+    assert_eq!(rt;
+        report(alloc, &notes, &results)?.as_slice(),
+        text.as_slice()
+    );
+    assert_eq!(rt; report(alloc, &notes, &[])?.len(), 46);
     Ok(())
 }
 
@@ -307,7 +364,7 @@ fn summaries(rt: HostRuntime) -> Result<(), Fail> {
     let results = three_scripts(rt.alloc())?;
     for (number, scripts, text, found) in SUMMARIES {
         let results = results.get(..scripts).ok_or("no such scripts")?;
-        let summed = summary(&rt, rt.alloc(), number, results)?;
+        let summed = summary(rt.alloc(), number, results)?;
         assert_eq!(rt; summed.text.as_slice(), text.as_bytes(), "{text}");
         assert_eq!(rt; summed.found, found, "{text}");
     }

@@ -5,6 +5,7 @@ mod Bytes
 mod Choices
 mod Decimals
 mod Exact
+mod FirstVersion
 mod Fits
 mod Fitting
 mod Forms
@@ -14,6 +15,7 @@ mod Kept
 mod Lengths
 mod LineEnds
 mod NameSets
+mod Notes
 mod Numerals
 mod Parts
 mod Places
@@ -33,5 +35,6 @@ mod TextFaults
 mod ThreeWords
 mod Tracks
 mod Values
+mod Versions
 mod Written
 mod WrongWords

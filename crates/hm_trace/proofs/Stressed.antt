@@ -1,5 +1,5 @@
 -- A stress trace is a trace.
-use Rattle.std.proofs.Common.{◌≡◌, ◌≢◌, ℕ, zero, suc, ◌+◌, ◌*◌, ◌%◌, ◌^◌, ◌<◌, ◌≤◌, Bool, true, false, not, ◌||◌, cond, List, [], ◌∷◌, ◌++◌, length, refl, sym, ◌∙◌, ap, add-one, append_assoc, arith, length-append, pos}
+use Rattle.std.proofs.Common.{◌≡◌, ◌≢◌, ℕ, zero, suc, ◌+◌, ◌*◌, ◌%◌, ◌^◌, ◌<◌, ◌≤◌, Bool, true, false, not, ◌||◌, cond, leb, List, [], ◌∷◌, ◌++◌, length, refl, ◌∙◌, ap, arith, length-append, pos}
 use Rattle.std.specs.List.{list_all, list_any, flat_map}
 use Rattle.std.proofs.lemmas.Bool.{le-leb, and_from}
 use Rattle.std.proofs.lemmas.Grind.{flat_map-append}
@@ -7,9 +7,11 @@ use Rattle.std.proofs.lemmas.List.{append-nil, length-map}
 use Rattle.std.proofs.lemmas.List.Folds.{list_any-append}
 use Rattle.hm_trace.specs.Names.{is_name}
 use Rattle.hm_trace.specs.Stress.{drawn, group, groups, name_at, script, scripts, size_for, stress}
-use Rattle.hm_trace.specs.Traces.{IsTrace, avoids, is_round, is_script, is_set, is_step, is_u64, sets_again, sets_name, step_count}
+use Rattle.hm_trace.specs.Traces.{IsTrace, are_up_to, avoids, is_round, is_script, is_set, is_step, is_u64, sets_again, sets_name, step_count}
 use Rattle.hm_trace.specs.declared.step.Step.{Step}
 use Rattle.hm_trace.specs.Views.{Free, Malloc, Named, Read, ScriptView, Size, Write, step_view, steps_view}
+use Rattle.hm_trace.specs.declared.version.Version.TheVariants.{One}
+use Rattle.hm_trace.proofs.Scripts.{parts_round}
 use Rattle.hm_trace.proofs.Stays.{are_push, last_of, last_push}
 use Rattle.hm_trace.proofs.StressNames.{is_name_at, list_all_both, names_differ}
 
@@ -34,7 +36,7 @@ unfolding groups
 groups_fit number t zero few = refl
 groups_fit number t (suc j) few = list_all_both is_step (groups number t j) (group t j (drawn number t j)) (groups_fit number t j few) (group_fits t j (drawn number t j) few)
 
-pub script_fits : (number t : ℕ) → 1 ≤ t → t ≤ 16 → is_script (script number t) ≡ true
+pub script_fits : (number t : ℕ) → 1 ≤ t → t ≤ 64 → is_script (script number t) ≡ true
 script_fits number t low high = and_from _ _ (and_from _ _ (le-leb _ _ low) (le-leb _ _ high)) (groups_fit number t 2500 (omega arith))
 
 -- ---- how many steps there are
@@ -44,7 +46,7 @@ unfolding groups
 length_groups number t zero = refl
 length_groups number t (suc j) = omega (arith, length-append (groups number t j) (group t j (drawn number t j)), length_groups number t j)
 
-pub script_few : (steps : List Step) (number t : ℕ) → steps_view steps ≡ groups number t 2500 → length steps ≤ 200000
+pub script_few : (steps : List Step) (number t : ℕ) → steps_view steps ≡ groups number t 2500 → length steps ≤ 400000
 script_few steps number t is = omega (arith, length_groups number t 2500, ap length is, length-map steps step_view)
 
 length_scripts : (number n : ℕ) → length (flat_map (λ (s : ScriptView). s.steps) (scripts number n)) ≡ 12500 * n
@@ -53,16 +55,6 @@ length_scripts number zero = refl
 length_scripts number (suc t) =
     ap length (flat_map-append (λ (s : ScriptView). s.steps) (scripts number t) (script number (suc t) ∷ []))
     ∙ omega (arith, length-append (flat_map (λ (s : ScriptView). s.steps) (scripts number t)) (groups number (suc t) 2500 ++ []), length-append (groups number (suc t) 2500) [], length_groups number (suc t) 2500, length_scripts number t)
-
--- ---- the scripts are made one by one
-
--- a script before those of later threads
-pub scripts_with : (number t : ℕ) (later whole : List ScriptView) → scripts number (t + 1) ++ later ≡ whole
-    → scripts number t ++ script number (t + 1) ∷ later ≡ whole
-unfolding scripts
-scripts_with number t later whole is =
-    rw (add-one t)
-    (sym (append_assoc (scripts number t) (script number (suc t) ∷ []) later) ∙ ap (λ (n : ℕ). scripts number n ++ later) (sym (add-one t)) ∙ is)
 
 -- ---- no name is set by two threads
 
@@ -97,12 +89,19 @@ groups_avoid number t (suc j) ss h = list_all_both (λ s. not (sets_again ss s))
 
 -- ---- the round and the trace
 
+up_to : (number n most : ℕ) → n ≤ most → are_up_to most (scripts number n) ≡ true
+unfolding scripts
+up_to number zero most le = refl
+up_to number (suc t) most le =
+    list_all_both (λ s. leb s.thread most) (scripts number t) (script number (suc t) ∷ []) (up_to number t most (omega arith))
+    (and_from _ _ (le-leb _ _ le) refl)
+
 last_thread : (number n : ℕ) → last_of 0 (scripts number n) ≡ n
 unfolding scripts
 last_thread number zero = refl
 last_thread number (suc t) = last_push 0 (scripts number t) (script number (suc t))
 
-pub round_fits : (number n : ℕ) → n ≤ 16 → is_round (scripts number n) ≡ true
+pub round_fits : (number n : ℕ) → n ≤ 64 → is_round (scripts number n) ≡ true
 unfolding scripts
 round_fits number zero few = refl
 round_fits number (suc t) few =
@@ -113,12 +112,13 @@ round_fits number (suc t) few =
       apart = groups_avoid number (suc t) 2500 (scripts number t) (λ i. scripts_differ number t (suc t) i (omega arith) (omega arith));
     })
 
-count_is : (number : ℕ) → step_count (stress number) ≡ 200000
+count_is : (number : ℕ) → step_count (stress number).rounds ≡ 200000
 count_is number = ap length (append-nil (flat_map (λ (s : ScriptView). s.steps) (scripts number 16))) ∙ omega (arith, length_scripts number 16)
 
 pub traces : (number : ℕ) → IsTrace (stress number)
 traces number = record {
-  each = and_from _ _ (round_fits number 16 (omega arith)) refl;
+  each = and_from _ _ (parts_round One (record { notes = []; scripts = scripts number 16 }) (record { scripts = round_fits number 16 (omega arith); threads = up_to number 16 16 (omega arith); notes = refl })) refl;
   rounds_fit = omega arith;
   steps_fit = omega (arith, count_is number);
+  notes_fit = omega arith;
 }

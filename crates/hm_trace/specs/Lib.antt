@@ -4,6 +4,7 @@ pub mod Numbers
 pub mod Limits
 pub mod Traces
 pub mod Spelling
+pub mod VersionOne
 pub mod Stress
 pub mod Lines
 pub mod Before

@@ -1,10 +1,12 @@
 -- What steps, scripts, rounds and traces are.
-use Rattle.std.specs.Prelude.{◌≡◌, ℕ, suc, ◌≤◌, Bool, true, false, not, ◌&&◌, nat_lt, nat_le, List, [], ◌∷◌, ◌++◌, length, Option, Some, None, ℤ, pos, negsuc}
+use Rattle.std.specs.Prelude.{◌≡◌, ℕ, suc, ◌+◌, ◌≤◌, Bool, true, false, not, ◌&&◌, nat_lt, nat_le, List, [], ◌∷◌, ◌++◌, length, map, Option, Some, None, ℤ, pos, negsuc}
 use Rattle.std.specs.List.{list_any, list_all, flat_map}
 use Rattle.std.specs.Option.{option_map_or}
-use Rattle.hm_trace.specs.Limits.{max_threads, max_rounds, max_steps, max_length, max_offset}
+use Rattle.hm_trace.specs.Limits.{max_threads, most_threads, max_rounds, max_steps, max_notes, max_line, max_length, max_offset}
+use Rattle.hm_trace.specs.declared.version.Version.{Version}
+use Rattle.hm_trace.specs.Lines.{words_at, is_text}
 use Rattle.hm_trace.specs.Names.{is_word, is_name}
-use Rattle.hm_trace.specs.Views.{PlaceView, Null, At, Named, StepView, Malloc, Calloc, Aligned, Realloc, Free, Sfree, Write, Read, Size, ScriptView}
+use Rattle.hm_trace.specs.Views.{PlaceView, Null, At, Named, StepView, Malloc, Calloc, Aligned, Realloc, Free, Sfree, Write, Read, Size, ScriptView, RoundView, TraceView}
 
 -- a size, a count, an alignment or an address
 abbrev pub is_u64 : ℕ → Bool
@@ -37,9 +39,9 @@ is_step (Write place len byte) = is_place place && is_length len && nat_le byte 
 is_step (Read place len) = is_place place && is_length len
 is_step (Size place) = is_place place
 
--- the steps of a thread from 1 to 16
+-- the steps of a thread from 1 to 64
 abbrev pub is_script : ScriptView → Bool
-is_script s = nat_le 1 s.thread && nat_le s.thread max_threads && list_all is_step s.steps
+is_script s = nat_le 1 s.thread && nat_le s.thread most_threads && list_all is_step s.steps
 
 -- the name that a step sets
 abbrev pub name_set : StepView → Option (List ℕ)
@@ -75,12 +77,40 @@ are_scripts before last (s ∷ ss) =
 abbrev pub is_round : List ScriptView → Bool
 is_round scripts = are_scripts [] 0 scripts
 
--- how many steps there are in all
-abbrev pub step_count : List (List ScriptView) → ℕ
-step_count rounds = length (flat_map (λ (r : List ScriptView). flat_map (λ s. s.steps) r) rounds)
+-- how many steps the scripts of rounds have in all
+abbrev pub total_steps : List (List ScriptView) → ℕ
+total_steps rounds = length (flat_map (λ (scripts : List ScriptView). flat_map (λ s. s.steps) scripts) rounds)
 
--- the rounds of a trace: at most 1,024, with at most 200,000 steps
-pub record IsTrace (rounds : List (List ScriptView)) : Type 0 where
-  pub each : list_all is_round rounds ≡ true
-  pub rounds_fit : length rounds ≤ max_rounds
-  pub steps_fit : step_count rounds ≤ max_steps
+-- how many steps there are in all
+abbrev pub step_count : List RoundView → ℕ
+step_count rounds = total_steps (map (λ (r : RoundView). r.scripts) rounds)
+
+-- how many notes there are in all
+abbrev pub note_count : List RoundView → ℕ
+note_count rounds = length (flat_map (λ (r : RoundView). r.notes) rounds)
+
+-- no thread of these scripts is above this one
+abbrev pub are_up_to : ℕ → List ScriptView → Bool
+are_up_to most scripts = list_all (λ s. nat_le s.thread most) scripts
+
+-- a visible byte
+abbrev pub is_graphic : ℕ → Bool
+is_graphic c = nat_le 33 c && nat_le c 126
+
+-- words of visible bytes with one space between them, so many that the line `note TEXT` has at most 256 bytes
+abbrev pub is_note : List ℕ → Bool
+is_note text = is_text (words_at text) && list_all (λ w. list_all is_graphic w) (words_at text)
+    && nat_le (5 + length text) max_line
+
+-- a round of a trace of this version
+abbrev pub is_round_of : Version → RoundView → Bool
+is_round_of version round = is_round round.scripts && are_up_to (max_threads version) round.scripts
+    && list_all is_note round.notes
+
+-- a trace has at most 1,024 rounds; in version 1 threads up to 16, at most 200,000 steps and no notes, and in
+-- version 2 threads up to 64, at most 400,000 steps and at most 1,024 notes
+pub record IsTrace (trace : TraceView) : Type 0 where
+  pub each : list_all (is_round_of trace.version) trace.rounds ≡ true
+  pub rounds_fit : length trace.rounds ≤ max_rounds
+  pub steps_fit : step_count trace.rounds ≤ max_steps trace.version
+  pub notes_fit : note_count trace.rounds ≤ max_notes trace.version

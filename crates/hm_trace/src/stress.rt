@@ -1,17 +1,19 @@
 //! The stress trace of a number: one round in which each thread makes groups of five steps, whose sizes follow
 //! from the number.
-ghost use Rattle.std.specs.Prelude.{◌≡◌, ◌+◌, ◌≤◌, ◌<◌, ◌%◌, [], ◌++◌, length, slice_get, EachIndex, IfOk, OnOk, Some};
+ghost use Rattle.std.specs.Prelude.{◌≡◌, ◌<◌, ◌++◌, length, slice_get, EachIndex, IfOk, OnOk, Some};
 ghost use Rattle.std.specs.Option.{option_map};
-ghost use Rattle.hm_trace.specs.Stress.{first, next, size_for, name_at, group, groups, scripts, stress};
+ghost use Rattle.hm_trace.specs.Stress.{first, next, size_for, name_at, group, groups, stress};
 ghost use Rattle.hm_trace.specs.Views.{name_view, steps_view};
 
-use crate::limits::MAX_THREADS;
 use crate::names::Name;
 use crate::step::{Place, Step, push_step};
 use crate::trace::{Round, Script, Trace};
+use crate::version::Version;
 use hm_outside::NoMemory;
 use std::alloc::{AllocError, Global};
-use std::thread::{Threads, join};
+
+/// How many threads there are.
+const THREADS: u32 = 16;
 
 /// How many groups each thread makes.
 const GROUPS: u64 = 2500;
@@ -28,80 +30,33 @@ const MULTIPLIER: u64 = 6_364_136_223_846_793_005;
 /// What is then added, as in the same generator.
 const INCREMENT: u64 = 1_442_695_040_888_963_407;
 
-/// The stress trace of a number. Each thread that is started for it makes two of its scripts.
-pub fn stress_trace<R: Threads>(rt: &R, alloc: Global, number: u64) -> Result<Trace, NoMemory>
+/// The stress trace of a number.
+#[tactic(auto, unfolding(crate::specs::Stress::scripts))]
+pub fn stress_trace(alloc: Global, number: u64) -> Result<Trace, NoMemory>
     ensures exact { IfOk result (λ trace. trace ≡ stress number) }
 {
-    let scripts = scripts_of(rt, alloc, number)?;
-    let mut rounds = Vec::new(alloc);
-    rounds.push(Round::of(scripts))?;
-    Ok(Trace::of(rounds))
-}
-
-/// All scripts.
-#[tactic(auto, unfolding(crate::specs::Stress::scripts))]
-fn scripts_of<R: Threads>(rt: &R, alloc: Global, number: u64) -> Result<Vec<Script>, AllocError>
-    ensures { IfOk result (λ list. list.items ≡ scripts number 16) }
-{
-    scripts_from(rt, alloc, number, 0)
-}
-
-/// The scripts of the threads after `from`. A thread makes two of them, one after the other, and this one takes the
-/// memory for them and then does nothing but wait: a thread that starts another and then works may keep it waiting for
-/// its processor, and threads that take memory at the same time hold each other up.
-#[cycle(scripts)]
-fn scripts_from<R: Threads>(
-    rt: &R,
-    alloc: Global,
-    number: u64,
-    from: u32,
-) -> Result<Vec<Script>, AllocError>
-    requires within { from ≤ 16 }
-    requires even { from % 2 ≡ 0 }
-    ensures { IfOk result (λ list. scripts number from ++ list.items ≡ scripts number 16) }
-{
-    if from == MAX_THREADS {
-        return Ok(Vec::new(alloc));
-    }
-    let (low, high) = (from + 1, from + 2);
-    let low_names = names_of(alloc, low)?;
-    let high_names = names_of(alloc, high)?;
-    let low_room = Vec::with_capacity(alloc, STEPS)?;
-    let high_room = Vec::with_capacity(alloc, STEPS)?;
-    let two = || {
-        let low_steps = steps_in(low_room, number, low, &low_names);
-        (low_steps, steps_in(high_room, number, high, &high_names))
-    };
-    let others = || -> Result<Vec<Script>, AllocError>
-        requires { (from < 16) × (from % 2 ≡ 0) }
-        ensures { IfOk result (λ list. scripts number (from + 2) ++ list.items ≡ scripts number 16) }
-    { scripts_from(rt, alloc, number, from + 2) };
-    let ((low_steps, high_steps), rest) = join(rt, two, others);
     let mut scripts = Vec::new(alloc);
-    scripts.push(Script::of(low, low_steps?))?;
-    scripts.push(Script::of(high, high_steps?))?;
-    scripts.append(&mut rest?)?;
-    Ok(scripts)
+    for i in 0..THREADS {
+        let thread = i + 1;
+        let steps = steps_of(alloc, number, thread)?;
+        scripts.push(Script::of(thread, steps))?;
+    }
+    let mut rounds = Vec::new(alloc);
+    rounds.push(Round::of(Vec::new(alloc), scripts))?;
+    Ok(Trace::of(Version::One, rounds))
 }
 
-/// The steps of a thread, in the memory that is there for them.
+/// The steps of a thread.
 #[tactic(auto, unfolding(crate::specs::Stress::state, crate::specs::Stress::groups))]
-fn steps_in(
-    mut steps: Vec<Step>,
-    number: u64,
-    thread: u32,
-    names: &[Name],
-) -> Result<Vec<Step>, AllocError>
-    requires empty { steps.items ≡ [] }
-    requires count { length names.now ≡ 50 }
-    requires each { EachIndex names.now
-        (λ i. option_map name_view (slice_get names.now i) ≡ Some (name_at thread i)) }
+fn steps_of(alloc: Global, number: u64, thread: u32) -> Result<Vec<Step>, AllocError>
     ensures { IfOk result (λ list. steps_view list.items ≡ groups number thread 2500) }
 {
+    let names = names_of(alloc, thread)?;
+    let mut steps = Vec::with_capacity(alloc, STEPS)?;
     let mut x = first(number, thread);
     for j in 0..GROUPS {
         x = next(x);
-        push_group(&mut steps, names, thread, j, x >> 33)?;
+        push_group(&mut steps, &names, thread, j, x >> 33)?;
     }
     Ok(steps)
 }

@@ -8,7 +8,7 @@ use std::process::Abort;
 use std::test::Fail;
 
 /// Texts, each with its first fault.
-const FAULTS: [(&str, u64, FaultKind); 33] = [
+const FAULTS: [(&str, u64, FaultKind); 53] = [
     ("", 1, FaultKind::NoEnd),
     ("hmtrace 1", 1, FaultKind::NoEnd),
     ("hmtrace 1\n", 2, FaultKind::NoEnd),
@@ -23,7 +23,10 @@ const FAULTS: [(&str, u64, FaultKind); 33] = [
     ("hmtrace 1\n\u{7f}\n", 2, FaultKind::NotAscii),
     ("hmtrace 1\nround\tx\n", 2, FaultKind::NotAscii),
     ("\n", 1, FaultKind::BadHeader),
-    ("hmtrace 2\n", 1, FaultKind::BadHeader),
+    ("hmtrace 3\n", 1, FaultKind::BadHeader),
+    ("hmtrace 2 \n", 1, FaultKind::BadHeader),
+    ("hmtrace 2", 1, FaultKind::NoEnd),
+    ("hmtrace 2\nend\nx", 3, FaultKind::AfterEnd),
     ("hmtrace 1 \n", 1, FaultKind::BadHeader),
     ("hmtrace 1\n\n", 2, FaultKind::BadWord),
     ("hmtrace 1\n round\n", 2, FaultKind::BadWord),
@@ -70,6 +73,39 @@ const FAULTS: [(&str, u64, FaultKind); 33] = [
         6,
         FaultKind::BadNumber,
     ),
+    (
+        "hmtrace 1\nround\nthread 64\n",
+        3,
+        FaultKind::TooManyThreads,
+    ),
+    (
+        "hmtrace 2\nround\nthread 65\n",
+        3,
+        FaultKind::TooManyThreads,
+    ),
+    (
+        "hmtrace 2\nround\nthread 64\nthread 64\n",
+        4,
+        FaultKind::BadNumber,
+    ),
+    ("hmtrace 2\nround\nthread 17\n", 4, FaultKind::NoEnd),
+    ("hmtrace 1\nround\nnote warm up\n", 3, FaultKind::BadWord),
+    ("hmtrace 2\nnote a\n", 2, FaultKind::BadWord),
+    (
+        "hmtrace 2\nround\nthread 1\nnote a\n",
+        4,
+        FaultKind::BadWord,
+    ),
+    ("hmtrace 2\nround\nnote\n", 3, FaultKind::BadWord),
+    ("hmtrace 2\nround\nnote \n", 3, FaultKind::BadWord),
+    ("hmtrace 2\nround\nnote a \n", 3, FaultKind::BadWord),
+    ("hmtrace 2\nround\nnote  a\n", 3, FaultKind::BadWord),
+    ("hmtrace 2\nround\nnote a  b\n", 3, FaultKind::BadWord),
+    ("hmtrace 2\nround\nnotea\n", 3, FaultKind::BadWord),
+    ("hmtrace 2\nround\nnote a\tb\n", 3, FaultKind::NotAscii),
+    ("hmtrace 2\nround\nnote \u{e9}\n", 3, FaultKind::NotAscii),
+    ("hmtrace 2\nround\nnote ~ ! 0\n", 4, FaultKind::NoEnd),
+    ("hmtrace 2\nround\nnote note\nround\n", 5, FaultKind::NoEnd),
 ];
 
 /// Lines in the place of a step, each with its fault.
@@ -140,6 +176,19 @@ thread 16
 round
 thread 1
 malloc x 1
+end
+";
+
+/// A trace of version 2 with notes and with the greatest thread.
+const NOTES: &str = "hmtrace 2
+round
+note warm up
+note ~!0 round thread 1
+thread 64
+malloc x 100
+round
+round
+note end
 end
 ";
 
@@ -223,6 +272,8 @@ fn traces_are_written_as_they_were_read(rt: HostRuntime) -> Result<(), Fail> {
     let alloc = rt.alloc();
     expect_same(&rt, alloc, b"hmtrace 1\nend\n")?;
     expect_same(&rt, alloc, STEPS.as_bytes())?;
+    expect_same(&rt, alloc, b"hmtrace 2\nend\n")?;
+    expect_same(&rt, alloc, NOTES.as_bytes())?;
     let rounds = text(alloc, "hmtrace 1\n", "round\n", 1024, "end\n")?;
     expect_same(&rt, alloc, &rounds)?;
     let steps = text(
@@ -232,7 +283,47 @@ fn traces_are_written_as_they_were_read(rt: HostRuntime) -> Result<(), Fail> {
         200_000,
         "end\n",
     )?;
+    expect_same(&rt, alloc, &steps)?;
+    let notes = text(alloc, "hmtrace 2\nround\n", "note a\n", 1024, "end\n")?;
+    expect_same(&rt, alloc, &notes)?;
+    let long = text(alloc, "hmtrace 2\nround\nnote ", "a", 251, "\nend\n")?;
+    expect_same(&rt, alloc, &long)?;
+    let steps = text(
+        alloc,
+        "hmtrace 2\nround\nthread 1\n",
+        "size x\n",
+        400_000,
+        "end\n",
+    )?;
     expect_same(&rt, alloc, &steps)
+}
+
+#[test]
+fn version_and_notes(rt: HostRuntime) -> Result<(), Fail> {
+    let alloc = rt.alloc();
+    let trace = read_trace(alloc, b"hmtrace 1\nend\n")?;
+    assert_eq!(rt; trace.version(), 1);
+    let trace = read_trace(alloc, NOTES.as_bytes())?;
+    assert_eq!(rt; trace.version(), 2);
+    let round = trace.rounds().first().ok_or("no round")?;
+    assert_eq!(rt; round.notes().len(), 2);
+    let note = round.notes().first().ok_or("no note")?;
+    assert_eq!(rt; note.bytes(), b"warm up".as_slice());
+    Ok(())
+}
+
+#[test]
+fn one_too_many_in_version_two(rt: HostRuntime) -> Result<(), Fail> {
+    let alloc = rt.alloc();
+    let head = "hmtrace 2\nround\nthread 1\n";
+    let steps = text(alloc, head, "size x\n", 400_001, "")?;
+    expect_fault(&rt, alloc, head, &steps, 400_004, FaultKind::TooManySteps);
+    let head = "hmtrace 2\nround\n";
+    let notes = text(alloc, head, "note a\n", 1025, "")?;
+    expect_fault(&rt, alloc, head, &notes, 1027, FaultKind::TooManyNotes);
+    let long = text(alloc, "hmtrace 2\nround\nnote ", "a", 252, "\n")?;
+    expect_fault(&rt, alloc, "a long note", &long, 3, FaultKind::LineTooLong);
+    Ok(())
 }
 
 /// Groups of the stress traces of 0 and of 2^64 - 1: the thread, the group's number, its name, its size, and the
@@ -279,7 +370,7 @@ fn steps_of(scripts: &[Script], thread: u32) -> Option<&[Step]> {
 #[test]
 fn stress_traces(rt: HostRuntime) -> Result<(), Fail> {
     for (number, thread, j, name, size, other) in GROUPS {
-        let trace = stress_trace(&rt, rt.alloc(), number)?;
+        let trace = stress_trace(rt.alloc(), number)?;
         let expected = group(name, size, other).ok_or("no name")?;
         expect_group(&rt, &trace, thread, j, &expected)?;
     }

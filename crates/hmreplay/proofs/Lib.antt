@@ -3,9 +3,10 @@ pub mod Putting
 pub mod Completed
 pub mod TooLong
 pub mod Counting
-pub mod Numerals
+pub mod NoteOrder
+mod Numerals
 pub mod Valid
 pub mod Causes
 pub mod Outcomes
-pub mod Handing
-pub mod Unwrapping
+pub mod Exact
+pub mod FirstFaults

@@ -32,7 +32,15 @@ sink_of meaning = stream_of meaning.held meaning.faults
 abbrev pub HasFailed : Stream → Type 0
 HasFailed stream = Rose stream.faults_before stream.faults_after
 
+-- it met no fault: its count is as before
+abbrev pub IsSound : Stream → Type 0
+IsSound stream = stream.faults_after ≡ stream.faults_before
+
 -- ---- a source
+-- nothing was taken from it, and it met no fault
+abbrev pub IsUntaken : Stream → Type 0
+IsUntaken source = (source.after ≡ source.before) × IsSound source
+
 -- these bytes were taken, and none is left
 abbrev pub IsReadToEnd : Stream → List ℕ → Type 0
 IsReadToEnd source bytes = Taken source.before source.after bytes × IsEmptied source.after
@@ -50,8 +58,9 @@ IsTakenWithin most source = (bytes : List ℕ) × Taken source.before source.aft
 abbrev pub IsFrontPut : Stream → List ℕ → Type 0
 IsFrontPut sink text = (n : ℕ) × (n < length text) × Put sink.before sink.after (take n text)
 
--- the text was put and the status is the one planned; or the status is 5, the sink failed and a front of the text was
--- put
+-- the text was put, with no fault, and the status is the one planned; or the status is 5, the sink failed and a front
+-- of the text was put
 abbrev pub IsWritten : ℕ → ℕ → Stream → List ℕ → Type 0
 IsWritten status planned sink text =
-    ((status ≡ planned) × Put sink.before sink.after text) ⊎ ((status ≡ 5) × HasFailed sink × IsFrontPut sink text)
+    ((status ≡ planned) × IsSound sink × Put sink.before sink.after text)
+    ⊎ ((status ≡ 5) × HasFailed sink × IsFrontPut sink text)

@@ -11,7 +11,7 @@ use Rattle.hmreplay.specs.declared.words.Asked.{Asked}
 use Rattle.hmreplay.specs.declared.words.Command.{Command}
 use Rattle.hmreplay.specs.declared.words.Command.TheVariants.{Run, Stress}
 use Rattle.hmreplay.specs.declared.words.Output.{Output}
-use Rattle.hmreplay.specs.declared.words.Output.TheVariants.{Report, Journal}
+use Rattle.hmreplay.specs.declared.words.Output.TheVariants.{Report, Journal, Stats}
 use Rattle.hmreplay.specs.declared.words.OptionName.{OptionName}
 use Rattle.hmreplay.specs.declared.words.OptionName.TheVariants.{Seed, ClassRegion, LargeSpace}
 use Rattle.hmreplay.specs.declared.words.Options.{Options}
@@ -98,14 +98,20 @@ stress_in [] = None
 stress_in (word ∷ words) =
     option_and_then (λ number. with_options (Stress number) words) (number_in (string_bytes word))
 
--- `run` or `journal`, or `stress` and a number, and then options; other words are not accepted
+-- what is written of a source's trace, as the first word asks
+abbrev pub output_in : List ℕ → Option Output
+output_in word =
+    if is_word word (codes "run") then Some Report
+    else if is_word word (codes "journal") then Some Journal
+    else if is_word word (codes "stats") then Some Stats
+    else None
+
+-- `stress` and a number, or a word that asks for an output, and then options; other words are not accepted
 abbrev pub asked_in : List (String Global) → Option Asked
 asked_in [] = None
-asked_in (command ∷ words) =
-    if is_word (string_bytes command) (codes "run") then with_options (Run Report) words
-    else if is_word (string_bytes command) (codes "journal") then with_options (Run Journal) words
-    else if is_word (string_bytes command) (codes "stress") then stress_in words
-    else None
+asked_in (word ∷ words) =
+    if is_word (string_bytes word) (codes "stress") then stress_in words
+    else option_and_then (λ output. with_options (Run output) words) (output_in (string_bytes word))
 
 -- they ask for the run of a source; or of the trace that a number makes
 abbrev pub AsksRun : List (String Global) → Type 0

@@ -1,17 +1,20 @@
 //! Laws of how runs end, and of the histories that they hand out. Each function does nothing of its own: its
 //! contract is the law.
-ghost use Rattle.std.specs.Prelude.{◌≡◌, ◌<◌, ◌⊎◌, ℕ, List, Some, String, length};
+ghost use Rattle.std.specs.Prelude.{◌≡◌, ◌<◌, ◌≤◌, ◌⊎◌, ℕ, List, None, Some, String, length};
 ghost use Rattle.std.specs.declared.alloc.Global.{Global};
+ghost use Rattle.hm_trace.specs.declared.fault.TraceFault.{TraceFault};
+ghost use Rattle.hm_trace.specs.Faults.{text_fault};
 ghost use Rattle.hm_trace.specs.Spelling.{spelling};
 ghost use Rattle.hm_trace.specs.Traces.{IsTrace};
-ghost use Rattle.hm_trace.specs.Views.{ScriptView};
+ghost use Rattle.hm_trace.specs.Views.{TraceView};
 ghost use Rattle.hm_heap.specs.declared.close.Closed.{Closed};
 ghost use Rattle.hmreplay.specs.declared.run.Run.{Run};
 ghost use Rattle.hmreplay.specs.declared.words.Options.{Options};
-ghost use Rattle.hmreplay.specs.Endings.{Ends};
-ghost use Rattle.hmreplay.specs.Laws.{LiveBlocksApart, RegionsApart, SlotsComeLate, BlocksComeLate, SlotsAreZero, BlocksAreZero, OverwrittenStay, ClassRefusals, LargeRefusals};
-ghost use Rattle.hmreplay.specs.Streams.{Stream, HasFailed, IsTakenPast};
-ghost use Rattle.hmreplay.specs.Words.{AsksRun, AsksStress};
+ghost use Rattle.hmreplay.specs.Endings.{Ends, HasFirstFault};
+ghost use Rattle.hmreplay.specs.Laws.{LiveBlocksApart, RegionsApart, SlotsComeLate, BlocksComeLate, SlotsAreZero, SlotsAreWritten};
+ghost use Rattle.hmreplay.specs.Laws.{BlocksAreZero, OverwrittenStay, ClassRefusals, LargeRefusals};
+ghost use Rattle.hmreplay.specs.Streams.{Stream, HasFailed, IsSound, IsTakenPast};
+ghost use Rattle.hmreplay.specs.Words.{AsksRun, AsksStress, asked_in};
 
 use hm_class_rules::condemned_slots;
 use hm_heap::{apart_blocks, delayed_blocks, zeroed_blocks};
@@ -23,7 +26,7 @@ use hm_trace::{spellings_are_short, spellings_have_no_fault};
 /// not fail.
 pub fn runs_are_complete<P: Pages>()
     ensures source { (words : List (String Global)) (run : Run P) (source sink : Stream)
-        (trace : List (List ScriptView))
+        (trace : TraceView)
         → Ends P.Pages words run source sink → AsksRun words
         → IsTrace trace → source.before ≡ Some (spelling trace) → (HasFailed source → ⊥) → (HasFailed sink → ⊥)
         → (run.status ≡ 0) ⊎ (run.status ≡ 1) ⊎ (run.status ≡ 6) }
@@ -45,6 +48,45 @@ pub fn too_long_is_exact<P: Pages>()
         → Ends P.Pages words run source sink → AsksRun words
         → source.before ≡ Some bytes → 67108864 < length bytes → (HasFailed source → ⊥) → (HasFailed sink → ⊥)
         → (run.status ≡ 7) ⊎ (run.status ≡ 6) }
+{}
+
+/// A run ends with 2 only where the words are not accepted. And where they are not, and the sink does not fail, a run
+/// ends with 2.
+pub fn usage_is_exact<P: Pages>()
+    ensures only { (words : List (String Global)) (run : Run P) (source sink : Stream)
+        → Ends P.Pages words run source sink → run.status ≡ 2 → asked_in words ≡ None }
+    ensures unaccepted { (words : List (String Global)) (run : Run P) (source sink : Stream)
+        → Ends P.Pages words run source sink → asked_in words ≡ None → (HasFailed sink → ⊥) → run.status ≡ 2 }
+{}
+
+/// A run ends with 3 only where the words ask for a source to be run, and its bytes, read to their end, have a first
+/// fault. And where the words ask for a source to be run, it tells and has at most 67,108,864 bytes with a first fault,
+/// and neither it nor the sink fails, a run ends with 3, or for want of memory with 6.
+pub fn no_trace_is_exact<P: Pages>()
+    ensures only { (words : List (String Global)) (run : Run P) (source sink : Stream)
+        → Ends P.Pages words run source sink → run.status ≡ 3 → AsksRun words × HasFirstFault source }
+    ensures faulty { (words : List (String Global)) (run : Run P) (source sink : Stream) (bytes : List ℕ)
+        (fault : TraceFault)
+        → Ends P.Pages words run source sink → AsksRun words
+        → source.before ≡ Some bytes → length bytes ≤ 67108864 → text_fault bytes ≡ Some fault
+        → (HasFailed source → ⊥) → (HasFailed sink → ⊥)
+        → (run.status ≡ 3) ⊎ (run.status ≡ 6) }
+{
+    spellings_have_no_fault();
+}
+
+/// A run ends with 4 only where the source failed: its count of faults rose, or stands at its last value; and with 5 only
+/// where the sink did. Where the count of the sink is not as before, a run ends with 5; where that of the source is not,
+/// with 4, or with 5.
+pub fn faults_show<P: Pages>()
+    ensures source_only { (words : List (String Global)) (run : Run P) (source sink : Stream)
+        → Ends P.Pages words run source sink → run.status ≡ 4 → HasFailed source }
+    ensures source_shows { (words : List (String Global)) (run : Run P) (source sink : Stream)
+        → Ends P.Pages words run source sink → (IsSound source → ⊥) → (run.status ≡ 4) ⊎ (run.status ≡ 5) }
+    ensures sink_only { (words : List (String Global)) (run : Run P) (source sink : Stream)
+        → Ends P.Pages words run source sink → run.status ≡ 5 → HasFailed sink }
+    ensures sink_shows { (words : List (String Global)) (run : Run P) (source sink : Stream)
+        → Ends P.Pages words run source sink → (IsSound sink → ⊥) → run.status ≡ 5 }
 {}
 
 /// After any number of entries of each history, live blocks never overlap, in one region or across regions.
@@ -69,6 +111,7 @@ pub fn freed_blocks_come_late<P: Pages>()
 /// overwritten is never given again.
 pub fn given_blocks_are_zero<P: Pages>()
     ensures slots { (o : Options) (closed : Closed P) (place : ℕ) (p : P) → SlotsAreZero P.Pages o closed place p }
+    ensures written { (o : Options) (closed : Closed P) (place : ℕ) (p : P) → SlotsAreWritten P.Pages o closed place p }
     ensures blocks { (o : Options) (closed : Closed P) (place : ℕ) (p : P) → BlocksAreZero P.Pages o closed place p }
     ensures overwritten { (o : Options) (closed : Closed P) (place : ℕ) (p : P)
         → OverwrittenStay P.Pages o closed place p }

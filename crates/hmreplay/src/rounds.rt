@@ -1,8 +1,10 @@
 //! The rounds of a trace on a heap, which is built for them and closed after them.
-ghost use Rattle.std.specs.Prelude.{◌≡◌, true, IfOk};
+ghost use Rattle.std.specs.Prelude.{◌≡◌, ◌≤◌, ◌<◌, ◌^◌, true, length, map, IfOk};
+ghost use Rattle.std.specs.List.{list_all};
 ghost use Rattle.hm_sizes.specs.Configs.{IsValid};
+ghost use Rattle.hm_stats.specs.Tables.{entry_count};
 ghost use Rattle.hm_report.specs.Findings.{ascends};
-ghost use Rattle.hm_trace.specs.Traces.{IsTrace};
+ghost use Rattle.hm_trace.specs.Traces.{is_round};
 ghost use Rattle.hm_heap.specs.Founds.{Founds};
 ghost use Rattle.hm_heap.specs.Passes.{AreOf, first_pass};
 ghost use Rattle.hm_replay.specs.Replays.{HasReplayed};
@@ -18,6 +20,19 @@ use hm_trace::{Round, Trace};
 use std::alloc::Global;
 use std::sync::Wait;
 use std::thread::Threads;
+
+/// What a trace is run with.
+#[derive(Drop)]
+pub struct Machine<'a, R, M, G> {
+    /// The runtime.
+    pub rt: &'a R,
+    /// Where memory is taken.
+    pub alloc: Global,
+    /// The maker of the pages.
+    pub maker: &'a mut M,
+    /// The gate that region calls pass.
+    pub gate: &'a G,
+}
 
 /// What a trace that was run hands out, and its results.
 #[derive(Drop)]
@@ -40,11 +55,12 @@ fn run_rounds<R: Threads + Wait + Sync, P: Pages, G: Gate>(
     requires of { AreOf heap.now.locks root.old.turns }
     requires first { root.old ≡ first_pass root.old.turns }
     requires founds { Founds heap.now.locks root.old.turns }
-    requires trace { IsTrace rounds.now }
+    requires valid { list_all (λ r. is_round r.scripts) rounds.now ≡ true }
+    requires few { length rounds.now ≤ 1024 }
     ensures of { AreOf heap.now.locks root.new.turns }
     ensures root { (root.new.caller ≡ 0) × (root.new.out ≡ 0) }
     ensures ran { IfOk result (λ results. (last : _)
-        × HasReplayed heap.now.config root.new rounds.now results.items last) }
+        × HasReplayed heap.now.config root.new (map (λ r. r.scripts) rounds.now) results.items last) }
 {
     replayed_rounds();
     small_rounds();
@@ -59,18 +75,22 @@ fn run_rounds<R: Threads + Wait + Sync, P: Pages, G: Gate>(
 
 /// Runs a trace on a new heap.
 pub fn run_trace<R: Threads + Wait + Sync, M: PageMaker, G: Gate>(
-    rt: &R,
-    alloc: Global,
+    machine: Machine<'_, R, M, G>,
     options: &Options,
-    maker: &mut M,
-    gate: &G,
     trace: &Trace,
 ) -> Result<Ran<M::P>, NoMemory>
     requires valid { IsValid (config_of options.now) }
     ensures replayed { IfOk result (λ ran. IsReplayed M.P.Pages options.now ran.closed trace.now ran.results.items) }
     ensures order { IfOk result (λ ran. ascends ran.results.items ≡ true) }
+    ensures few { IfOk result (λ ran. entry_count ran.closed.histories < 2 ^ 63) }
 {
     replayed_rounds();
+    let Machine {
+        rt,
+        alloc,
+        maker,
+        gate,
+    } = machine;
     let (heap, mut root) = Heap::build(alloc, options.config(), options.seed, maker, gate)?;
     let results = run_rounds(rt, alloc, &heap, &mut root, trace.rounds())?;
     let closed = heap.close(alloc, root)?;

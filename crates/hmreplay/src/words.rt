@@ -1,7 +1,7 @@
 //! The words after the program's name: a command and its options.
 ghost use Rattle.std.specs.Prelude.{◌≡◌, IfSome};
 ghost use Rattle.hm_sizes.specs.Configs.{IsValid};
-ghost use Rattle.hmreplay.specs.Words.{are_digits, is_numeral, number_in, is_space, is_value, value_of, names, given, is_given, is_option, are_options, options_in, with_options, stress_in, asked_in, config_of};
+ghost use Rattle.hmreplay.specs.Words.{are_digits, is_numeral, number_in, is_space, is_value, value_of, names, given, is_given, is_option, are_options, options_in, with_options, stress_in, output_in, asked_in, config_of};
 
 use hm_sizes::{Config, LEAST_SPACE, MOST_CLASS_REGION, MOST_LARGE_SPACE, PAGE};
 
@@ -23,6 +23,8 @@ pub enum Output {
     Report,
     /// Every history.
     Journal,
+    /// What the histories come to: all entries, those of each thread, and those of each region.
+    Stats,
 }
 
 /// What is run.
@@ -226,23 +228,30 @@ fn stress_in(words: &[String]) -> Option<Asked>
     }
 }
 
+// What is written of a source's trace, as the first word asks.
+fn output_in(word: &str) -> Option<Output>
+    ensures { result ≡ output_in word.now }
+{
+    match word {
+        "run" => Some(Output::Report),
+        "journal" => Some(Output::Journal),
+        "stats" => Some(Output::Stats),
+        _ => None,
+    }
+}
+
 /// What the words ask for, or None where they are not accepted.
 pub fn read_words(words: &[String]) -> Option<Asked>
     ensures exact { result ≡ asked_in words.now }
     ensures valid { IfSome result (λ asked. IsValid (config_of asked.options)) }
 {
     match words {
-        [command, options @ ..] => {
-            if command.as_bytes() == b"run".as_slice() {
-                let output = Output::Report;
-                with_options(Command::Run { output }, options)
-            } else if command.as_bytes() == b"journal".as_slice() {
-                let output = Output::Journal;
-                with_options(Command::Run { output }, options)
-            } else if command.as_bytes() == b"stress".as_slice() {
+        [word, options @ ..] => {
+            if word.as_bytes() == b"stress".as_slice() {
                 stress_in(options)
             } else {
-                None
+                let output = output_in(word)?;
+                with_options(Command::Run { output }, options)
             }
         }
         _ => None,

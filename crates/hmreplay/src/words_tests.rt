@@ -10,7 +10,7 @@ use std::test::Fail;
 use std::thread::Threads;
 
 /// Words, and the status that the run of an empty trace ends with: 0 where they are accepted, else 2.
-const WORDS: [(&str, u8); 31] = [
+const WORDS: [(&str, u8); 33] = [
     ("run --seed 7", 0),
     ("run --seed 0007 --large-space 1048576", 0),
     (
@@ -37,6 +37,8 @@ const WORDS: [(&str, u8); 31] = [
     ("run --seed 7 stress 7", 2),
     ("journal --seed 7", 0),
     ("journal 7", 2),
+    ("stats --seed 7 --large-space 1048576", 0),
+    ("stats 7", 2),
     ("stress", 2),
     ("stress --seed 7", 2),
     ("stress x", 2),

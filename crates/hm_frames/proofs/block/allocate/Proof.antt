@@ -1,24 +1,23 @@
 -- `allocate` asks the allocator for bytes: nothing is written, and all of the block is room. Assumes `Logic`.
-use Rattle.std.proofs.Common.{◌≡◌, ℕ, ◌+◌, ◌*◌, ◌<◌, ◌^◌, List, [], ◌∷◌, ◌++◌, length, refl, ◌∙◌, arith, lit<, w64, Some, None}
-use base.Fraction.{full_share}
+use Rattle.std.proofs.Common.{◌≡◌, ℕ, ◌*◌, ◌<◌, ◌^◌, List, [], ◌∷◌, ◌++◌, length, refl, ◌∙◌, arith, lit<, w64, replicate, Option, Some, None}
 use mir.Syntax.{Ty, Fn, Args, a_type, dcons, dnil}
 use mir.Val.{Val, vint, vptr, vcons, vnil}
 use mir.MapTy.{inst_fn}
 use base.Logic.{SProp, emp, id⊢}
-use base.Fml.{Lft, Share, ftrue, froom, flft}
+use base.Fml.{Lft, Share, ftrue, flft}
+use Rattle.std.proofs.lemmas.List.{length-replicate}
 use prog.Capped.{capped_is}
 use prog.Wp.{Env, WpFn}
 use contract.BorrowLft.{◌⊑◌, ⊑_trans}
 use contract.Monad.{fact, fact_i}
 use contract.Running.{tables}
-use types.Kit.{‵, raw, ◌⊛◌, later, prop, at_ret, ◌$◌, ◌∵◌, !, qed, by, move, drop, use0, use1, use2, use3, split, join, regoal, rewrite, fsplit, fjoin, flt_i, await}
+use types.Kit.{‵, raw, ◌⊛◌, later, prop, at_ret, ◌$◌, ◌∵◌, !, qed, by, move, drop, use0, use1, use2, use3, split, join, regoal, fsplit, fjoin, flt_i, await}
 use types.Part.{whole, agg}
 use types.Match.{live, vrt, in_variant}
 use types.Run.{stop, fld, lit, of_opd, no_more, and_then, first, switches_on, exec, returns, enter}
 use types.ByLocal.{alloc_all, pass_all, free_all, look_at, get, get_in, get_tag, sets, sets_last, lands_as, env}
 use denote.RattleType.{RattleType, owns}
 use denote.RawPtr.{Ptr, block_ptr}
-use denote.RawPtr.Bytes.{bytes}
 use denote.Param.{param, bounded}
 use denote.Signature.{types_at, type_at}
 use denote.Steps.{nothing, heard}
@@ -33,8 +32,8 @@ use Rattle.core.proofs.option.Made.{Some-of, none_of}
 use Rattle.std.proofs.raw_atomic.Walks.{proved_at, leaves}
 use Rattle.circular_buffer.proofs.Memory.{three_val, three_of}
 use Rattle.linked_list_allocator.proofs.Walks.{slot_at, then_runs}
-use Rattle.hm_frames.proofs.Memory.{start_val, start_own, start_made, contents_val, contents_own_val, contents_made, lease_val, lease_own, lease_made}
-use Rattle.hm_frames.specs.Ownership.{bytes_type}
+use Rattle.hm_frames.proofs.Memory.{start_val, start_own, start_made, contents_val, contents_own_val, contents_made, lease_val, lease_own, lease_made, of_room}
+use Rattle.hm_frames.specs.Ownership.{bytes_type, row_own}
 use Rattle.hm_frames.specs.contracts.block.Start as start
 use Rattle.hm_frames.specs.contracts.block.Contents as contents
 use Rattle.hm_frames.specs.contracts.block.Lease as lease
@@ -93,17 +92,16 @@ allocate_spec 𝓤 𝓛 𝓜 𝓡 wired A L g d dd met md =
     returns ! (look_at ! 0 refl) $ free_all ! refl $
     let p : Ptr = block_ptr b o in
     let x : (start.the_row).Denot = record { ptr = p } in
-    let k : (contents.the_row).Denot = record { at = p; bytes = []; room = n } in
+    let k : (contents.the_row).Denot = record { at = p; places = replicate n None } in
     let t : (lease.the_row Z g).Denot = record { mark = record {}; at = p; len = n; alloc = h } in
     let v : Val = three_val (start_val p) contents_val lease_val in
-    rewrite ! 0 (λ (j : ℕ). ‵ (froom (bytes_type n) b j)) {x = o + length {A = ℕ} []} (omega arith) refl $ nothing ! $
-    use1 𝓛 (‵ (bytes full_share [] b o)) (id⊢ 𝓤 _) $ fjoin ! $ flt_i ! (length {A = ℕ} [] + n) (2 ^ 63) (omega (arith, small)) $ fjoin ! $
+    use1 𝓛 (‵ (row_own b o (replicate n None))) (of_room 𝓛 n b o) $ flt_i ! (length k.places) (2 ^ 63) (omega (arith, small, length-replicate {A = Option ℕ} n None)) $ fjoin ! $
     use0 𝓛 (‵ (contents_own_val (contents_val ∷ []))) (contents_made 𝓛) $ fjoin ! $ move ! (1 ∷ []) $
     use0 𝓛 (‵ (lease_own (lease_val ∷ []))) (lease_made 𝓛) $ fjoin ! $ move ! (1 ∷ 0 ∷ []) $
     use0 𝓛 (‵ (start_own p (start_val p ∷ []))) (start_made 𝓛 p) $
     use3 𝓛 (‵ (Three.own_val (x, k, t) (v ∷ []))) (three_of 𝓛 (start.the_row) (contents.the_row) (lease.the_row Z g) x k t (start_val p) contents_val lease_val) $
     use1 𝓛 (‵ (Out.own_val (Some (x, k, t)) (live 1 (vcons v vnil) ∷ []))) (Some-of 𝓛 Three (x, k, t) v) $
-    use0 𝓛 (raw (fact 𝓤 ((p ≡ p) × (k.bytes ≡ []) × (n ≡ n) × (p ≡ p) × (n ≡ n) × (h ≡ h)))) (fact_i 𝓤 ((p ≡ p) × (k.bytes ≡ []) × (n ≡ n) × (p ≡ p) × (n ≡ n) × (h ≡ h)) (emp 𝓤) (refl, refl, refl, refl, refl, refl)) $
+    use0 𝓛 (raw (fact 𝓤 ((p ≡ p) × (k.places ≡ replicate n None) × (p ≡ p) × (n ≡ n) × (h ≡ h)))) (fact_i 𝓤 ((p ≡ p) × (k.places ≡ replicate n None) × (p ≡ p) × (n ≡ n) × (h ≡ h)) (emp 𝓤) (refl, refl, refl, refl, refl)) $
     nothing ! $ nothing ! $ fjoin ! $ nothing ! $ fjoin ! $ move ! (3 ∷ 0 ∷ 2 ∷ 1 ∷ []) $
     by ! (leaves 𝓛 En₀ stays c z (live 1 (vcons v vnil)) (Some (x, k, t)) (tt, (tt, tt)) (tt, (tt, tt))))
     (λ e. join ! $ lands_as ! (e) refl (tt, (record { fits = lit< tt }, (tt, tt))) $

@@ -1,7 +1,7 @@
-use Rattle.std.proofs.Common.{ℕ, List, Option, unwrap_or, sym, ap, subst}
+use Rattle.std.proofs.Common.{ℕ, List, ◌++◌, Option, unwrap_or, sym, ap, ◌∙◌, subst}
 use Rattle.std.proofs.lemmas.Bool.{false≢true}
 use Rattle.hm_outside.specs.PageRuns.{Reads}
-use Rattle.hm_large.proofs.Reached.{reads_blocks, held_by_none, in_none_held}
+use Rattle.hm_large.proofs.Reached.{reads_blocks, held_by_none}
 use Rattle.hm_large.proofs.access.read.Goals as goal
 
 -- an address of the range lies in no live block
@@ -12,20 +12,24 @@ pub returns-in-Some-clause-value : goal.returns-in-Some-clause-value
 returns-in-Some-clause-value g c = λ config n s sound guarded shows tells holds. sym (c.in-Some.ensures.value config n s sound guarded shows)
 
 -- the pages lend the live range
-pub returns-in_ok-of-in-Some-bytes-clause-trap : goal.returns-in_ok-of-in-Some-bytes-clause-trap
-returns-in_ok-of-in-Some-bytes-clause-trap g c = λ config n s sound guarded shows. sym (c.in-None.ensures.value config n s sound guarded shows)
+pub returns-then-branch-clause-trap : goal.returns-then-branch-clause-trap
+returns-then-branch-clause-trap g c = λ config n s sound guarded shows. sym (c.in-None.ensures.value config n s sound guarded shows)
 
-pub returns-in_ok-of-in-Some-bytes-clause-value : goal.returns-in_ok-of-in-Some-bytes-clause-value
-returns-in_ok-of-in-Some-bytes-clause-value g c =
+pub returns-then-branch-clause-value : goal.returns-then-branch-clause-value
+returns-then-branch-clause-value g c =
     λ config n s sound guarded shows tells holds. let runs = g.P.Pages.runs c.args.pages.now in
+    let held = c.in_ok-append_range-in-None.ensures.held tells c.requires.some c.if-branch.true in
+    let got = c.in_ok-append_range-in-None.ensures.value tells held in
+    let bytes = c.in_ok-of-in-None.ensures.bytes ∙ c.deref.ensures.value ∙ got.3 ∙ ap (λ (l : List ℕ). l ++ got.1) c.new-bytes.ensures.items in
     reads_blocks config s runs c.args.addr c.args.len _ sound holds
-    (subst (λ (w : List ℕ). Reads runs c.args.addr c.args.len w) (sym c.in_ok-of-in-Some-bytes.ensures.bytes) (c.in-Some-bytes.ensures.value tells))
+    (subst (λ (w : List ℕ). Reads runs c.args.addr c.args.len w) (sym bytes) got.2)
 
 -- they do not, so they do not tell
-pub returns-in-None-bytes-clause-trap : goal.returns-in-None-bytes-clause-trap
-returns-in-None-bytes-clause-trap g c = λ config n s sound guarded shows. ap (λ (o : Option ℕ). unwrap_or o c.args.addr) (c.in-None.ensures.value config n s sound guarded shows)
+pub returns-clause-trap : goal.returns-clause-trap
+returns-clause-trap g c = λ config n s sound guarded shows. ap (λ (o : Option ℕ). unwrap_or o c.args.addr) (c.in-None.ensures.value config n s sound guarded shows)
 
-pub returns-in-None-bytes-clause-value : goal.returns-in-None-bytes-clause-value
-returns-in-None-bytes-clause-value g c =
+pub returns-clause-value : goal.returns-clause-value
+returns-clause-value g c =
     λ config n s sound guarded shows tells holds. let runs = g.P.Pages.runs c.args.pages.now in
-    absurd (false≢true (c.in-None.ensures.held config n s sound shows (held_by_none config s runs c.args.addr c.args.len sound holds c.requires.some (in_none_held runs c.args.addr c.args.len (c.in-None-bytes.ensures.value tells)))))
+    absurd (false≢true (c.in-None.ensures.held config n s sound shows (held_by_none config s runs c.args.addr c.args.len sound holds c.requires.some
+    (λ held. false≢true (sym c.if-branch.false ∙ (c.in_ok-append_range-in-None.ensures.value tells held).0)))))

@@ -1,5 +1,6 @@
 use Rattle.hm_replay.proofs.Replaying.{goes_on, new_replays, replays_close}
 use Rattle.hm_replay.proofs.Entries.{all_of_trace}
+use Rattle.hm_replay.proofs.Counting.{few_entries}
 use Rattle.hm_replay.proofs.Ascending.{results_ascend}
 use Rattle.hm_replay.proofs.laws.replayed_rounds.Goals as goal
 
@@ -17,3 +18,6 @@ returns-clause-order c = results_ascend
 
 pub returns-clause-entries : goal.returns-clause-entries
 returns-clause-entries c = all_of_trace
+
+pub returns-clause-few : goal.returns-clause-few
+returns-clause-few c = few_entries

@@ -11,11 +11,14 @@ invariant_of-pass g c =
     pass_set p.caller p.thread p.splits p.out p.turns.items c.args.place c.index_mut.result.now c.enter_at.new.turn c.pass.invariant (grind arith) c.index_mut.ensures.value
     (called_stays c.index_mut.result.now c.enter_at.new.turn _ _ _ c.enter_at.ensures.lock c.enter_at.ensures.called)
 
-pub returns-clause-of : goal.returns-clause-of
-returns-clause-of g c =
-    of_set c.args.self.now.locks c.pass.inside.turns.items c.args.place c.index_mut.result.now c.enter_at.new.turn
-    (subst (λ z. AreOf c.args.self.now.locks z) (grind arith) c.requires.of) c.requires.place c.index_mut.ensures.value
-    (called_stays c.index_mut.result.now c.enter_at.new.turn _ _ _ c.enter_at.ensures.lock c.enter_at.ensures.called)
+pub returns-clause-goes_on : goal.returns-clause-goes_on
+returns-clause-goes_on g c = record {
+  same = grind arith;
+  of =
+      of_set c.args.self.now.locks c.pass.inside.turns.items c.args.place c.index_mut.result.now c.enter_at.new.turn
+      (subst (λ z. AreOf c.args.self.now.locks z) (grind arith) c.requires.of) c.requires.place c.index_mut.ensures.value
+      (called_stays c.index_mut.result.now c.enter_at.new.turn _ _ _ c.enter_at.ensures.lock c.enter_at.ensures.called);
+}
 
 pub returns-clause-reach : goal.returns-clause-reach
 returns-clause-reach g c =

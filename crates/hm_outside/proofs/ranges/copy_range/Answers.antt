@@ -1,0 +1,22 @@
+use Rattle.std.proofs.Common.{◌≡◌, ℕ, ◌+◌, ◌-◌, ◌≤◌, List, ◌++◌, length, take, drop, ap, ◌∙◌, arith}
+use Rattle.std.proofs.lemmas.List.{length-take, length-drop}
+use Rattle.std.proofs.lemmas.Slice.{take-put_mid}
+use borrow.Rule.Slice.PartMut.{same_len_mid}
+use Rattle.hm_outside.proofs.Pieces.{front_on}
+use Rattle.hm_outside.proofs.ranges.copy_range.Goals as goal
+
+pub loop-done-preserved : goal.loop-done-preserved
+loop-done-preserved g c =
+    let piece = c.in-Some.piece.now in let into = c.loop-done.into in let done = c.loop-done.done in
+    let new = c.copy_from_slice.new.self in
+    let k = done + length piece - done in
+    let long : length new ≡ length piece = ap (λ (l : List ℕ). length l) c.copy_from_slice.ensures.after in
+    let inside : done ≤ length into = omega (arith, c.loop-done.invariant.count, c.loop-done.invariant.within) in record {
+      within = c.in-Some.ensures.most;
+      count = same_len_mid done k into new (omega (arith, long, c.in-Some.ensures.most, c.loop-done.invariant.count, length-take k (drop done into), length-drop done into)) ∙ c.loop-done.invariant.count;
+      read = λ told q b has lies.
+          take-put_mid done k into new (done + length piece) (omega (arith, long)) inside
+          ∙ ap (λ (l : List ℕ). take done into ++ l) c.copy_from_slice.ensures.after
+          ∙ ap (λ (l : List ℕ). l ++ piece) (c.loop-done.invariant.read told q b has lies)
+          ∙ front_on b (c.args.addr - q) done piece ((c.in-Some.ensures.value told).1 q b has lies);
+    }

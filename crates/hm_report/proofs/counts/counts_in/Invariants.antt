@@ -1,8 +1,0 @@
-use Rattle.std.proofs.Common.{◌≡◌, count_by, take}
-use Rattle.hm_report.specs.declared.counts.Kind.{Kind}
-use Rattle.hm_report.specs.Summary.{is_of}
-use Rattle.hm_report.specs.Counts.{count_of}
-use Rattle.hm_report.proofs.counts.counts_in.Given as goal
-
-abbrev pub invariant-loop-step : goal.invariant-loop-step
-invariant-loop-step l = (kind : Kind) → count_of l.counts kind ≡ count_by (λ step. is_of kind step) (take l.step-index l.steps)
