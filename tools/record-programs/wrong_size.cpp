@@ -1,0 +1,11 @@
+// Deletes a block of 100 bytes as one of 200, and then one with its own size.
+#include <new>
+
+int main()
+{
+    void *block = ::operator new(100);
+    ::operator delete(block, std::size_t(200));
+    void *other = ::operator new(100);
+    ::operator delete(other, std::size_t(100));
+    return 0;
+}

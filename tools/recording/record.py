@@ -1,0 +1,215 @@
+"""usage: tools/record [--touch] -o FILE -- PROGRAM ARGS..
+
+Runs a program, notes each call of malloc, calloc, realloc, reallocarray, aligned_alloc, posix_memalign, memalign,
+valloc, pvalloc, malloc_usable_size, free and sized deletion (C++) of every thread, and writes them to FILE as a trace
+for `./hmreplay run`. A child that the program forks, and a program that is run by exec, have a trace each: FILE.2,
+FILE.3 and so on, in the order of their first calls. A program that is killed or aborts loses nothing that was noted.
+It waits until all these processes have ended; an interrupt (Ctrl-C) ends the waiting, and what was noted is written.
+
+  -o FILE   the trace
+  --touch   each block that is given is written whole, for the memory that the program would need at the most
+
+In a trace threads are numbered in the order of their first calls; from the 17th on, one takes the number of a thread
+that makes no more call, if there is one. A new round begins where a thread names a block that another one named in the
+same round. The text is of version 1 where 16 threads and 200,000 steps are enough, else of version 2. Where 64 threads,
+400,000 steps or 1,024 rounds are not enough it ends there, and this is told.
+
+Stray writes become steps where they can be seen. Each block has a tail of 64 bytes, which is filled, and compared when
+the block is freed or resized or the program ends. A freed block is filled and kept while 4,096 more are freed (less
+where they come to more than 64 MiB; one above 1 MiB is not kept), and compared when it leaves or the program ends. What
+was changed is a step `write`, before the free or right behind it. A free of a block that was freed, of a place in a
+block or of another address is a step and is not carried out, so the program goes on; an address that was never given
+is written as it is (`@HEX`), or as its low 40 bits where it would lie in a region of the replay.
+
+What it does not see: reads; writes in front of a block, to live blocks, more than 64 bytes behind one, or of the very
+bytes of the filling (a5 behind a block, db in a freed one); who wrote, and when; more than 64 runs of changed bytes of
+one block; a write to a freed block that is given back already, and a second free of one whose address was given again.
+Where a signal or exec ends the program, blocks that were live or kept are not compared. Calls that failed for want of
+memory are left out. Programs that are static, that run with other rights (setuid), or that have a malloc of their own
+are not noted; memory by mmap or sbrk is not, nor is what a program does with pieces of a block itself.
+
+The status is 0 where a trace was written, 1 where there is none, 2 where the words are wrong or a C compiler is
+missing. How the program ended is told.
+"""
+
+import ctypes
+import os
+import shutil
+import signal
+import subprocess
+import sys
+import tempfile
+
+from notes import read_folder
+from trace import Maker
+
+HERE = os.path.dirname(os.path.abspath(__file__))
+SOURCE = os.path.join(HERE, 'noting.c')
+PR_SET_CHILD_SUBREAPER = 36
+
+
+class Failed(Exception):
+    """The tool ends with a line and a status."""
+
+    def __init__(self, line, status):
+        super().__init__(line)
+        self.status = status
+
+
+def say(line):
+    """Writes a line for the user."""
+    print('record: ' + line, file=sys.stderr, flush=True)
+
+
+def read_words(words):
+    """The file, whether blocks are touched, and the program's words."""
+    path, touches = None, False
+    while words and words[0] != '--':
+        word = words.pop(0)
+        if word in ('-h', '--help'):
+            print(__doc__, end='')
+            sys.exit(0)
+        if word == '--touch':
+            touches = True
+        elif word == '-o' and words:
+            path = words.pop(0)
+        else:
+            raise Failed('the word %s is not known; see tools/record --help' % word, 2)
+    if not path or len(words) < 2:
+        raise Failed('usage: tools/record [--touch] -o FILE -- PROGRAM ARGS..', 2)
+    return path, touches, words[1:]
+
+
+def compiler():
+    """The C compiler."""
+    for name in (os.environ.get('CC'), 'cc', 'gcc', 'clang'):
+        if name and shutil.which(name):
+            return name
+    raise Failed('no C compiler was found (cc, gcc or clang), which this tool needs', 2)
+
+
+def build_library(folder):
+    """Builds the library that writes to this folder. Programs that run with other rights may write there too."""
+    library = os.path.join(folder, 'noting.so')
+    if any(sign in folder for sign in ' :"\\'):
+        raise Failed('the folder for temporary files may have no space, colon, quote or backslash in its path', 2)
+    words = [compiler(), '-std=gnu11', '-O2', '-shared', '-fPIC', '-pthread', '-DNOTES_FOLDER="%s"' % folder,
+             '-o', library, SOURCE, '-ldl']
+    done = subprocess.run(words, capture_output=True, text=True)
+    if done.returncode:
+        raise Failed('the C compiler failed: %s' % (done.stderr.strip().splitlines() or ['no message'])[0], 2)
+    if os.geteuid() == 0:
+        os.chmod(folder, 0o1733)
+        os.chmod(library, 0o755)
+    return library
+
+
+def run_program(words, library):
+    """Runs the program with the library in front, and answers its status. An interrupt is the program's to take."""
+    before = os.environ.get('LD_PRELOAD')
+    surroundings = dict(os.environ, LD_PRELOAD=library + (':' + before if before else ''))
+    try:
+        program = subprocess.Popen(words, env=surroundings)
+    except OSError as error:
+        raise Failed('%s: %s' % (words[0], error.strerror), 1)
+    signal.signal(signal.SIGINT, signal.SIG_IGN)
+    signal.signal(signal.SIGTERM, lambda number, frame: program.terminate())
+    return program.wait()
+
+
+def adopt_orphans():
+    """Makes this process the parent of what its children leave behind, so that it can wait for that too."""
+    ctypes.CDLL(None).prctl(PR_SET_CHILD_SUBREAPER, 1, 0, 0, 0)
+
+
+def wait_for_others():
+    """Waits until all that the program has left behind has ended, or for an interrupt."""
+    for number in (signal.SIGINT, signal.SIGTERM):
+        signal.signal(number, signal.default_int_handler)
+    try:
+        while os.waitpid(-1, os.WNOHANG)[0]:
+            pass
+        say('waiting for processes that the program has left behind (Ctrl-C ends this)')
+        while True:
+            os.wait()
+    except (ChildProcessError, KeyboardInterrupt):
+        signal.signal(signal.SIGINT, signal.SIG_IGN)
+
+
+def ending(status):
+    """How a program ended, in words."""
+    if status >= 0:
+        return 'status %d' % status
+    try:
+        return 'signal ' + signal.Signals(-status).name
+    except ValueError:
+        return 'signal %d' % -status
+
+
+def count(number, word):
+    """A number with its word."""
+    return '%d %s%s' % (number, word, '' if number == 1 else 's')
+
+
+def tell(path, notes, maker):
+    """Says what stands in a trace, and what does not."""
+    rounds = maker.rounds
+    say('%s: %s, %s, %s, version %d, of %s' % (
+        path, count(rounds.steps, 'step'), count(len(rounds.rounds), 'round'), count(rounds.threads, 'thread'),
+        rounds.version(), notes.command[:100]))
+    if maker.stray_writes:
+        say('%s: stray writes that were seen: %d' % (path, maker.stray_writes))
+    if maker.without_memory:
+        say('%s: calls that failed in the program and are left out: %d' % (path, maker.without_memory))
+    if maker.reason:
+        say('%s: cut, since %s' % (path, maker.reason))
+    if maker.left_out:
+        say('%s: notes that are left out: %d' % (path, maker.left_out))
+
+
+def write_traces(path, folder, touches):
+    """Writes the trace of each process, and answers how many there are."""
+    all_notes = [notes for notes in read_folder(folder) if notes.has_calls()]
+    for number, notes in enumerate(all_notes, 1):
+        to = path if number == 1 else '%s.%d' % (path, number)
+        maker = Maker(notes, touches)
+        maker.make()
+        with open(to, 'w', encoding='ascii') as file:
+            file.write(maker.rounds.text())
+        tell(to, notes, maker)
+    return len(all_notes)
+
+
+def record(words):
+    """Does what the words ask for."""
+    path, touches, program = read_words(words)
+    open(path, 'a').close()
+    folder = tempfile.mkdtemp(prefix='record-')
+    adopt_orphans()
+    try:
+        status = run_program(program, build_library(folder))
+        say('%s ended with %s' % (program[0], ending(status)))
+        wait_for_others()
+        if not write_traces(path, folder, touches):
+            raise Failed('nothing was noted: the program is static, runs with other rights or has its own malloc', 1)
+    finally:
+        shutil.rmtree(folder, ignore_errors=True)
+
+
+def main():
+    """Ends with the status that the help tells."""
+    signal.signal(signal.SIGTERM, signal.default_int_handler)
+    try:
+        record(sys.argv[1:])
+    except KeyboardInterrupt:
+        say('interrupted before the program began')
+        sys.exit(1)
+    except Failed as failed:
+        say(str(failed))
+        sys.exit(failed.status)
+    except OSError as error:
+        say('%s: %s' % (error.filename, error.strerror))
+        sys.exit(1)
+
+
+main()
