@@ -717,22 +717,25 @@ class Heap:
 
 # --- traces and scripts -------------------------------------------------------------------------
 
+Round = namedtuple('Round', 'notes scripts')
 Script = namedtuple('Script', 'thread steps')
 Place = namedtuple('Place', 'name number')
 REFERENCE = re.compile(r'([a-z][a-z0-9_]*)(?:([+-])([0-9]+))?')
 
 
 def read_trace(text):
-    """The rounds of a good trace, each a list of scripts, whose steps are lists of words."""
+    """The rounds of a good trace of either version: notes, and scripts whose steps are lists of words."""
     rounds = []
     for line in text.decode('ascii').splitlines()[1:-1]:
         words = line.split(' ')
         if words[0] == 'round':
-            rounds.append([])
+            rounds.append(Round([], []))
+        elif words[0] == 'note':
+            rounds[-1].notes.append(' '.join(words[1:]))
         elif words[0] == 'thread':
-            rounds[-1].append(Script(int(words[1]), []))
+            rounds[-1].scripts.append(Script(int(words[1]), []))
         else:
-            rounds[-1][-1].steps.append(words)
+            rounds[-1].scripts[-1].steps.append(words)
     return rounds
 
 
@@ -820,9 +823,9 @@ def merged(shared, all_names):
 def run_rounds(heap, rounds):
     """Runs all rounds; gives (round, thread, results) for each script."""
     shared, results, caller = {}, [], 0
-    for number, scripts in enumerate(rounds, 1):
+    for number, one_round in enumerate(rounds, 1):
         all_names = []
-        for script in scripts:
+        for script in one_round.scripts:
             caller += 1
             who, names = Pass(caller, number, script.thread), Names(shared)
             items = [run_step(heap, who, words, names) for words in script.steps]
@@ -877,11 +880,14 @@ def answer_text(base, answer, inside=False):
     return 'half moved %d: %s' % (answer[2], answer_text(base, answer[3], True))
 
 
-def report_text(results):
-    """The report: one line for each step."""
-    return ''.join('%d.%d.%d %s\n' % (number, thread, step, answer_text(item.base, item.answer))
-                   for number, thread, items in results
-                   for step, item in enumerate(items, 1))
+def report_text(rounds, results):
+    """The report: of each round one line for each note, and then one for each step."""
+    lines = [['%d note %s\n' % (number, note) for note in one_round.notes]
+             for number, one_round in enumerate(rounds, 1)]
+    for number, thread, items in results:
+        lines[number - 1] += ['%d.%d.%d %s\n' % (number, thread, step, answer_text(item.base, item.answer))
+                              for step, item in enumerate(items, 1)]
+    return ''.join(''.join(of_round) for of_round in lines)
 
 
 def status_of(results):
@@ -934,6 +940,7 @@ def replay(trace_text, seed, class_region, large_space):
     """What the replayer writes for a good trace: the report, the exit status, the journal."""
     config = standard_config(class_region, large_space)
     heap = Heap(config, seed)
-    results = run_rounds(heap, read_trace(trace_text))
+    rounds = read_trace(trace_text)
+    results = run_rounds(heap, rounds)
     journal = journal_text(config, seed, heap.all_regions())
-    return report_text(results).encode(), status_of(results), journal.encode()
+    return report_text(rounds, results).encode(), status_of(results), journal.encode()

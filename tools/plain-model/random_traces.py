@@ -1,4 +1,4 @@
-"""Random good traces, heavy on hard cases, for the plain model and a program to be compared on.
+"""Random good traces of both versions, heavy on hard cases, for the plain model and a program to be compared on.
 
 Each step is tried on the model as it is made, so that references can aim at addresses that matter
 (canaries, neighbouring slots, guards, freed blocks), and so that the scripts of one round can be
@@ -14,6 +14,8 @@ from model import (
 
 GREATEST_OFFSET = 2 ** 40
 LENGTH_LIMIT = 1048576
+GREATEST_THREAD = {1: 16, 2: 64}
+NOTES_LIMIT, NOTE_LENGTH = 1024, 251
 
 THEMES = {
     # name: (classes asked for, share of large requests, names in use, weights of the kinds of step)
@@ -32,6 +34,7 @@ THEMES = {
 }
 WEIGHTS = {'malloc': 20, 'calloc': 4, 'aligned': 6, 'realloc': 10, 'free': 16, 'sfree': 8,
            'write': 14, 'read': 8, 'size': 6, 'story': 8}
+NOTE_WORDS = ['warm', 'up', 'note', 'end', 'round', 'thread 64', 'free x', '1.1.1 freed', '~', '!#', 'x' * 251]
 ODD_NAMES = ['nullx', 'null_', 'nul', 'a' * 32, 'z9_', 'free', 'round', 'end', 'x0', 'thread']
 
 
@@ -49,7 +52,9 @@ class TraceMaker:
         self.large_space = self.some_large_space()
         self.steps_left = steps or self.rng.choice([20, 60, 150, 400, 400, 900, 1800])
         self.heap = Heap(standard_config(self.class_region, self.large_space), self.seed)
-        self.lines, self.shared, self.caller, self.round = ['hmtrace 1'], {}, 0, 0
+        version = self.rng.choice([1, 2])
+        self.greatest_thread, self.notes_left = GREATEST_THREAD[version], NOTES_LIMIT * (version - 1)
+        self.lines, self.shared, self.caller, self.round = ['hmtrace %d' % version], {}, 0, 0
         self.owned_names, self.allowed, self.waiting = {}, None, []
 
     def some_class_region(self):
@@ -73,10 +78,22 @@ class TraceMaker:
 
     # --- rounds and scripts ---
 
+    def some_thread(self):
+        """A thread of the version."""
+        return self.rng.randrange(1, self.greatest_thread + 1)
+
+    def begin_round(self):
+        """A new round, with its notes where the version has them."""
+        count = min(self.rng.choice([0, 0, 1, 3]), self.notes_left)
+        notes = [' '.join(self.rng.choices(NOTE_WORDS, k=self.rng.randrange(1, 5)))[:NOTE_LENGTH].rstrip()
+                 for _ in range(count)]
+        self.notes_left -= count
+        return ['round'] + ['note ' + note for note in notes]
+
     def make_round(self, steps):
         """One round of one script, or of several that meet in no region; now and then of none."""
         self.round += 1
-        self.lines.append('round')
+        self.lines += self.begin_round()
         self.owned_names = {}
         if self.rng.random() < 0.05:
             return
@@ -92,15 +109,18 @@ class TraceMaker:
         self.shared = merged(self.shared, all_names)
 
     def some_grants(self):
-        """The threads of a round, each with the regions that it may use (None: all)."""
+        """The threads of a round, each with the arenas whose regions it may use (None: all); where there are as many as
+        there may be, most have none."""
         if self.rng.random() < 0.6:
-            return [(self.rng.choice([1, 1, self.rng.randrange(1, 17)]), None)]
+            return [(self.rng.choice([1, 1, self.some_thread()]), None)]
         arenas = self.rng.sample(range(4), self.rng.randrange(2, 5))
-        threads = sorted(arena + 1 + 4 * self.rng.randrange(4) for arena in arenas)
+        threads = sorted(arena + 1 + 4 * self.rng.randrange(self.greatest_thread // 4) for arena in arenas)
         owner = {(thread - 1) % 4: thread for thread in threads}
         for arena in range(4):
             owner.setdefault(arena, self.rng.choice(threads))
         owner[4] = self.rng.choice(threads)
+        if self.rng.random() < 0.2:
+            threads = range(1, self.greatest_thread + 1)
         return [(thread, {arena for arena in owner if owner[arena] == thread})
                 for thread in threads]
 
@@ -439,8 +459,8 @@ class BulkMaker(TraceMaker):
 
     def make(self):
         """The trace."""
-        thread = self.rng.randrange(1, 17)
-        self.lines += ['round', 'thread %d' % thread]
+        thread = self.some_thread()
+        self.lines += self.begin_round() + ['thread %d' % thread]
         order = list(range(self.count))
         if self.rng.random() < 0.3:
             self.rng.shuffle(order)
@@ -466,7 +486,7 @@ class BulkMaker(TraceMaker):
 
     def round_break(self, thread):
         """A new round for the same thread, at times."""
-        return self.rng.choice([[], ['round', 'thread %d' % thread]])
+        return self.begin_round() + ['thread %d' % thread] if self.rng.random() < 0.5 else []
 
 
 class ContestMaker(TraceMaker):
@@ -478,8 +498,9 @@ class ContestMaker(TraceMaker):
                                       131064, 150000, 200000], 3)
         self.known = []
         for self.round in range(1, self.rng.randrange(2, 7)):
-            self.lines.append('round')
-            threads = sorted(self.rng.sample(range(1, 17), self.rng.choice([1, 2, 4, 8, 16])))
+            self.lines += self.begin_round()
+            threads = sorted(self.rng.sample(range(1, self.greatest_thread + 1),
+                                             self.rng.choice([1, 2, 4, 8, self.greatest_thread])))
             new = []
             for thread in threads:
                 self.lines.append('thread %d' % thread)
@@ -517,7 +538,7 @@ class LargeBulkMaker(TraceMaker):
 
     def make(self):
         """The trace."""
-        self.lines += ['round', 'thread %d' % self.rng.randrange(1, 17)]
+        self.lines += self.begin_round() + ['thread %d' % self.some_thread()]
         for k in range(self.count):
             self.lines.append('malloc b%d %d' % (k % 40, self.rng.choice(
                 [131065, 131073, 163840, 163841, self.rng.randrange(131065, 500000)])))
