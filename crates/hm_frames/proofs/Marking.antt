@@ -96,52 +96,6 @@ touches touched places page w marked lt long =
           (cases_eq p page);
     }
 
--- a page of a marked run that is touched stays so where it is written over
-pub stays_marked : (touched : List Bool) (places : List (Option ℕ)) (page : ℕ) (w : List ℕ) → AreMarked touched places → page < length touched → length w ≡ 4096
-    → get_or touched page false ≡ true → AreMarked touched (with_places places (page * 4096) 4096 w)
-stays_marked touched places page w marked lt long on =
-    subst (λ (l : List Bool). AreMarked l (with_places places (page * 4096) 4096 w))
-    (ap (λ (b : Bool). slice_set touched page b) (sym on) ∙ set-get_or touched page false)
-    (touches touched places page w marked lt long)
-
--- zeros beside zeros
-zeros_on : (bytes : List ℕ) (n m : ℕ) → take n bytes ≡ replicate n 0 → take m (drop n bytes) ≡ replicate m 0 → take (n + m) bytes ≡ replicate (n + m) 0
-zeros_on bytes n m front part = take-add n m bytes ∙ ap (λ (l : List ℕ). l ++ take m (drop n bytes)) front ∙ ap (λ (l : List ℕ). replicate n 0 ++ l) part ∙ replicate-append-replicate n m 0
-
-pub next_page : (page : ℕ) → page * 4096 + 4096 ≡ (page + 1) * 4096
-next_page page = omega arith
-
--- one more page of zeros: it was not touched
-pub zeros_past : (touched : List Bool) (places : List (Option ℕ)) (page : ℕ) → AreMarked touched places → page < length touched → get_or touched page false ≡ false
-    → take (page * 4096) (bytes_of places) ≡ replicate (page * 4096) 0 → take ((page + 1) * 4096) (bytes_of places) ≡ replicate ((page + 1) * 4096) 0
-zeros_past touched places page marked lt off before =
-    subst (λ (n : ℕ). take n (bytes_of places) ≡ replicate n 0) (next_page page)
-    (zeros_on (bytes_of places) (page * 4096) 4096 before (untouched_zero touched places page marked lt off))
-
--- one more page of zeros: they were written
-pub zeros_over : (places : List (Option ℕ)) (page size : ℕ) → page * 4096 + size ≤ length places → take (page * 4096) (bytes_of places) ≡ replicate (page * 4096) 0
-    → take (page * 4096 + size) (bytes_of (with_places places (page * 4096) size (replicate size 0))) ≡ replicate (page * 4096 + size) 0
-zeros_over places page size within before =
-    let from = page * 4096 in
-    let all = bytes_of places in
-    let front = take from all in
-    let rest = drop (from + size) all in
-    let zs : List ℕ = replicate size 0 in
-    let bytes = bytes_of (with_places places from size zs) in
-    let is : bytes ≡ front ++ (zs ++ rest) = bytes_with places from size zs in
-    let long : length front ≡ from = omega (arith, within, length-take from all, length-map places byte_of) in
-    let count = length-replicate {A = ℕ} size 0 in
-    zeros_on bytes from size
-    (ap (take from) is ∙ take_at front (zs ++ rest) from long ∙ before)
-    (ap (λ (l : List ℕ). take size (drop from l)) is ∙ ap (take size) (drop_at front (zs ++ rest) from long) ∙ take_at zs rest size count)
-
--- a run that reads as zeros up to its end
-pub all_zero : (touched : List Bool) (places old : List (Option ℕ)) → AreMarked touched places → AreMarked touched old
-    → take (length touched * 4096) (bytes_of places) ≡ replicate (length touched * 4096) 0 → bytes_of places ≡ replicate (length old) 0
-all_zero touched places old marked before read =
-    sym (take_all (length touched * 4096) (bytes_of places) (omega (arith, marked.pages, length-map places byte_of)))
-    ∙ read ∙ ap (λ (n : ℕ). replicate n 0) (omega (arith, before.pages))
-
 -- the items of a vector that was written as a slice
 pub known_items : (n : ℕ) (new old : List Bool) → length new ≡ n → take n (new ++ drop (length new) old) ≡ new
 known_items n new old long = take_at new (drop (length new) old) n long

@@ -1,13 +1,14 @@
 //! A run of whole pages in raw memory, of which only those that were touched take memory.
 ghost use Rattle.std.specs.Prelude.{◌≡◌, ℕ, ◌+◌, ◌*◌, ◌<◌, ◌≤◌, true, false, length, take, drop, get_or, IfOk};
 ghost use Rattle.std.specs.Borrow.{sem};
-ghost use Rattle.hm_outside.specs.PageRuns.{zeros};
+ghost use Rattle.hm_base.specs.Lists.{zeros};
 ghost use Rattle.hm_frames.specs.Places.{bytes_of};
+ghost use Rattle.hm_frames.specs.Part.{with_zeros};
 ghost use Rattle.hm_frames.specs.Marks.{AreMarked};
 ghost use Rattle.hm_frames.specs.RunLends.{LendsPart};
 
 use crate::block::{Contents, Lease, Start, allocate, deallocate};
-use hm_outside::NoMemory;
+use hm_base::NoMemory;
 use std::alloc::Global;
 use std::marker::Model;
 
@@ -79,19 +80,25 @@ fn touch(start: Start, contents: &mut Contents, touched: &mut [bool], first: usi
     }
 }
 
-// Makes all bytes zero. It writes over touched pages alone.
-fn clear(start: Start, contents: &mut Contents, touched: &[bool])
+// Makes bytes of a range zero. It writes over touched pages alone.
+fn zero(start: Start, contents: &mut Contents, touched: &[bool], from: usize, len: usize)
     requires at { start.ptr ≡ contents.old.at }
     requires few { length touched.now ≤ 262144 }
     requires marked { AreMarked touched.now contents.old.places }
+    requires within { from + len ≤ length contents.old.places }
     ensures at { contents.new.at ≡ contents.old.at }
     ensures marked { AreMarked touched.now contents.new.places }
-    ensures zero { bytes_of contents.new.places ≡ zeros (length contents.old.places) }
+    ensures zero { bytes_of contents.new.places ≡ with_zeros (bytes_of contents.old.places) from len }
 {
-    for page in 0..touched.len() {
+    let end = from + len;
+    let mut at = from;
+    while at < end {
+        let page = at / PAGE;
+        let next = end.min((page + 1) * PAGE);
         if touched[page] {
-            contents.zero(start, page * PAGE, PAGE);
+            contents.zero(start, at, next - at);
         }
+        at = next;
     }
 }
 
@@ -186,11 +193,20 @@ impl PageRun {
         self.contents.part_mut(start, from, len)
     }
 
-    /// Makes all its bytes zero.
+    /// Makes some of its bytes zero. No page is touched.
+    pub fn zero(&mut self, from: usize, len: usize)
+        requires { from + len ≤ length self.old }
+        ensures { self.new ≡ with_zeros self.old from len }
+    {
+        let start = self.start;
+        zero(start, &mut self.contents, &self.touched, from, len);
+    }
+
+    /// Makes all its bytes zero. No page is touched.
     pub fn clear(&mut self)
         ensures { self.new ≡ zeros (length self.old) }
     {
-        clear(self.start, &mut self.contents, &self.touched);
+        self.zero(0, self.len);
     }
 }
 

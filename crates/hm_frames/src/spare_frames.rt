@@ -1,10 +1,11 @@
 //! Runs whose pages were dropped, kept to be used again: no more than a few, and none that is long.
 ghost use Rattle.std.specs.Prelude.{◌≡◌, ◌*◌, ◌≤◌, length, All, vec_len, IfOk, IfSome};
-ghost use Rattle.hm_outside.specs.PageRuns.{zeros};
+ghost use Rattle.hm_base.specs.Lists.{zeros};
 ghost use Rattle.hm_frames.specs.declared.spare_frames.TheConstants.{MOST_KEPT, LONGEST_KEPT};
 
 use crate::frame::Frame;
-use hm_outside::{HasRun, NoMemory};
+use hm_base::NoMemory;
+use hm_outside::HasRun;
 use std::alloc::Global;
 
 /// At most so many runs are kept.

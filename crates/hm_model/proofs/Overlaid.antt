@@ -3,7 +3,7 @@ use Rattle.std.proofs.Common.{◌≡◌, ◌⊎◌, inl, inr, ⊎_elim, ℕ, zer
 use Rattle.std.proofs.lemmas.Bool.{cases_lt}
 use Rattle.std.proofs.lemmas.Bool.Decides.{nat_tests}
 use Rattle.std.specs.Prelude.{nat_le}
-use Rattle.hm_outside.specs.PageRuns.{written}
+use Rattle.hm_base.specs.Lists.{written}
 use Rattle.hm_model.specs.Overlaid.{overlaid}
 
 pub overlaid_apart : (a : ℕ) (w : List ℕ) (q : ℕ) (b : List ℕ) → (q + length b ≤ a) ⊎ (a + length w ≤ q) → overlaid a w q b ≡ b

@@ -1,9 +1,9 @@
 //! Bytes as runs of equal ones.
-ghost use Rattle.std.specs.Prelude.{◌≡◌, ◌==◌, ◌^◌, ◌<◌, ◌≤◌, ◌↔◌, length, replicate, IsTrue, IsSome, IfSome, IsOk, IfOk};
+ghost use Rattle.std.specs.Prelude.{◌≡◌, ◌==◌, ◌+◌, ◌++◌, ◌^◌, ◌<◌, ◌≤◌, ◌↔◌, ℕ, [], length, take, replicate, IsTrue, IsSome, IfSome, IsOk, IfOk, OnOk, OnErr};
 ghost use Rattle.std.specs.List.{prefix_len};
 ghost use Rattle.hm_model.specs.Runs.{expand, total, runs_of, same_runs, AreApart, AreRuns};
 
-use hm_outside::NoMemory;
+use hm_base::NoMemory;
 use smallvec::SmallVec;
 use std::alloc::Global;
 use std::marker::Model;
@@ -54,6 +54,33 @@ impl Runs {
             pairs.push((byte, len))?;
         }
         Ok(Runs { pairs })
+    }
+
+    /// No runs. It takes no memory.
+    pub fn new(alloc: Global) -> Runs
+        ensures { result ≡ [] }
+    {
+        Runs {
+            pairs: SmallVec::new(alloc),
+        }
+    }
+
+    /// Appends bytes: the last run goes on where they begin with its byte. Where memory lacks, some of them, at their
+    /// front, are appended.
+    pub fn append(&mut self, bytes: &[u8]) -> Result<(), NoMemory>
+        requires { total self.old + length bytes.now < 2 ^ 64 }
+        ensures appended { OnOk result (expand self.new ≡ expand self.old ++ bytes.now) }
+        ensures count { OnOk result (total self.new ≡ total self.old + length bytes.now) }
+        ensures some { OnErr result ((n : ℕ) × (expand self.new ≡ expand self.old ++ take n bytes.now)) }
+    {
+        let mut start = 0;
+        while start < bytes.len() {
+            let byte = bytes[start];
+            let len = leading(&bytes[start..], byte);
+            append_run(&mut self.pairs, byte, len as u64)?;
+            start += len;
+        }
+        Ok(())
     }
 
     /// The same runs once more.
@@ -117,6 +144,24 @@ fn leading(bytes: &[u8], byte: u8) -> usize
     ensures within { result ≤ length bytes.now }
 {
     bytes.iter().take_while(|b| **b == byte).count()
+}
+
+/// Appends one byte, so many times: the last run goes on where it is of that byte.
+fn append_run(pairs: &mut SmallVec<(u8, u64), 1>, byte: u8, len: u64) -> Result<(), NoMemory>
+    requires runs { AreRuns pairs.old.items }
+    requires some { 1 ≤ len }
+    requires below { total pairs.old.items + len < 2 ^ 64 }
+    ensures runs { AreRuns pairs.new.items }
+    ensures appended { OnOk result (expand pairs.new.items ≡ expand pairs.old.items ++ replicate len byte) }
+    ensures unchanged { OnErr result (pairs.new.items ≡ pairs.old.items) }
+{
+    let count = pairs.len();
+    if count > 0 && pairs[count - 1].0 == byte {
+        pairs[count - 1].1 += len;
+    } else {
+        pairs.push((byte, len))?;
+    }
+    Ok(())
 }
 
 /// Whether no run is empty, and neighbouring bytes are different.
@@ -190,6 +235,18 @@ mod tests {
             assert_eq!(rt; runs.to_vec(rt.alloc())?.as_slice(), bytes);
             assert_eq!(rt; runs.len(), bytes.len() as u64);
         }
+        Ok(())
+    }
+
+    #[test]
+    fn bytes_after_bytes(rt: HostRuntime) -> Result<(), Fail> {
+        let mut runs = Runs::new(rt.alloc());
+        runs.append(b"aab")?;
+        runs.append(b"")?;
+        runs.append(b"bb")?;
+        runs.append(b"ca")?;
+        let pairs = [(b'a', 2), (b'b', 3), (b'c', 1), (b'a', 1)];
+        assert_eq!(rt; runs.pairs(), pairs.as_slice());
         Ok(())
     }
 

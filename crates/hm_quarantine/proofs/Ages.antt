@@ -4,7 +4,7 @@ use Rattle.std.specs.Bool.{⊤}
 use Rattle.std.proofs.lemmas.Bool.Decides.{nat_tests}
 use Rattle.hm_quarantine.specs.Quarantine.{Kept, IsArrayPlace, goes_on, ring_with, goes_out, let_go, kept_with}
 use Rattle.hm_quarantine.specs.LookingBack.{Free, ArePlaces, kept_after}
-use Rattle.hm_outside.specs.Members.{among, without_option}
+use Rattle.hm_base.specs.Members.{among, without_option}
 use Rattle.hm_quarantine.specs.Delay.{slots_of, held, AreNew, IsDelayed, Delays, HoldsFew}
 use Rattle.hm_quarantine.proofs.Rings.{Takes, Room, Full, HasRoom, IsFull, takes}
 use Rattle.hm_quarantine.proofs.Passes.{length_array, length_is, looks_back, on_with}

@@ -3,7 +3,7 @@ use Rattle.std.proofs.Common.{◌≡◌, ℕ, zero, suc, ◌+◌, ◌<◌, ◌�
 use Rattle.std.specs.Prelude.{not}
 use Rattle.std.proofs.lemmas.Bool.{eqb-true, eq-eqb}
 use Rattle.hm_quarantine.specs.Quarantine.{IsArrayPlace, goes_on, ring_with, goes_out}
-use Rattle.hm_outside.specs.Members.{among, without, without_option}
+use Rattle.hm_base.specs.Members.{among, without, without_option}
 use Rattle.hm_quarantine.proofs.Rings.{Takes, Room, Full, HasRoom, IsFull, takes}
 
 abbrev pub one : (ℕ → Bool) → ℕ → ℕ

@@ -1,6 +1,6 @@
 -- How long a freed slot stays in quarantine. `array` and `ring` are the lengths of the two.
 use Rattle.std.specs.Prelude.{◌≡◌, ℕ, ◌+◌, ◌≤◌, min, true, false, List, [], ◌∷◌, map, length, take, IfSome}
-use Rattle.hm_outside.specs.Members.{among, without_option}
+use Rattle.hm_base.specs.Members.{among, without_option}
 use Rattle.hm_quarantine.specs.LookingBack.{Free, released, ArePlaces}
 
 abbrev pub slots_of : List Free → List ℕ

@@ -2,7 +2,7 @@
 //! was ever set, so that an array of which little is used costs little.
 ghost use Rattle.std.specs.Prelude.{◌≡◌, ◌<◌, ◌==◌, length, replicate, slice_index_or, slice_set, None, Some, IfOk};
 
-use hm_outside::NoMemory;
+use hm_base::NoMemory;
 use std::alloc::Global;
 use std::marker::Model;
 

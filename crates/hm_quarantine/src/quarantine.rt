@@ -5,7 +5,7 @@ ghost use Rattle.hm_quarantine.specs.Quarantine.{IsArrayPlace, nothing_kept, let
 
 use crate::array::Array;
 use circular_buffer::HeapCircularBuffer;
-use hm_outside::NoMemory;
+use hm_base::NoMemory;
 use std::alloc::Global;
 use std::marker::Model;
 

@@ -7,11 +7,11 @@ ghost use Rattle.hm_region_table.specs.Table.{blocks_of};
 use crate::closing::take_out;
 use crate::entry::{Block, Entry};
 use crate::probe::{find, place_for};
-use hm_outside::NoMemory;
+use hm_base::NoMemory;
 use std::alloc::Global;
 use std::marker::Model;
 
-/// Contracts see it as a finite map and the number of further entries for which it has room.
+/// Contracts see it as a finite map, the number of further entries for which it has room, and that of all.
 #[derive(Drop)]
 pub struct RegionTable {
     alloc: Global,
@@ -28,7 +28,11 @@ impl Model for RegionTable {
 
     ghost coded = { table_code block.the_row.coded };
 
-    ghost view = { λ t. record { blocks = blocks_of t.cells.items; spare = length t.cells.items / 2 - t.used } };
+    ghost view = { λ t. record {
+      blocks = blocks_of t.cells.items;
+      spare = length t.cells.items / 2 - t.used;
+      places = length t.cells.items / 2;
+    } };
 
     ghost invariant = { λ t. IsTable t.cells.items t.used };
 }
@@ -66,6 +70,7 @@ impl RegionTable {
     pub fn build(alloc: Global) -> Result<RegionTable, NoMemory>
         ensures blocks { IfOk result (λ t. t.blocks ≡ map.empty) }
         ensures spare { IfOk result (λ t. t.spare ≡ 8) }
+        ensures places { IfOk result (λ t. t.places ≡ 8) }
     {
         let cells = empty_cells(alloc, 16)?;
         Ok(RegionTable {
@@ -75,13 +80,16 @@ impl RegionTable {
         })
     }
 
-    /// Makes room for one more entry, by twice as many cells where half of them are in use.
+    /// Makes room for one more entry, by twice as many cells where half of them are in use: so all entries move once
+    /// for as many insertions as there are of them.
     pub fn reserve_one(&mut self) -> Result<(), NoMemory>
         ensures blocks { self.new.blocks ≡ self.old.blocks }
         ensures room { OnOk result (1 ≤ self.new.spare) }
         ensures more { self.old.spare ≤ self.new.spare }
         ensures err { OnErr result (self.new ≡ self.old) }
         ensures enough { 1 ≤ self.old.spare → IsOk result }
+        ensures same { 1 ≤ self.old.spare → self.new ≡ self.old }
+        ensures doubled { self.old.spare ≡ 0 → OnOk result (self.old.places ≤ self.new.spare) }
     {
         let count = self.cells.len();
         if self.used < count / 2 {
@@ -102,6 +110,7 @@ impl RegionTable {
         requires room { 1 ≤ self.old.spare }
         ensures blocks { self.new.blocks ≡ map.insert self.old.blocks addr block }
         ensures spare { self.new.spare + 1 ≡ self.old.spare }
+        ensures places { self.new.places ≡ self.old.places }
     {
         let place = place_for(&self.cells, addr);
         self.cells[place] = Some(Entry { addr, block });
@@ -122,6 +131,7 @@ impl RegionTable {
         ensures value { result ≡ map.get self.old.blocks addr }
         ensures blocks { self.new.blocks ≡ map.remove self.old.blocks addr }
         ensures spare { self.new.spare ≡ (if is_some result then self.old.spare + 1 else self.old.spare) }
+        ensures places { self.new.places ≡ self.old.places }
     {
         let place = find(&self.cells, addr)?;
         let entry = self.cells[place]?;

@@ -1,6 +1,6 @@
 //! The results of the scripts of a replay, step by step.
+use hm_base::List;
 use hm_model::Answer;
-use hm_outside::List;
 
 /// The result of a step. No answer is that of a skipped step. `base` is the address that the step
 /// referred to, else 0.

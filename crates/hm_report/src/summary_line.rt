@@ -5,7 +5,7 @@ ghost use Rattle.hm_report.specs.Summary.{step_count, counts_of, number_text, en
 
 use crate::counts::Counts;
 use crate::{Results, has_finding};
-use hm_outside::NoMemory;
+use hm_base::NoMemory;
 use std::alloc::{AllocError, Global};
 use std::fmt::Write;
 

@@ -2,8 +2,8 @@
 ghost use Rattle.std.specs.Prelude.{◌≡◌, IfOk};
 
 use crate::{Note, Results, RoundNotes, StepResult, has_finding, report, summary};
+use hm_base::List;
 use hm_model::{Answer, Reply, Runs};
-use hm_outside::List;
 use std::alloc::{AllocError, Global};
 use std::test::Fail;
 

@@ -1,6 +1,6 @@
 //! The texts of answers: what a line of a report says behind its number.
 ghost use Rattle.std.specs.Prelude.{◌≡◌, ◌++◌, ◌∷◌, length, OnOk, string_bytes};
-ghost use Rattle.hm_outside.specs.Bytes.{byte_word, run_word};
+ghost use Rattle.hm_base.specs.Bytes.{byte_word, run_word};
 ghost use Rattle.hm_report.specs.Text.{runs_text, first_difference, canary_place, overwritten_text, reply_text, cause_text, answer_text, result_text};
 
 use crate::StepResult;

@@ -4,7 +4,7 @@ use Rattle.std.proofs.lemmas.Nat.{div-add-mod', div-mul-add, div_below, mod_belo
 use Rattle.std.proofs.lemmas.Bool.{and_from, and_parts}
 use borrow.Author.Tests.{tests}
 use Rattle.std.proofs.lemmas.Bool.Decides.{nat_tests}
-use Rattle.hm_outside.specs.declared.region.RegionId.{RegionId}
+use Rattle.hm_base.specs.declared.region.RegionId.{RegionId}
 use Rattle.hm_sizes.specs.declared.config.Config.{Config}
 use Rattle.hm_sizes.specs.declared.class.ClassId.{ClassId}
 use Rattle.hm_sizes.specs.declared.home.Home.{Home}

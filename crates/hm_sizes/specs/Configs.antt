@@ -1,5 +1,5 @@
 -- Configurations.
-use Rattle.std.specs.Prelude.{◌≡◌, ◌^◌, ◌%◌, ◌≤◌, true}
+use Rattle.std.specs.Prelude.{◌≡◌, ◌^◌, ◌%◌, ◌≤◌, true, false}
 use Rattle.hm_sizes.specs.declared.config.Config.{Config}
 
 abbrev pub standard : Config
@@ -15,7 +15,21 @@ standard = record {
   random_slots = true;
 }
 
--- the numbers of a configuration are in range, and reuse is checked and slots are drawn
+-- no quarantine of slots, no look at what a free slot holds, no drawn start, and a guard after eight slabs
+abbrev pub light : Config
+light = record {
+  arenas = 4;
+  class_region = 2 ^ 35;
+  large_space = 2 ^ 40;
+  guard_interval = 8;
+  array_base = 0;
+  ring_base = 0;
+  park_length = 32;
+  check_reuse = false;
+  random_slots = false;
+}
+
+-- the numbers of a configuration are in range; either flag may be set or not
 pub record IsValid (c : Config) : Type 0 where
   pub arenas_some : 1 ≤ c.arenas
   pub arenas_most : c.arenas ≤ 4
@@ -31,5 +45,3 @@ pub record IsValid (c : Config) : Type 0 where
   pub ring_most : c.ring_base ≤ 1
   pub park_some : 1 ≤ c.park_length
   pub park_most : c.park_length ≤ 32
-  pub reuse : c.check_reuse ≡ true
-  pub random : c.random_slots ≡ true

@@ -1,6 +1,6 @@
 -- The region to which an address belongs.
 use Rattle.std.specs.Prelude.{ℕ, ◌+◌, ◌-◌, ◌*◌, ◌/◌, ◌^◌, ◌<◌, ◌≤◌, nat_lt, nat_le, ◌&&◌, if◌then◌else◌}
-use Rattle.hm_outside.specs.declared.region.RegionId.{RegionId}
+use Rattle.hm_base.specs.declared.region.RegionId.{RegionId}
 use Rattle.hm_sizes.specs.declared.config.Config.{Config}
 use Rattle.hm_sizes.specs.declared.home.Home.{Home}
 use Rattle.hm_sizes.specs.declared.home.Home.TheVariants.{Class, Large, Outside}

@@ -1,6 +1,6 @@
 -- Laws of sizes, shapes and places.
 use Rattle.std.specs.Prelude.{◌≡◌, ◌≢◌, ℕ, ◌+◌, ◌*◌, ◌%◌, ◌^◌, ◌<◌, ◌≤◌, ◌↔◌, ◌⊎◌, max}
-use Rattle.hm_outside.specs.declared.region.RegionId.{RegionId}
+use Rattle.hm_base.specs.declared.region.RegionId.{RegionId}
 use Rattle.hm_sizes.specs.declared.config.Config.{Config}
 use Rattle.hm_sizes.specs.declared.class.ClassId.{ClassId}
 use Rattle.hm_sizes.specs.declared.class.Kind.{Kind}

@@ -36,7 +36,7 @@ pub struct Config {
 
 impl Config {
     ghost use Rattle.std.specs.Prelude.{◌≡◌, ◌↔◌, IsTrue};
-    ghost use Rattle.hm_sizes.specs.Configs.{standard, IsValid};
+    ghost use Rattle.hm_sizes.specs.Configs.{standard, light, IsValid};
 
     /// Four arenas, class regions of 32 GiB, a large region of 1 TiB, and every second slab a guard.
     pub fn standard() -> Config
@@ -56,7 +56,23 @@ impl Config {
         }
     }
 
-    /// Whether the numbers are in range, and both flags are set.
+    /// The standard configuration with no quarantine of slots, no look at what a free slot holds, the first
+    /// available slot in place of a drawn one, and a guard after eight slabs.
+    pub fn light() -> Config
+        ensures value { result ≡ light }
+        ensures valid { IsValid result }
+    {
+        Config {
+            guard_interval: 8,
+            array_base: 0,
+            ring_base: 0,
+            check_reuse: false,
+            random_slots: false,
+            ..Config::standard()
+        }
+    }
+
+    /// Whether the numbers are in range.
     pub fn is_valid(&self) -> bool
         ensures { IsTrue result ↔ IsValid self.now }
     {
@@ -70,7 +86,5 @@ impl Config {
             && (1..=8).contains(&self.guard_interval)
             && quarantine
             && (1..=32).contains(&self.park_length)
-            && self.check_reuse
-            && self.random_slots
     }
 }

@@ -1,13 +1,13 @@
 //! The region to which an address belongs: the class region that reserves it, or the large one.
 ghost use Rattle.std.specs.Prelude.{◌≡◌, ◌↔◌};
-ghost use Rattle.hm_outside.specs.declared.region.RegionId.{RegionId};
+ghost use Rattle.hm_base.specs.declared.region.RegionId.{RegionId};
 ghost use Rattle.hm_sizes.specs.Configs.{IsValid};
 ghost use Rattle.hm_sizes.specs.Homes.{home_of, IsInRegion, IsInLargeSpace, IsOutside};
 
 use crate::Config;
 use crate::shape::REGIONS_START;
 use crate::table::CLASSES;
-use hm_outside::RegionId;
+use hm_base::RegionId;
 
 /// Where the large space begins.
 pub const LARGE_START: u64 = 1 << 46;

@@ -3,7 +3,7 @@
 use crate::{
     ClassId, Config, Home, Kind, Shape, class_aligned, class_of, home_of, place_of, shape_of,
 };
-use hm_outside::RegionId;
+use hm_base::RegionId;
 
 /// Slot, slots, slab, length of the quarantine's parts and greatest request, class by class.
 const CLASSES: [(u64, u32, u64, u32, u32); 49] = [
@@ -217,9 +217,34 @@ fn valid_configs(rt: HostRuntime) {
             ring_base: 0,
             ..standard
         },
+        Config {
+            check_reuse: false,
+            ..standard
+        },
+        Config {
+            random_slots: false,
+            ..standard
+        },
+        Config::light(),
     ] {
         assert!(rt; config.is_valid(), "{config:?}");
     }
+}
+
+#[test]
+fn light_config(rt: HostRuntime) {
+    let light = Config {
+        arenas: 4,
+        class_region: 1 << 35,
+        large_space: 1 << 40,
+        guard_interval: 8,
+        array_base: 0,
+        ring_base: 0,
+        park_length: 32,
+        check_reuse: false,
+        random_slots: false,
+    };
+    assert_eq!(rt; Config::light(), light);
 }
 
 #[test]
@@ -289,14 +314,6 @@ fn invalid_settings(rt: HostRuntime) {
         },
         Config {
             park_length: 33,
-            ..standard
-        },
-        Config {
-            check_reuse: false,
-            ..standard
-        },
-        Config {
-            random_slots: false,
             ..standard
         },
     ] {

@@ -7,9 +7,9 @@ use Rattle.hm_slab_lists.specs.declared.slab.Link.{Link}
 use Rattle.hm_slab_lists.specs.declared.slab.ListName.{ListName}
 use Rattle.hm_slab_lists.specs.declared.ends.AllEnds.{AllEnds}
 use Rattle.hm_slab_lists.specs.Links.{Links, front, next_of, walk, Linked, AreChains}
-use Rattle.hm_outside.specs.Members.{among}
+use Rattle.hm_base.specs.Members.{among}
 use Rattle.hm_slab_lists.specs.Lists.{Lists, list_in}
-use Rattle.hm_outside.proofs.Members.{among_head, among_tail, among_cases}
+use Rattle.hm_base.proofs.Members.{among_head, among_tail, among_cases}
 
 abbrev pub At : Links → ℕ → Link → Type 0
 At ls x l = slice_get ls x ≡ Some (Some l)

@@ -5,12 +5,12 @@ use Rattle.std.proofs.lemmas.List.{map-append}
 use Rattle.std.specs.Prelude.{◌==◌, map}
 use Rattle.hm_slab_lists.specs.declared.slab.ListName.{ListName}
 use Rattle.hm_slab_lists.specs.declared.slab.ListName.TheVariants.{Partial, Empty, Full, Retired}
-use Rattle.hm_outside.specs.Members.{among, without}
+use Rattle.hm_base.specs.Members.{among, without}
 use Rattle.hm_slab_lists.specs.Lists.{Lists, list_in, gone, headed, ended, placed}
 use Rattle.hm_sizes.specs.Guards.{after}
 use Rattle.hm_slab_lists.specs.Numbers.{nth_slab}
 use Rattle.hm_slab_lists.specs.Table.{numbered}
-use Rattle.hm_outside.proofs.Members.{among_head, among_tail, among_cases, without_skip, without_keep}
+use Rattle.hm_base.proofs.Members.{among_head, among_tail, among_cases, without_skip, without_keep}
 
 nth_less : (g i j : ℕ) → 1 ≤ g → g ≤ 8 → i < j → nth_slab g i < nth_slab g j
 nth_less g i j some few less = grind arith

@@ -15,7 +15,7 @@ use Rattle.hm_slab_lists.specs.Chained.{Chained, no_slabs, with_lists, with_slab
 use Rattle.hm_slab_lists.specs.ChainsLending.{with_meta_at}
 use Rattle.hm_slab_lists.specs.TableLending.{with_meta_of}
 use Rattle.hm_slab_lists.specs.Links.{front}
-use Rattle.hm_outside.specs.Members.{among}
+use Rattle.hm_base.specs.Members.{among}
 use Rattle.hm_slab_lists.specs.Lists.{Lists, no_lists, is_open_in, list_in, gone, headed, ended, placed, IsLoose}
 use Rattle.hm_sizes.specs.Guards.{after}
 use Rattle.hm_slab_lists.specs.Numbers.{nth_slab}
@@ -24,7 +24,7 @@ use Rattle.hm_slab_lists.specs.Named.{list_named}
 use Rattle.hm_slab_lists.specs.Sources.{fresh_or_none, first_of, source_of}
 use Rattle.hm_slab_lists.specs.declared.slab_lists.Place.TheVariants as place
 use Rattle.hm_slab_lists.proofs.Places.{get-set_same, get-set_other, cases_name, list_same, list_other}
-use Rattle.hm_outside.proofs.Members.{among_head, among_tail, among-without_other, among-last_other}
+use Rattle.hm_base.proofs.Members.{among_head, among_tail, among-without_other, among-last_other}
 use Rattle.hm_slab_lists.proofs.Unlinking.{gone_in}
 use Rattle.hm_slab_lists.proofs.Whole.{gone_loose}
 use Rattle.hm_slab_lists.proofs.Numbering.{same_index, nth-after, among-numbers, list_in-numbered, numbered-gone, numbered-headed, numbered-ended, numbered-placed, numbered_member}

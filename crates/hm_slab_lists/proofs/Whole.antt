@@ -15,13 +15,13 @@ use Rattle.hm_slab_lists.specs.declared.ends.Ends.{Ends}
 use Rattle.hm_slab_lists.specs.declared.ends.AllEnds.{AllEnds}
 use Rattle.hm_slab_lists.specs.Ends.{shorter, longer_front, longer_back, ends_in, with_ends}
 use Rattle.hm_slab_lists.specs.Links.{Links, links_of, metas_of, front, follows, precedes, edited, with_next, with_previous, unlinked, linked_first, linked_last, walk, lists_of, IsBelow, Linked, AreChains}
-use Rattle.hm_outside.specs.Members.{among}
+use Rattle.hm_base.specs.Members.{among}
 use Rattle.hm_slab_lists.specs.Lists.{Lists, list_in, gone, headed, ended, IsLoose}
 use Rattle.hm_slab_lists.specs.Chained.{Chained, with_lists, with_slab, total, linked_count, IsChained}
 use Rattle.hm_slab_lists.specs.ChainsLending.{with_meta_at}
 use Rattle.hm_slab_lists.specs.Lending.{with_meta}
 use Rattle.hm_slab_lists.proofs.Neighbours.{At, next_at, previous_at, list_at, member, walk_is}
-use Rattle.hm_outside.proofs.Members.{among_cases, among-without_same, without_none}
+use Rattle.hm_base.proofs.Members.{among_cases, among-without_same, without_none}
 use Rattle.hm_slab_lists.proofs.Unlinking.{Slot, each, stands, get-edited, chains_without}
 use Rattle.hm_slab_lists.proofs.Joining.{chains_headed, chains_ended, chains_more, first_below, last_below}
 

@@ -7,7 +7,7 @@ use Rattle.hm_slab_lists.specs.declared.slab.Link.{Link}
 use Rattle.hm_slab_lists.specs.declared.slab.Slab.{Slab}
 use Rattle.hm_slab_lists.specs.declared.slab.ListName.{ListName}
 use Rattle.hm_slab_lists.specs.Ends.{ends_in}
-use Rattle.hm_outside.specs.Members.{among, AreDistinct}
+use Rattle.hm_base.specs.Members.{among, AreDistinct}
 use Rattle.hm_slab_lists.specs.Lists.{Lists, list_in}
 
 abbrev pub Links : Type 0

@@ -8,7 +8,7 @@ use Rattle.hm_slab_meta.specs.Uses.{SlabUse, fresh_slab}
 use Rattle.hm_slab_lists.specs.declared.slab.ListName.{ListName}
 use Rattle.hm_slab_lists.specs.declared.slab.ListName.TheVariants.{Empty, Retired}
 use Rattle.hm_slab_lists.specs.Chained.{Chained}
-use Rattle.hm_outside.specs.Members.{among}
+use Rattle.hm_base.specs.Members.{among}
 use Rattle.hm_slab_lists.specs.Lists.{Lists, no_lists, is_open_in, list_in, gone, headed, ended, placed, IsLoose}
 use Rattle.hm_slab_lists.specs.Named.{list_named}
 use Rattle.hm_sizes.specs.Guards.{after}

@@ -4,7 +4,7 @@ ghost use Rattle.std.specs.Prelude.{◌≡◌, ◌<◌, ◌≤◌, length, slice
 ghost use Rattle.std.specs.Option.{option_copied, option_copied_mut};
 ghost use Rattle.std.specs.Borrow.{sem};
 ghost use Rattle.hm_slab_lists.specs.Links.{front};
-ghost use Rattle.hm_outside.specs.Members.{among};
+ghost use Rattle.hm_base.specs.Members.{among};
 ghost use Rattle.hm_slab_lists.specs.Lists.{list_in, is_open_in, gone, headed, ended, placed, IsLoose};
 ghost use Rattle.hm_slab_lists.specs.Chained.{no_slabs, with_slab, with_lists};
 ghost use Rattle.hm_slab_lists.specs.ChainsLending.{LendsMetaAt};

@@ -14,7 +14,7 @@ ghost use Rattle.hm_slab_lists.specs.TableLending.{LendsMetaOf};
 use crate::chains::Chains;
 use crate::numbers::{index_of, number_of};
 use crate::slab::ListName;
-use hm_outside::NoMemory;
+use hm_base::NoMemory;
 use hm_slab_meta::SlabMeta;
 use std::alloc::Global;
 use std::marker::Model;

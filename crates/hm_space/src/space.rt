@@ -5,7 +5,7 @@ ghost use Rattle.hm_space.specs.Space.{IsSpace, IsFreeRange, MeetsNoFree, IsFit,
 
 use crate::FreeRange;
 use crate::free_list::{count_begun, cut, join};
-use hm_outside::NoMemory;
+use hm_base::NoMemory;
 use std::alloc::Global;
 use std::marker::Model;
 

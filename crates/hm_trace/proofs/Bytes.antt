@@ -6,7 +6,7 @@ use Rattle.hm_trace.specs.declared.fault.FaultKind.TheVariants.{BadNumber}
 use Rattle.hm_trace.specs.Gives.{or_fault, ◌>>=◌}
 use Rattle.hm_trace.specs.ReadNumbers.{hex_digit}
 use Rattle.hm_trace.specs.ReadWords.{byte_at}
-use Rattle.hm_outside.specs.Bytes.{byte_word}
+use Rattle.hm_base.specs.Bytes.{byte_word}
 use Rattle.hm_trace.proofs.Hex.{digit_is, glyph_read}
 
 abbrev ok : ℕ → Result ℕ FaultKind

@@ -35,6 +35,6 @@ mod TextFaults
 mod ThreeWords
 mod Tracks
 mod Values
-mod Versions
+pub mod Versions
 mod Written
 mod WrongWords

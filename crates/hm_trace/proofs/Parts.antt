@@ -6,7 +6,7 @@ use Rattle.hm_trace.specs.declared.fault.FaultKind.TheVariants.{BadNumber, BadWo
 use Rattle.hm_trace.specs.Gives.{◌>>=◌}
 use Rattle.hm_trace.specs.Lines.{BytePart, LengthPart, NamePart, Part, RefPart, SizePart, ThreadPart, as_many}
 use Rattle.hm_trace.specs.ReadWords.{byte_at, length_at, name_at, place_at, size_at}
-use Rattle.hm_outside.specs.Bytes.{byte_word}
+use Rattle.hm_base.specs.Bytes.{byte_word}
 use Rattle.hm_trace.specs.Spelling.{place_word}
 use Rattle.hm_trace.specs.Views.{Aligned, Calloc, Free, Malloc, PlaceView, Read, Realloc, Sfree, Size, StepView, Write}
 

@@ -9,7 +9,7 @@ use crate::names::Name;
 use crate::step::{Place, Step, push_step};
 use crate::trace::{Round, Script, Trace};
 use crate::version::Version;
-use hm_outside::NoMemory;
+use hm_base::NoMemory;
 use std::alloc::{AllocError, Global};
 
 /// How many threads there are.

@@ -56,7 +56,7 @@ impl<T: Kept> TurnLock<T> {
     }
 
     /// Reads a word, by which the turn of caller 0 learns what it knows of the callers.
-    fn learn(&self, turn: &mut Turn)
+    pub fn learn(&self, turn: &mut Turn)
         requires lock { IsOf self.now turn.old }
         requires root { turn.old.knows.caller ≡ 0 }
         ensures same { turn.new ≡ turn.old }

@@ -8,7 +8,7 @@ ghost use Rattle.hm_turn.specs.Steps.{IsGrown};
 use crate::steps::{Add, COUNT, Count, Free, Order, SERVING, Written};
 use crate::{Held, Kept, Turn, View};
 use atomic_table::{Refused, Seat, Table};
-use hm_outside::NoMemory;
+use hm_base::NoMemory;
 use std::alloc::Global;
 use std::marker::{Brand, Model};
 use std::snapshot::Snapshot;

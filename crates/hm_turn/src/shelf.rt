@@ -2,8 +2,8 @@
 ghost use Rattle.std.specs.Prelude.{◌≡◌, [], ◌∷◌, ◌++◌, OnOk, OnErr};
 
 use crate::Kept;
+use hm_base::NoMemory;
 use hm_model::Entry;
-use hm_outside::NoMemory;
 use std::alloc::Global;
 use std::marker::Model;
 

@@ -13,6 +13,7 @@ loop-done-preserved g c =
     let long : length new ≡ length piece = ap (λ (l : List ℕ). length l) c.copy_from_slice.ensures.after in
     let inside : done ≤ length into = omega (arith, c.loop-done.invariant.count, c.loop-done.invariant.within) in record {
       within = c.in-Some.ensures.most;
+      held = λ told some. (c.in-Some.ensures.value told).0;
       count = same_len_mid done k into new (omega (arith, long, c.in-Some.ensures.most, c.loop-done.invariant.count, length-take k (drop done into), length-drop done into)) ∙ c.loop-done.invariant.count;
       read = λ told q b has lies.
           take-put_mid done k into new (done + length piece) (omega (arith, long)) inside
@@ -20,3 +21,6 @@ loop-done-preserved g c =
           ∙ ap (λ (l : List ℕ). l ++ piece) (c.loop-done.invariant.read told q b has lies)
           ∙ front_on b (c.args.addr - q) done piece ((c.in-Some.ensures.value told).1 q b has lies);
     }
+
+pub returns-clause-held : goal.returns-clause-held
+returns-clause-held g c = λ told some yes. c.loop-done.invariant.held told (omega (arith, some, c.loop-done.invariant.within, c.loop-done-test.false))

@@ -1,5 +1,5 @@
 use Rattle.std.proofs.Common.{◌≡◌, ℕ, ◌-◌, ◌*◌, ◌/◌, ◌^◌, ap, refl, subst}
-use Rattle.hm_outside.specs.declared.region.RegionId.{RegionId}
+use Rattle.hm_base.specs.declared.region.RegionId.{RegionId}
 use Rattle.hm_sizes.specs.declared.home.Home.TheVariants.{Class}
 use Rattle.hm_sizes.specs.Homes.{IsInRegion}
 use Rattle.hm_sizes.proofs.Ranges.{number_of, range_found, no_range, not_in_space}

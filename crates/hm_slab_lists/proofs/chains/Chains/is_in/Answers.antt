@@ -4,7 +4,7 @@ use denote.Enum.Bare.{same_true, true_same}
 use Rattle.hm_slab_lists.specs.contracts.slab.ListName.{the_type}
 use Rattle.hm_slab_lists.specs.declared.slab.Link.{Link}
 use Rattle.hm_slab_lists.specs.Chained.{Chained}
-use Rattle.hm_outside.specs.Members.{among}
+use Rattle.hm_base.specs.Members.{among}
 use Rattle.hm_slab_lists.specs.Lists.{list_in}
 use Rattle.hm_slab_lists.proofs.Whole.{below_items, is_in, is_loose, read_link}
 use Rattle.hm_slab_lists.proofs.chains.Chains.is_in.Goals as goal

@@ -4,7 +4,7 @@ use Rattle.hm_slab_lists.specs.declared.ends.Ends.{Ends}
 use Rattle.hm_slab_lists.specs.declared.slab.Link.{Link}
 use Rattle.hm_slab_lists.specs.declared.slab.Slab.{Slab}
 use Rattle.hm_slab_lists.specs.Links.{links_of, metas_of, lists_of, IsBelow}
-use Rattle.hm_outside.specs.Members.{among}
+use Rattle.hm_base.specs.Members.{among}
 use Rattle.hm_slab_lists.specs.Lists.{Lists, list_in, gone, IsLoose}
 use Rattle.hm_slab_lists.specs.Chained.{Chained, IsChained, with_lists}
 use Rattle.hm_slab_lists.proofs.Whole.{chained, seen, out_done, shown_is, below_items, read_link, previous_below, next_below, counts_one, gone_loose, gone_none, is_loose}

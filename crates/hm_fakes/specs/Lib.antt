@@ -1,0 +1,5 @@
+pub mod Numbered
+pub mod Fakes
+pub mod PlainRuns
+pub mod PlainLaws
+pub mod FailingPages

@@ -1,0 +1,23 @@
+//! A maker of pages in memory.
+ghost use Rattle.std.specs.Prelude.{◌≡◌, IfOk, IsOk};
+ghost use Rattle.std.specs.FinMap as map;
+
+use crate::PlainPages;
+use hm_base::{NoMemory, RegionId};
+use hm_outside::PageMaker;
+use std::alloc::Global;
+
+/// It makes `PlainPages` for each region, and takes no memory.
+#[derive(Debug, Drop)]
+pub struct PlainMaker;
+
+impl PageMaker for PlainMaker {
+    type P = PlainPages;
+
+    fn make(&mut self, alloc: Global, _region: RegionId) -> Result<PlainPages, NoMemory>
+        ensures always { IsOk result }
+        ensures nothing { IfOk result (λ p. p ≡ map.empty) }
+    {
+        Ok(PlainPages::new(alloc))
+    }
+}

@@ -1,0 +1,36 @@
+//! The runs of whole ranges of bytes, which pages lend piece by piece.
+#![tactic(auto)]
+
+ghost use Rattle.std.specs.Prelude.{◌≡◌, ◌+◌, ◌++◌, ◌<◌, ◌^◌, IsTrue, IfOk, List, ℕ};
+ghost use Rattle.hm_model.specs.Runs.{expand, total};
+ghost use Rattle.hm_outside.specs.PageRuns.{IsHeld, Reads};
+
+use hm_base::NoMemory;
+use hm_model::Runs;
+use hm_outside::Pages;
+
+/// Appends the bytes of a range, and says whether the pages lend them. Equal bytes take one run, however many they are,
+/// and no vector: so do pages that nobody wrote.
+pub fn append_range<P: Pages>(
+    pages: &P,
+    addr: u64,
+    len: usize,
+    runs: &mut Runs,
+) -> Result<bool, NoMemory>
+    requires { total runs.old + len < 2 ^ 64 }
+    ensures count { IfOk result (λ lent. IsTrue lent → total runs.new ≡ total runs.old + len) }
+    ensures held { IsTrue (P.told pages.now) → 0 < len
+        → IfOk result (λ lent. IsTrue lent → IsHeld (P.runs pages.now) addr len) }
+    ensures value { IsTrue (P.told pages.now) → IsHeld (P.runs pages.now) addr len → IfOk result (λ lent.
+        IsTrue lent × (w : List ℕ) × Reads (P.runs pages.now) addr len w × (expand runs.new ≡ expand runs.old ++ w)) }
+{
+    let mut done = 0;
+    while done < len {
+        let Some(piece) = pages.piece(addr, len, done) else {
+            return Ok(false);
+        };
+        runs.append(piece)?;
+        done += piece.len();
+    }
+    Ok(true)
+}
