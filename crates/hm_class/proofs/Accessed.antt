@@ -1,10 +1,10 @@
 -- Which addresses are accessible, and reading and writing slab by slab.
-use Rattle.std.proofs.Common.{◌≡◌, ⊎_elim, ℕ, zero, suc, ◌+◌, ◌-◌, ◌%◌, ◌<◌, ◌≤◌, min, Bool, true, false, cond, not, ◌&&◌, nat_lt, List, [], ◌∷◌, ◌++◌, length, take, drop, slice_get, Option, Some, None, is_some, unwrap_or, sym, ◌∙◌, ap, subst, refl, arith, true≢false}
+use Rattle.std.proofs.Common.{◌≡◌, ⊎_elim, ℕ, zero, suc, ◌+◌, ◌-◌, ◌%◌, ◌<◌, ◌≤◌, min, Bool, true, false, cond, not, ◌&&◌, nat_lt, List, [], ◌∷◌, ◌++◌, length, take, drop, replicate, slice_get, Option, Some, None, is_some, unwrap_or, sym, ◌∙◌, ap, subst, refl, arith, true≢false}
 use Rattle.std.specs.Option.{option_and_then}
 use Rattle.std.proofs.lemmas.Bool.{cases_eq}
 use Rattle.std.proofs.lemmas.Bool.Decides.{nat_tests}
 use Rattle.std.proofs.lemmas.Nat.{div-add-mod', mod_below}
-use Rattle.std.proofs.lemmas.List.{length-take, length-drop}
+use Rattle.std.proofs.lemmas.List.{length-replicate, replicate-append-replicate}
 use Rattle.std.proofs.lemmas.Option.{none-some, same_Some}
 use Rattle.hm_outside.specs.PageRuns.{PageRuns, IsHeld, Reads, Writes}
 use Rattle.hm_model.specs.Maps.{at}
@@ -16,7 +16,7 @@ use Rattle.hm_sizes.specs.Shapes.{IsShape, slab_at, slab_of, has_bytes}
 use Rattle.hm_class_rules.specs.State.{State, Slab, is_open}
 use Rattle.hm_class_rules.specs.Bytes.{byte_at, bytes_read, first_trap, write, overlaid_slabs}
 use Rattle.hm_class_rules.specs.Laws.{AllWhole, bytes_of_slab}
-use Rattle.hm_class.specs.Access.{is_accessible, trap_in}
+use Rattle.hm_class.specs.Access.{is_accessible, trap_in, HasByte, HaveBytes}
 use Rattle.hm_class.specs.Kept.{Shows}
 use Rattle.hm_class.specs.Region.{HoldsSlabs}
 use Rattle.hm_class.specs.Uses.{Uses, open_at}
@@ -172,11 +172,6 @@ trap_within p uses a (suc n) q e = within_later (is_accessible p uses a) a n q (
 
 -- ---- ranges without a trap
 -- an address with a byte lies in an open slab, and slabs have bytes
-pub record HasByte (p : Shape) (s : State) (q : ℕ) : Type 0 where
-  pub own : has_bytes p ≡ true
-  pub from : p.first ≤ q
-  pub open_slab : is_open s (slab_of p q) ≡ true
-
 pub byte_open : (p : Shape) (s : State) (runs : PageRuns) (q : ℕ) → HoldsSlabs p s.opens runs → is_some (byte_at p s q) ≡ true → HasByte p s q
 byte_open p s runs q h e =
     elim (nat_lt q p.first) as (λ t. nat_lt q p.first ≡ t → is_some (cond t None (option_and_then (λ (b : Slab). slice_get b.bytes ((q - p.first) % p.slab)) (at (slab_of p q) s.opens))) ≡ true → HasByte p s q) [
@@ -211,10 +206,20 @@ pub record IsPiece (p : Shape) (s : State) (q k : ℕ) : Type 0 where
   pub fits : offset + k ≤ p.slab
   pub some : 0 < k
 
-pub piece_at : (p : Shape) (s : State) (runs : PageRuns) (a len q next end : ℕ) → IsShape p → HoldsSlabs p s.opens runs → first_trap p s a len ≡ None → end ≡ a + len → a ≤ q → q < end → next ≡ min end (slab_at p (slab_of p q) + p.slab) → IsPiece p s q (next - q)
-piece_at p s runs a len q next end shape h none is later lt ends =
-    let e : a + (q - a) ≡ q = omega arith in
-    let b = byte_open p s runs q h (ap (λ (n : ℕ). is_some (byte_at p s n)) (sym e) ∙ all_open p s a len (q - a) none (omega (arith, is))) in
+-- so do all addresses of a range without a trap
+pub have_bytes : (p : Shape) (s : State) (runs : PageRuns) (a len : ℕ) → HoldsSlabs p s.opens runs → first_trap p s a len ≡ None → HaveBytes p s a len
+have_bytes p s runs a len h none q from to =
+    let e : a + (q - a) ≡ q = omega (arith, from) in
+    byte_open p s runs q h (ap (λ (n : ℕ). is_some (byte_at p s n)) (sym e) ∙ all_open p s a len (q - a) none (omega (arith, from, to)))
+
+-- a write leaves them
+pub still_have : (p : Shape) (s : State) (a q len : ℕ) (w : List ℕ) → HaveBytes p s q len → HaveBytes p (write p a w s) q len
+still_have p s a q len w have x from to =
+    let b = have x from to in
+    record { own = b.own; from = b.from; open_slab = has_overlaid p a w (slab_of p x) s.opens ∙ b.open_slab }
+
+pub piece_here : (p : Shape) (s : State) (q next end : ℕ) → IsShape p → HasByte p s q → q < end → next ≡ min end (slab_at p (slab_of p q) + p.slab) → IsPiece p s q (next - q)
+piece_here p s q next end shape b lt ends =
     let start = slab_from p q shape b.from in
     let stop = slab_to p q shape b.from in
     record {
@@ -224,6 +229,10 @@ piece_at p s runs a len q next end shape h none is later lt ends =
       fits = omega (arith, start, stop, ends);
       some = omega (arith, stop, ends);
     }
+
+pub piece_at : (p : Shape) (s : State) (runs : PageRuns) (a len q next end : ℕ) → IsShape p → HoldsSlabs p s.opens runs → first_trap p s a len ≡ None → end ≡ a + len → a ≤ q → q < end → next ≡ min end (slab_at p (slab_of p q) + p.slab) → IsPiece p s q (next - q)
+piece_at p s runs a len q next end shape h none is later lt ends =
+    piece_here p s q next end shape (have_bytes p s runs a len h none q later (omega (arith, lt, is))) lt ends
 
 pub piece_held : (p : Shape) (s s' : State) (runs : PageRuns) (q k : ℕ) → IsPiece p s q k → is_open s' (slab_of p q) ≡ true → HoldsSlabs p s'.opens runs → IsHeld runs q k
 piece_held p s s' runs q k piece on h = held_in p s' (slab_of p q) piece.offset q k runs piece.byte.own on piece.place piece.fits piece.some h
@@ -290,45 +299,31 @@ slabs_nil p a (e ∷ m) =
     slab_with : List ℕ → ℕ → Slab
     slab_with l k = record { bytes = l; canary = k }
 
-pub holds_none : (p : Shape) (a n : ℕ) (w : List ℕ) (s : State) (runs : PageRuns) → n ≡ 0 → HoldsSlabs p s.opens runs → HoldsSlabs p (write p a (take n w) s).opens runs
-holds_none p a n w s runs none h =
-    subst (λ (m : List (ℕ × Slab)). HoldsSlabs p m runs) (sym (ap (λ (k : ℕ). overlaid_slabs p a (take k w) s.opens) none ∙ slabs_nil p a s.opens)) h
+pub holds_none : (p : Shape) (a n byte : ℕ) (s : State) (runs : PageRuns) → n ≡ 0 → HoldsSlabs p s.opens runs → HoldsSlabs p (write p a (replicate n byte) s).opens runs
+holds_none p a n byte s runs none h =
+    subst (λ (m : List (ℕ × Slab)). HoldsSlabs p m runs) (sym (ap (λ (k : ℕ). overlaid_slabs p a (replicate k byte) s.opens) none ∙ slabs_nil p a s.opens)) h
 
-take_more : (xs : List ℕ) (i k : ℕ) → take (i + k) xs ≡ take i xs ++ take k (drop i xs)
-take_more xs zero k = ap (λ (n : ℕ). take n xs) (omega arith)
-take_more [] (suc i) k = none (suc i + k) ∙ sym (none k)
-  where
-    none : (n : ℕ) → take {A = ℕ} n [] ≡ []
-    none zero = refl
-    none (suc n) = refl
-take_more (x ∷ xs) (suc i) k = (let e : suc i + k ≡ suc (i + k) = omega arith in ap (λ (n : ℕ). take n (x ∷ xs)) e) ∙ ap (λ (l : List ℕ). x ∷ l) (take_more xs i k)
+pub holds_nothing : (p : Shape) (a : ℕ) (s : State) (runs : PageRuns) → HoldsSlabs p s.opens runs → HoldsSlabs p (write p a [] s).opens runs
+holds_nothing p a s runs h = subst (λ (m : List (ℕ × Slab)). HoldsSlabs p m runs) (sym (slabs_nil p a s.opens)) h
+
+-- bytes are written behind those that were written
+pub written_behind : (p : Shape) (s : State) (runs : PageRuns) (a q : ℕ) (w v all : List ℕ) → a + length w ≡ q → w ++ v ≡ all
+    → HoldsSlabs p (write p q v (write p a w s)).opens runs → HoldsSlabs p (write p a all s).opens runs
+written_behind p s runs a q w v all at_q is h =
+    subst (λ (l : List ℕ). HoldsSlabs p (overlaid_slabs p a l s.opens) runs) is
+    (subst (λ (m : List (ℕ × Slab)). HoldsSlabs p m runs) (slabs_two p a w v s.opens)
+    (subst (λ (x : ℕ). HoldsSlabs p (overlaid_slabs p x v (overlaid_slabs p a w s.opens)) runs) (sym at_q) h))
 
 -- one piece more was written
-pub piece_written : (p : Shape) (s : State) (runs runs' : PageRuns) (a q next : ℕ) (xs : List ℕ) → IsShape p → a ≤ q → q ≤ next → next ≤ a + length xs → IsPiece p s q (next - q)
-    → HoldsSlabs p (write p a (take (q - a) xs) s).opens runs
-    → (IsHeld runs q (length (take ((next - a) - (q - a)) (drop (q - a) xs))) → Writes runs q (length (take ((next - a) - (q - a)) (drop (q - a) xs))) (take ((next - a) - (q - a)) (drop (q - a) xs)) runs')
-    → HoldsSlabs p (write p a (take (next - a) xs) s).opens runs'
-piece_written p s runs runs' a q next xs shape later le fits piece h wrote =
-    let i : ℕ = q - a in
-    let k : ℕ = (next - a) - (q - a) in
-    let v : List ℕ = take k (drop i xs) in
-    let w : List ℕ = take i xs in
-    let long : length v ≡ next - q = omega (arith, length-take k (drop i xs), length-drop i xs) in
-    let front : length w ≡ i = omega (arith, length-take i xs) in
+pub piece_written : (p : Shape) (s : State) (runs runs' : PageRuns) (a q next byte : ℕ) → IsShape p → a ≤ q → q ≤ next → IsPiece p s q (next - q)
+    → HoldsSlabs p (write p a (replicate (q - a) byte) s).opens runs
+    → (IsHeld runs q (next - q) → Writes runs q (next - q) (replicate (next - q) byte) runs')
+    → HoldsSlabs p (write p a (replicate (next - a) byte) s).opens runs'
+piece_written p s runs runs' a q next byte shape later le piece h wrote =
+    let w : List ℕ = replicate (q - a) byte in
+    let v : List ℕ = replicate (next - q) byte in
+    let front : length w ≡ q - a = length-replicate (q - a) byte in
     let on : is_open (write p a w s) (slab_of p q) ≡ true = has_overlaid p a w (slab_of p q) s.opens ∙ piece.byte.open_slab in
-    let held : IsHeld runs q (length v) = subst (λ (n : ℕ). IsHeld runs q n) (sym long) (piece_held p s (write p a w s) runs q (next - q) piece on h) in
-    let at_q : a + length w ≡ q = omega (arith, front) in
-    let all : w ++ v ≡ take (next - a) xs = sym (take_more xs i k) ∙ ap (λ (n : ℕ). take n xs) (omega arith) in
-    subst (λ (l : List ℕ). HoldsSlabs p (overlaid_slabs p a l s.opens) runs') all
-    (subst (λ (m : List (ℕ × Slab)). HoldsSlabs p m runs') (slabs_two p a w v s.opens)
-    (subst (λ (x : ℕ). HoldsSlabs p (overlaid_slabs p x v (overlaid_slabs p a w s.opens)) runs') (sym at_q)
-    (holds_write p (overlaid_slabs p a w s.opens) q (length v) v runs runs' shape refl h (wrote held))))
-
-pub all_written : (p : Shape) (a n : ℕ) (xs : List ℕ) (s : State) (runs : PageRuns) → n ≡ length xs → HoldsSlabs p (write p a (take n xs) s).opens runs → HoldsSlabs p (write p a xs s).opens runs
-all_written p a n xs s runs e h = subst (λ (l : List ℕ). HoldsSlabs p (write p a l s).opens runs) (whole xs n e) h
-  where
-    whole : (xs : List ℕ) (n : ℕ) → n ≡ length xs → take n xs ≡ xs
-    whole [] zero e = refl
-    whole [] (suc n) e = refl
-    whole (x ∷ xs) zero e = absurd (omega (arith, e))
-    whole (x ∷ xs) (suc n) e = ap (λ (l : List ℕ). x ∷ l) (whole xs n (omega (arith, e)))
+    let all : w ++ v ≡ replicate (next - a) byte = replicate-append-replicate (q - a) (next - q) byte ∙ ap (λ (n : ℕ). replicate n byte) (omega (arith, later, le)) in
+    written_behind p s runs' a q w v (replicate (next - a) byte) (omega (arith, front, later)) all
+    (holds_write p (overlaid_slabs p a w s.opens) q (next - q) v runs runs' shape (length-replicate (next - q) byte) h (wrote (piece_held p s (write p a w s) runs q (next - q) piece on h)))

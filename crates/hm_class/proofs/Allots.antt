@@ -1,6 +1,6 @@
 -- The entry of an allotment: what is kept follows.
 use Rattle.std.proofs.Common.{◌≡◌, ◌≢◌, ℕ, ◌≤◌, Bool, true, false, IsTrue, cond, ◌&&◌, nat_lt, List, [], ◌∷◌, ◌++◌, length, Option, Some, None, is_some, unwrap_or, sym, ◌∙◌, ap, subst, refl, arith}
-use Rattle.hm_choice.specs.Stream.{Words, next_word, after_word, canary_of, drawn}
+use Rattle.hm_choice.specs.Stream.{Words, next_word, after_word, canary_of}
 use Rattle.hm_quarantine.specs.Quarantine.{Kept}
 use Rattle.hm_outside.specs.declared.pages.Pages as pages
 use Rattle.hm_outside.specs.PageRuns.{PageRuns}
@@ -9,7 +9,6 @@ use Rattle.hm_model.specs.declared.entry.Who.{Who}
 use Rattle.hm_model.specs.declared.entry.Call.TheVariants.{Allot}
 use Rattle.hm_model.specs.declared.entry.Reply.{Reply}
 use Rattle.hm_model.specs.declared.entry.Reply.TheVariants as reply
-use Rattle.hm_model.specs.Entries.{AreDraws}
 use Rattle.hm_model.specs.declared.entry.Choices.{Choices}
 use Rattle.hm_model.specs.declared.entry.Draws.{Draws}
 use Rattle.hm_sizes.specs.declared.config.Config.{Config}
@@ -30,14 +29,14 @@ use Rattle.hm_class.specs.declared.outcome.Canary.{Canary}
 use Rattle.hm_class.specs.declared.outcome.Event.{Event}
 use Rattle.hm_class.specs.Slabs.{Slabs}
 use Rattle.hm_class.specs.Uses.{Numbers, numbers_of, Uses, slab_in, opened_slab, fresh_slab, kind_at, live_count, with_open, taken_uses}
-use Rattle.hm_model.specs.Calls.{no_choices, entry_of, no_words, one_word}
-use Rattle.hm_class.specs.Finds.{Finds, Serves, KeepsRuns, made_runs, drawn_canary, canary_stream}
+use Rattle.hm_model.specs.Calls.{no_choices, entry_of, no_words}
+use Rattle.hm_class.specs.Finds.{Finds, Serves, KeepsRuns, made_runs, drawn_canary, canary_stream, start_word, start_from, start_stream}
 use Rattle.hm_class.specs.Outcomes.{reply_of, canary_value, chose_opened, start_draws}
 use Rattle.hm_class.specs.Sources.{new_of, front_of}
 use Rattle.hm_class.specs.Region.{HoldsSlabs}
 use Rattle.hm_class.specs.Kept.{Shows, AreFull, IsKept, terms_of, cells_of, identity, store}
 use Rattle.hm_class.proofs.Allotted.{kept_serve}
-use Rattle.hm_class.proofs.Drawn.{stepped_open, stepped_new, after_new, new_draws_are, one_draw_are}
+use Rattle.hm_class.proofs.Drawn.{stepped_open, stepped_new, after_open, after_new, start_draws_are}
 use Rattle.hm_class.proofs.Filing.{Stands, still_shut, same_full, opened_partial, opened_empty, opened_shut, opened_stands, opened_then_partial, opened_then_empty, opened_are_full}
 use Rattle.hm_class.proofs.Followed.{shows_count}
 use Rattle.std.proofs.lemmas.Option.{none-some, same_Some}
@@ -145,7 +144,7 @@ module _ (told : Bool) (runs : PageRuns) (faults : ℕ) (c : Config) (number are
   runs_as : (x : P) → (IsTrue (meaning.told begun) → meaning.runs x ≡ meaning.runs begun) → IsTrue told → meaning.runs x ≡ runs
   runs_as x e y = e (told_begun ∙ y) ∙ runs_begun
 
-  pub kept_allotted : (n : NextSlab) (e : Event) → Finds meaning k k₁ begun mid stream stream₁ p n → Serves meaning k₁ k' mid now stream₁ stream' p n e → Ends e
+  pub kept_allotted : (n : NextSlab) (e : Event) → Finds meaning k k₁ begun mid stream stream₁ p n → Serves meaning k₁ k' mid now stream₁ stream' c p n e → Ends e
   kept_allotted next.Exhausted e f v =
       let q = f.1.0 in
       let w = v.1 in
@@ -165,7 +164,7 @@ module _ (told : Bool) (runs : PageRuns) (faults : ℕ) (c : Config) (number are
       let at = open_place p first n 0 (sound_now told runs faults c number arena p es k stream quarantine parking kept) on (omega (arith, kept.served.shape.slots_some)) in
       subst (λ (x : Choices). Ends (record { outcome = e.outcome; choices = x; draws = e.draws })) (sym v.1)
       (subst (λ (x : Draws). Ends (record { outcome = e.outcome; choices = no_choices; draws = x })) (sym v.2)
-      (kept_serve told runs faults c number arena p es k stream quarantine parking kept meaning mid now k₁ k' stream₁ stream' n (kind_at k₁.slabs n) no_choices (one_word (next_word stream₁)) who asked (meaning.faults begun) (meaning.faults now)
+      (kept_serve told runs faults c number arena p es k stream quarantine parking kept meaning mid now k₁ k' stream₁ stream' n (kind_at k₁.slabs n) no_choices (start_draws None (start_word c stream₁)) who asked (meaning.faults begun) (meaning.faults now)
       tell asks is (omega (arith, same, f.1.1))
       (subst (λ (u : Uses). IsServing u n) (sym q.slabs) (serving told runs faults c number arena p es k stream quarantine parking kept n f.0)) at.below at.no_guard on
       (subst (λ (u : Uses). Shows p u first) (sym q.slabs) kept.follows.shows)
@@ -178,11 +177,11 @@ module _ (told : Bool) (runs : PageRuns) (faults : ℕ) (c : Config) (number are
       (λ after. ap (λ (l : Lists). listed Partial n (kind_at k₁.slabs n) after l.partial) q.lists.lists)
       (λ after. ap (λ (l : Lists). listed Empty n (kind_at k₁.slabs n) after l.empty) q.lists.lists)
       (kind_is p k.slabs first n kept.served.shape kept.follows.shows ∙ ap (λ (u : Uses). kind_at u n) (sym q.slabs))
-      (one_draw_are (next_word stream₁)) (ap (λ (x : Words). after_word x) (sym q.stream_same))
+      (start_draws_are None (start_word c stream₁)) (subst (λ (x : Words). after_words stream (start_draws None (start_word c x)).used ≡ start_stream c x) (sym q.stream_same) (after_open c stream))
       ((allows_now told runs faults c number arena p es k stream quarantine parking kept).source n f.0) (no_canary (has_bytes p)) refl
-      (λ a slab here answer picks. subst (λ (x : Words). IsSteppedEntry t (cells_of first (store k stream quarantine parking)) (entry_of who (Allot asked 1) answer no_choices (one_word (next_word x)) (meaning.faults begun) (meaning.faults now))) (sym q.stream_same)
-      (stepped_open t (cells_of first (store k stream quarantine parking)) first who asked a n (meaning.faults begun) (meaning.faults now) answer refl kept.served.valid.random picks slab
-      (subst (λ (x : Words). first_free p first n (drawn p.slots (next_word x)) ≡ Some a) q.stream_same here) f.0))
+      (λ a slab here answer picks. subst (λ (x : Words). IsSteppedEntry t (cells_of first (store k stream quarantine parking)) (entry_of who (Allot asked 1) answer no_choices (start_draws None (start_word c x)) (meaning.faults begun) (meaning.faults now))) (sym q.stream_same)
+      (stepped_open t (cells_of first (store k stream quarantine parking)) first who asked a n (meaning.faults begun) (meaning.faults now) answer refl picks slab
+      (subst (λ (x : Words). first_free p first n (start_from c p x) ≡ Some a) q.stream_same here) f.0))
       e.outcome v.0))
   kept_allotted (next.New n canary) e f v =
       let t : Terms = terms_of told c p in
@@ -198,7 +197,7 @@ module _ (told : Bool) (runs : PageRuns) (faults : ℕ) (c : Config) (number are
       let shows₁ : Shows p uses₁ s₁ = opened_shows told runs faults c number arena p es k stream quarantine parking kept n cv f.0.1 in
       subst (λ (x : Choices). Ends (record { outcome = e.outcome; choices = x; draws = e.draws })) (sym v.1)
       (subst (λ (x : Draws). Ends (record { outcome = e.outcome; choices = chose_opened n canary; draws = x })) (sym v.2)
-      (kept_serve told runs faults c number arena p es k stream quarantine parking kept meaning mid now k₁ k' stream₁ stream' n Neither (chose_opened n canary) (start_draws canary (next_word stream₁)) who asked (meaning.faults begun) (meaning.faults now)
+      (kept_serve told runs faults c number arena p es k stream quarantine parking kept meaning mid now k₁ k' stream₁ stream' n Neither (chose_opened n canary) (start_draws canary (start_word c stream₁)) who asked (meaning.faults begun) (meaning.faults now)
       tell asks is (omega (arith, same, q.later))
       (subst (λ (u : Uses). IsServing u n) (sym items) (opened_serves told runs faults c number arena p es k stream quarantine parking kept n cv f.0.1)) fresh.below fresh.no_guard
       (opened_open told runs faults c number arena p es k stream quarantine parking kept n cv f.0.1)
@@ -216,15 +215,15 @@ module _ (told : Bool) (runs : PageRuns) (faults : ℕ) (c : Config) (number are
       (λ after. ap (λ (l : Lists). listed Empty n Empty after l.empty) q.lists ∙ ap (λ (l : List ℕ). listed Empty n Empty after l) (opened_empty k.lists n loose shut)
       ∙ opened_then_empty n after k.lists.empty loose.empty)
       (kind_shut p first n kept.served.shape fresh.off)
-      (subst (λ (x : Option Canary). AreDraws (start_draws x (next_word stream₁))) (sym q.canary_is) (new_draws_are p stream (next_word stream₁)))
-      (subst (λ (x : Words). after_words stream (start_draws canary (next_word x)).used ≡ after_word x) (sym q.stream_is)
-      (subst (λ (x : Option Canary). after_words stream (start_draws x (next_word (canary_stream p stream))).used ≡ after_word (canary_stream p stream)) (sym q.canary_is) (after_new p stream)))
+      (start_draws_are canary (start_word c stream₁))
+      (subst (λ (x : Words). after_words stream (start_draws canary (start_word c x)).used ≡ start_stream c x) (sym q.stream_is)
+      (subst (λ (x : Option Canary). after_words stream (start_draws x (start_word c (canary_stream p stream))).used ≡ start_stream c (canary_stream p stream)) (sym q.canary_is) (after_new c p stream)))
       (refl, none_serves f.0.0, next_new (Some n) f.0.1)
       (ap (λ (x : Option Canary). is_some (canary_value x)) q.canary_is ∙ canary_there p stream) refl
       (λ a slab here answer picks.
-      subst (λ (x : Words). IsSteppedEntry t (cells_of first (store k stream quarantine parking)) (entry_of who (Allot asked 1) answer (chose_opened n canary) (start_draws canary (next_word x)) (meaning.faults begun) (meaning.faults now))) (sym q.stream_is)
-      (subst (λ (x : Option Canary). IsSteppedEntry t (cells_of first (store k stream quarantine parking)) (entry_of who (Allot asked 1) answer (chose_opened n x) (start_draws x (next_word (canary_stream p stream))) (meaning.faults begun) (meaning.faults now))) (sym q.canary_is)
-      (stepped_new t (cells_of first (store k stream quarantine parking)) first who asked a n (meaning.faults begun) (meaning.faults now) answer refl kept.served.valid.random picks slab
-      (subst (λ (x : Option Canary). first_free p (opened p (Some n) (canary_value x) first) n (drawn p.slots (next_word (canary_stream p stream))) ≡ Some a) q.canary_is
-      (subst (λ (x : Words). first_free p s₁ n (drawn p.slots (next_word x)) ≡ Some a) q.stream_is here)))))
+      subst (λ (x : Words). IsSteppedEntry t (cells_of first (store k stream quarantine parking)) (entry_of who (Allot asked 1) answer (chose_opened n canary) (start_draws canary (start_word c x)) (meaning.faults begun) (meaning.faults now))) (sym q.stream_is)
+      (subst (λ (x : Option Canary). IsSteppedEntry t (cells_of first (store k stream quarantine parking)) (entry_of who (Allot asked 1) answer (chose_opened n x) (start_draws x (start_word c (canary_stream p stream))) (meaning.faults begun) (meaning.faults now))) (sym q.canary_is)
+      (stepped_new t (cells_of first (store k stream quarantine parking)) first who asked a n (meaning.faults begun) (meaning.faults now) answer refl picks slab
+      (subst (λ (x : Option Canary). first_free p (opened p (Some n) (canary_value x) first) n (start_from c p (canary_stream p stream)) ≡ Some a) q.canary_is
+      (subst (λ (x : Words). first_free p s₁ n (start_from c p x) ≡ Some a) q.stream_is here)))))
       e.outcome v.0))

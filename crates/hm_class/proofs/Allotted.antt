@@ -2,7 +2,7 @@
 use Rattle.std.proofs.Common.{◌≡◌, ℕ, ◌<◌, ◌≤◌, Bool, true, false, IsTrue, ◌&&◌, List, [], ◌∷◌, ◌++◌, length, get_or, slice_get, Option, Some, is_some, sym, ◌∙◌, ap, subst, refl, arith}
 use Rattle.std.specs.Option.{option_and_then, option_map_or}
 use Rattle.std.proofs.lemmas.Option.{slice_get-get_or}
-use Rattle.hm_choice.specs.Stream.{Words, next_word, after_word, drawn}
+use Rattle.hm_choice.specs.Stream.{Words}
 use Rattle.hm_quarantine.specs.Quarantine.{Kept}
 use Rattle.hm_outside.specs.declared.pages.Pages as pages
 use Rattle.hm_outside.specs.PageRuns.{PageRuns}
@@ -24,18 +24,17 @@ use Rattle.hm_class_rules.specs.Drawn.{first_free}
 use Rattle.hm_class_rules.specs.Draws.{Picked, event_of, after_words}
 use Rattle.hm_class_rules.specs.Rules.{Source, state}
 use Rattle.hm_class_rules.specs.Stepped.{IsSteppedEntry, listed}
-use Rattle.hm_class_rules.proofs.Alike.{drawn_below}
-use Rattle.hm_class_rules.proofs.Streams.{next_below}
 use Rattle.hm_class.specs.declared.outcome.Outcome.{Outcome}
 use Rattle.hm_slab_meta.specs.Uses.{SlotUse, Never, first_from}
 use Rattle.hm_class.specs.Slabs.{Slabs}
 use Rattle.hm_class.specs.Uses.{numbers_of, open_at, SlabUse, occupied, use_at, kind_at, live_count}
 use Rattle.hm_model.specs.Calls.{entry_of, no_choices}
 use Rattle.hm_class.specs.Outcomes.{reply_of}
-use Rattle.hm_class.specs.Finds.{Serve}
+use Rattle.hm_class.specs.Finds.{Serve, start_from, start_stream}
 use Rattle.hm_class.specs.Region.{HoldsSlabs}
 use Rattle.hm_class.specs.Kept.{Shows, AreFull, IsKept, terms_of, cells_of, identity, store}
 use Rattle.hm_slab_lists.specs.Lists.{Lists}
+use Rattle.hm_class.proofs.Drawn.{start_below}
 use Rattle.hm_class.proofs.Filing.{Stands, placed_moved, placed_full}
 use Rattle.hm_class.proofs.Permitted.{IsServing}
 use Rattle.hm_class.proofs.Serving.{given_open, given_beside}
@@ -59,12 +58,12 @@ module _ (told : Bool) (runs : PageRuns) (faults : ℕ) (c : Config) (number are
     (partial : (after : Kind) → listed Partial n before after k₁.lists.partial ≡ listed Partial n kind₀ after k.lists.partial)
     (empty : (after : Kind) → listed Empty n before after k₁.lists.empty ≡ listed Empty n kind₀ after k.lists.empty)
     (was_kind : kind p (state (terms_of told c p) es) n ≡ kind₀)
-    (are : AreDraws draws) (taken : after_words stream draws.used ≡ after_word stream₁)
+    (are : AreDraws draws) (taken : after_words stream draws.used ≡ start_stream c stream₁)
     (source : Source p (state (terms_of told c p) es) choices.opened n) (has_canary : is_some choices.canary ≡ (has_bytes p && is_some choices.opened)) (chosen : choices ≡ record no_choices { canary = choices.canary; opened = choices.opened })
-    (stepped : (a : ℕ) → slab_of p a ≡ n → first_free p (opened p choices.opened choices.canary (state (terms_of told c p) es)) n (drawn p.slots (next_word stream₁)) ≡ Some a → (r : Reply) → event_of (Allot asked 1) r ≡ Picked a
+    (stepped : (a : ℕ) → slab_of p a ≡ n → first_free p (opened p choices.opened choices.canary (state (terms_of told c p) es)) n (start_from c p stream₁) ≡ Some a → (r : Reply) → event_of (Allot asked 1) r ≡ Picked a
     → IsSteppedEntry (terms_of told c p) (cells_of (state (terms_of told c p) es) (store k stream quarantine parking)) (entry_of who (Allot asked 1) r choices draws f f'))
   where
-    pub kept_serve : (o : Outcome) → Serve meaning k₁ k' mid now stream₁ stream' p n o
+    pub kept_serve : (o : Outcome) → Serve meaning k₁ k' mid now stream₁ stream' c p n o
         → IsKept told (meaning.runs now) f' (identity c number arena p) (es ++ entry_of who (Allot asked 1) (reply_of o) choices draws f f' ∷ []) (store k' stream' quarantine parking)
     kept_serve o v =
         let then : State = opened p choices.opened choices.canary (state (terms_of told c p) es) in
@@ -73,9 +72,9 @@ module _ (told : Bool) (runs : PageRuns) (faults : ℕ) (c : Config) (number are
         let m = placed_moved k₁.lists n before after stands in
         let on₁ : open_at k₁.slabs n ≡ true = ap (λ (o : Option SlabUse). option_map_or (λ (b : SlabUse). b.opened) o false) serves.is_slab ∙ serves.on in
         let b : SlabUse = serves.slab in
-        let start : ℕ = drawn p.slots (next_word stream₁) in
+        let start : ℕ = start_from c p stream₁ in
         let some : 0 < p.slots = omega (arith, kept.served.shape.slots_some) in
-        let start_lt : start < p.slots = drawn_below p.slots (next_word stream₁) some (next_below stream₁) in
+        let start_lt : start < p.slots = start_below c p stream₁ some in
         let whole : length b.slots ≡ p.slots = shows.slots n b serves.is_slab in
         let first : first_from start b.slots ≡ Some i = sym (ap (λ (o : Option SlabUse). option_and_then (λ (b : SlabUse). first_from start b.slots) o) serves.is_slab) ∙ v.first in
         let r = is_first b.slots start i (omega (arith, start_lt, whole)) first in
@@ -90,7 +89,7 @@ module _ (told : Bool) (runs : PageRuns) (faults : ℕ) (c : Config) (number are
         tell asks is later lt serves.is_slab u was free on shows slabs live_all (ap (λ (l : Lists). l.retired) v.lists ∙ m.retired ∙ shut)
         (ap (λ (l : Lists). l.partial) v.lists ∙ m.partial ∙ partial after) (ap (λ (l : Lists). l.empty) v.lists ∙ m.empty ∙ empty after)
         (subst (λ (l : Lists). AreFull k'.slabs l.full) (sym v.lists) (placed_full k₁.slabs k'.slabs k₁.lists n before after stands full
-        (given_open meaning p n i k₁ k' mid now o v.gives on₁) refl (given_beside meaning p n i k₁ k' mid now o v.gives on₁)))
+        (given_open meaning c p n i k₁ k' mid now o v.gives on₁) refl (given_beside meaning c p n i k₁ k' mid now o v.gives on₁)))
         (v.numbers ∙ numbers)
         was_kind are (taken ∙ sym v.stream_is)
         (record {

@@ -8,10 +8,10 @@ use Rattle.hm_class_rules.specs.Kinds.{Kind, Partial, Empty, Neither, same_kind}
 use Rattle.hm_class_rules.specs.Stepped.{listed}
 use Rattle.hm_slab_lists.specs.declared.slab.ListName.{ListName}
 use Rattle.hm_slab_lists.specs.declared.slab.ListName.TheVariants as name
-use Rattle.hm_outside.specs.Members.{among, without}
+use Rattle.hm_base.specs.Members.{among, without}
 use Rattle.hm_slab_lists.specs.Lists.{Lists, list_in, gone, headed, placed}
 use Rattle.hm_slab_lists.specs.Table.{unparked}
-use Rattle.hm_outside.proofs.Members.{among_head, without_skip, without_none, among-without_same}
+use Rattle.hm_base.proofs.Members.{among_head, without_skip, without_none, among-without_same}
 use Rattle.hm_slab_lists.proofs.Tables.{gone_stays, placed_stays}
 use Rattle.hm_class.specs.Kept.{IsFull, AreFull}
 use Rattle.hm_class.specs.Slabs.{list_of, opened_in}

@@ -6,7 +6,7 @@ use mir.Syntax.{w64}
 use Rattle.std.proofs.lemmas.Bool.{cases_eq}
 use Rattle.std.proofs.lemmas.List.{length-replicate, length-set}
 use Rattle.std.proofs.lemmas.Option.{same_Some}
-use Rattle.hm_outside.specs.PageRuns.{zeros}
+use Rattle.hm_base.specs.Lists.{zeros}
 use Rattle.hm_sizes.specs.declared.shape.Shape.{Shape}
 use Rattle.hm_sizes.specs.Shapes.{IsShape, place, after, usable}
 use Rattle.hm_model.specs.Maps.{among, at, has, put, removed}

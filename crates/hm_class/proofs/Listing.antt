@@ -7,11 +7,11 @@ use Rattle.std.proofs.lemmas.Option.{same_Some}
 use Rattle.hm_class_rules.specs.Kinds.{Kind, Partial, Empty, Neither}
 use Rattle.hm_slab_lists.specs.declared.slab.ListName.{ListName}
 use Rattle.hm_slab_lists.specs.declared.slab.ListName.TheVariants as name
-use Rattle.hm_outside.specs.Members.{among}
+use Rattle.hm_base.specs.Members.{among}
 use Rattle.hm_slab_lists.specs.Lists.{Lists, is_open_in, list_in, gone, headed, placed}
 use Rattle.hm_sizes.specs.Guards.{is_guard, after}
 use Rattle.hm_slab_lists.specs.Table.{Table, is_open, opened_fresh, opened_retired, settled, settled_by, unparked, retired}
-use Rattle.hm_outside.proofs.Members.{among_head, among-without_same}
+use Rattle.hm_base.proofs.Members.{among_head, among-without_same}
 use Rattle.hm_slab_lists.proofs.Tables.{Stays, gone_stays, headed_stays, both_stay, placed_stays}
 use Rattle.hm_slab_meta.specs.Uses as meta
 use Rattle.hm_slab_meta.specs.Uses.{Never}

@@ -8,7 +8,8 @@ use Rattle.std.proofs.lemmas.Bool.{cases_eq, cases_lt}
 use Rattle.std.proofs.lemmas.Bool.Decides.{nat_tests}
 use Rattle.std.proofs.lemmas.List.{length-replicate}
 use Rattle.std.proofs.lemmas.Option.{none-some, same_Some}
-use Rattle.hm_outside.specs.PageRuns.{PageRuns, MeetsNone, IsRun, IsHeld, Reads, Writes, written, zeros}
+use Rattle.hm_base.specs.Lists.{written, zeros}
+use Rattle.hm_outside.specs.PageRuns.{PageRuns, MeetsNone, IsRun, IsHeld, Reads, Writes}
 use Rattle.hm_sizes.specs.declared.shape.Shape.{Shape}
 use Rattle.hm_sizes.specs.Shapes.{IsShape, slab_at, has_bytes}
 use Rattle.hm_model.specs.Maps.{at, has, put, removed}

@@ -7,7 +7,8 @@ use Rattle.std.proofs.lemmas.Option.{none-some, same_Some}
 use Rattle.hm_choice.specs.Stream.{Words, next_word}
 use Rattle.hm_quarantine.specs.Quarantine.{Kept, let_go}
 use Rattle.hm_outside.specs.declared.pages.Pages as pages
-use Rattle.hm_outside.specs.PageRuns.{PageRuns, IsHeld, zeros}
+use Rattle.hm_base.specs.Lists.{zeros}
+use Rattle.hm_outside.specs.PageRuns.{PageRuns, IsHeld}
 use Rattle.hm_model.specs.Maps.{among}
 use Rattle.hm_model.proofs.Lists.{times_among}
 use Rattle.hm_model.specs.declared.entry.Entry.{Entry}

@@ -1,7 +1,8 @@
 -- A slot that was picked, given or condemned, after which its slab went to the list of its kind.
 use Rattle.std.proofs.Common.{◌≡◌, ◌≢◌, ℕ, true, Some, sym, ◌∙◌, ap, refl}
-use Rattle.hm_choice.specs.Stream.{Words, next_word, after_word, drawn}
+use Rattle.hm_choice.specs.Stream.{Words}
 use Rattle.hm_outside.specs.declared.pages.Pages as pages
+use Rattle.hm_sizes.specs.declared.config.Config.{Config}
 use Rattle.hm_sizes.specs.declared.shape.Shape.{Shape}
 use Rattle.hm_slab_lists.specs.Lists.{Lists, placed}
 use Rattle.hm_class.specs.declared.outcome.Outcome.{Outcome}
@@ -11,17 +12,17 @@ use Rattle.hm_slab_meta.specs.Uses.{SlotUse, Live, Condemned, was_given}
 use Rattle.hm_class.specs.Uses.{Uses, passes_at, kind_at, slab_in, open_at, first_at, with_slot, with_use}
 use Rattle.hm_class.proofs.Used.{open_changed, open_there, slab_beside}
 use Rattle.hm_class.specs.Gives.{Gives}
-use Rattle.hm_class.specs.Finds.{Serve, slot_in}
+use Rattle.hm_class.specs.Finds.{Serve, slot_in, start_from, start_stream}
 
-module _ {P : Type 0} (meaning : pages.Ghosts P) (p : Shape) (n : ℕ) (old mid new : Slabs) (before now : P) (stream stream' : Words) (index : ℕ)
+module _ {P : Type 0} (meaning : pages.Ghosts P) (c : Config) (p : Shape) (n : ℕ) (old mid new : Slabs) (before now : P) (stream stream' : Words) (index : ℕ)
     (same : SameLists old mid) (moved : SameSlots mid new) (lists : new.lists ≡ placed (list_of (kind_at mid.slabs n)) n mid.lists) where
-  gives_on : (o : Outcome) → Gives meaning p old mid before now (slot_in n index) o → Gives meaning p old new before now (slot_in n index) o
+  gives_on : (o : Outcome) → Gives meaning c p old mid before now (slot_in n index) o → Gives meaning c p old new before now (slot_in n index) o
   gives_on (outcome.Given a size) g = record { addr_is = g.addr_is; size_is = g.size_is; clean = g.clean; slabs = moved.slabs ∙ g.slabs; written = g.written }
   gives_on (outcome.Overwritten a at found) g = record { addr_is = g.addr_is; stained = g.stained; slabs = moved.slabs ∙ g.slabs; same = g.same }
   gives_on other g = absurd g
 
-  pub serve_of : (o : Outcome) → first_at old.slabs n (drawn p.slots (next_word stream)) ≡ Some index → Gives meaning p old mid before now (slot_in n index) o
-      → stream' ≡ after_word stream → Serve meaning old new before now stream stream' p n o
+  pub serve_of : (o : Outcome) → first_at old.slabs n (start_from c p stream) ≡ Some index → Gives meaning c p old mid before now (slot_in n index) o
+      → stream' ≡ start_stream c stream → Serve meaning old new before now stream stream' c p n o
   serve_of o first g taken = record {
     index = index;
     first = first;
@@ -34,31 +35,31 @@ module _ {P : Type 0} (meaning : pages.Ghosts P) (p : Shape) (n : ℕ) (old mid 
   }
 
 -- the slab stays open
-pub given_open : {P : Type 0} (meaning : pages.Ghosts P) (p : Shape) (n i : ℕ) (old new : Slabs) (before now : P) (o : Outcome) → Gives meaning p old new before now (slot_in n i) o
+pub given_open : {P : Type 0} (meaning : pages.Ghosts P) (c : Config) (p : Shape) (n i : ℕ) (old new : Slabs) (before now : P) (o : Outcome) → Gives meaning c p old new before now (slot_in n i) o
     → open_at old.slabs n ≡ true → open_at new.slabs n ≡ true
-given_open meaning p n i old new before now o g on = of o g
+given_open meaning c p n i old new before now o g on = of o g
   where
     here : (u : SlotUse) → new.slabs ≡ with_use old.slabs n i u → open_at new.slabs n ≡ true
     here u is =
         let b = open_there old.slabs n on in
         ap (λ (l : Uses). open_at l n) is ∙ open_changed old.slabs n (with_slot i u) b.0 b.1 refl ∙ on
 
-    of : (o : Outcome) → Gives meaning p old new before now (slot_in n i) o → open_at new.slabs n ≡ true
+    of : (o : Outcome) → Gives meaning c p old new before now (slot_in n i) o → open_at new.slabs n ≡ true
     of (outcome.Given a size) g = here Live g.slabs
     of (outcome.Overwritten a at found) g = here (Condemned (passes_at was_given old.slabs n i)) g.slabs
     of other g = absurd g
 
 -- the other slabs stay as they are
-pub given_beside : {P : Type 0} (meaning : pages.Ghosts P) (p : Shape) (n i : ℕ) (old new : Slabs) (before now : P) (o : Outcome) → Gives meaning p old new before now (slot_in n i) o
+pub given_beside : {P : Type 0} (meaning : pages.Ghosts P) (c : Config) (p : Shape) (n i : ℕ) (old new : Slabs) (before now : P) (o : Outcome) → Gives meaning c p old new before now (slot_in n i) o
     → open_at old.slabs n ≡ true → (m : ℕ) → m ≢ n → slab_in new.slabs m ≡ slab_in old.slabs m
-given_beside meaning p n i old new before now o g on m ne = of o g
+given_beside meaning c p n i old new before now o g on m ne = of o g
   where
     here : (u : SlotUse) → new.slabs ≡ with_use old.slabs n i u → slab_in new.slabs m ≡ slab_in old.slabs m
     here u is =
         let b = open_there old.slabs n on in
         ap (λ (l : Uses). slab_in l m) is ∙ slab_beside old.slabs n (with_slot i u) b.0 b.1 m ne
 
-    of : (o : Outcome) → Gives meaning p old new before now (slot_in n i) o → slab_in new.slabs m ≡ slab_in old.slabs m
+    of : (o : Outcome) → Gives meaning c p old new before now (slot_in n i) o → slab_in new.slabs m ≡ slab_in old.slabs m
     of (outcome.Given a size) g = here Live g.slabs
     of (outcome.Overwritten a at found) g = here (Condemned (passes_at was_given old.slabs n i)) g.slabs
     of other g = absurd g

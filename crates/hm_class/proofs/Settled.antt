@@ -5,7 +5,8 @@ use Rattle.std.proofs.lemmas.Option.{none-some, same_Some, slice_get_within}
 use Rattle.hm_choice.specs.Stream.{Words, next_word, drawn}
 use Rattle.hm_quarantine.specs.Quarantine.{Kept, let_go, kept_with}
 use Rattle.hm_outside.specs.declared.pages.Pages as pages
-use Rattle.hm_outside.specs.PageRuns.{PageRuns, zeros}
+use Rattle.hm_base.specs.Lists.{zeros}
+use Rattle.hm_outside.specs.PageRuns.{PageRuns}
 use Rattle.hm_model.specs.Maps.{among, at, removed}
 use Rattle.hm_model.specs.declared.entry.Entry.{Entry}
 use Rattle.hm_model.specs.declared.entry.Who.{Who}

@@ -1,6 +1,7 @@
 -- A slot was picked: the entry of an allotment is allowed, its choices are drawn, and what is kept follows.
 use Rattle.std.proofs.Common.{◌≡◌, ℕ, ◌+◌, ◌-◌, ◌<◌, ◌≤◌, Bool, true, false, IsTrue, cond, List, [], ◌∷◌, ◌++◌, length, Option, Some, None, sym, ◌∙◌, ap, subst, refl, arith}
 use Rattle.std.specs.Option.{option_map_or}
+use Rattle.std.proofs.lemmas.Option.{none-some}
 use Rattle.std.specs.Int.{to_le_bytes}
 use mir.Syntax.{w64}
 use Rattle.hm_choice.specs.Stream.{Words}
@@ -50,10 +51,6 @@ use Rattle.hm_class.proofs.Places.{slab_of_place}
 use Rattle.hm_class.proofs.Used.{found, counted}
 use Rattle.hm_class.proofs.Entries.{pushed}
 
--- where reuse is checked, what it finds
-finds_is : (c : Config) (p : Shape) (s : State) (a : ℕ) (found : Option (ℕ × ℕ)) → c.check_reuse ≡ true → first_nonzero (usable_bytes p s a) ≡ found → reuse_finds c p s a ≡ found
-finds_is c p s a found checks is = ap (λ (b : Bool). cond b (first_nonzero (usable_bytes p s a)) None) checks ∙ is
-
 -- where there are no usable bytes none is found
 no_usable : (p : Shape) (s : State) (a : ℕ) → has_bytes p ≡ false → first_nonzero (usable_bytes p s a) ≡ None
 no_usable p s a off =
@@ -63,13 +60,25 @@ no_usable p s a off =
 -- ---- what is found, and what is written
 module _ {P : Type 0} (meaning : pages.Ghosts P) (p : Shape) (all : Uses) (s : State) (n i : ℕ) (mid now : P) (told : Bool) (tell : IsTrue told → IsTrue (meaning.told mid))
     (shape : IsShape p) (on : is_open s n ≡ true) (lt : i < p.slots) (shows : Shows p all s) (slabs : IsTrue told → HoldsSlabs p s.opens (meaning.runs mid)) where
-  pub found_told : (a : ℕ) (found : Option (ℕ × ℕ)) → a ≡ place p n i → Stains meaning p mid a found → IsTrue told → first_nonzero (usable_bytes p s a) ≡ found
-  found_told a found is stains t = of (has_bytes p) refl
+  pub found_told : (c : Config) (a : ℕ) (found : Option (ℕ × ℕ)) → a ≡ place p n i → Stains meaning c p mid a found → IsTrue told → reuse_finds c p s a ≡ found
+  found_told c a found is stains t = checked c.check_reuse refl
     where
-      of : (own : Bool) → has_bytes p ≡ own → first_nonzero (usable_bytes p s a) ≡ found
-      of true own = ap (λ (x : ℕ). first_nonzero (usable_bytes p s x)) is ∙ first_found p s n i (meaning.runs mid) found shape own on lt (slabs t)
-          (subst (λ (x : ℕ). IsHeld (meaning.runs mid) x (usable p) → (slice : List ℕ) × Reads (meaning.runs mid) x (usable p) slice × (found ≡ first_nonzero slice)) is (stains.some own (tell t)))
-      of false off = no_usable p s a off ∙ sym (stains.none off)
+      of : (own : Bool) → c.check_reuse ≡ true → has_bytes p ≡ own → first_nonzero (usable_bytes p s a) ≡ found
+      of true checks own = ap (λ (x : ℕ). first_nonzero (usable_bytes p s x)) is ∙ first_found p s n i (meaning.runs mid) found shape own on lt (slabs t)
+          (subst (λ (x : ℕ). IsHeld (meaning.runs mid) x (usable p) → (slice : List ℕ) × Reads (meaning.runs mid) x (usable p) slice × (found ≡ first_nonzero slice)) is (stains.some checks own (tell t)))
+      of false checks off = no_usable p s a off ∙ sym (stains.none off)
+
+      checked : (checks : Bool) → c.check_reuse ≡ checks → cond checks (first_nonzero (usable_bytes p s a)) None ≡ found
+      checked true checks = of (has_bytes p) checks refl
+      checked false unchecked = sym (stains.unchecked unchecked)
+
+  -- where something is found, reuse is checked
+  pub is_checked : (c : Config) (a : ℕ) (found : ℕ × ℕ) → Stains meaning c p mid a (Some found) → c.check_reuse ≡ true
+  is_checked c a found stains = of c.check_reuse refl
+    where
+      of : (checks : Bool) → c.check_reuse ≡ checks → c.check_reuse ≡ true
+      of true checks = checks
+      of false unchecked = absurd (none-some found (sym (stains.unchecked unchecked)))
 
   -- the pages with the slot's canary
   pub given_slabs : (a asked : ℕ) → a ≡ place p n i → Seals meaning p mid now a (canary_at all n) → IsTrue told → HoldsSlabs p (gives p (place p n i) asked s).opens (meaning.runs now)
@@ -116,7 +125,7 @@ module _ (told : Bool) (runs : PageRuns) (faults : ℕ) (c : Config) (number are
     abbrev then : State
     then = opened p choices.opened choices.canary (state (terms_of told c p) es)
 
-    pub kept_gives : (o : Outcome) → Gives meaning p k₁ k' mid now (slot_in n i) o
+    pub kept_gives : (o : Outcome) → Gives meaning c p k₁ k' mid now (slot_in n i) o
         → IsKept told (meaning.runs now) f' (identity c number arena p) (es ++ entry_of who (Allot asked 1) (reply_of o) choices draws f f' ∷ []) (store k' stream' quarantine parking)
     kept_gives (outcome.Given a size) g =
         let t : Terms = terms_of told c p in
@@ -129,7 +138,7 @@ module _ (told : Bool) (runs : PageRuns) (faults : ℕ) (c : Config) (number are
         subst (λ (x : ℕ). IsKept told (meaning.runs now) f' (identity c number arena p) (es ++ entry_of who (Allot asked 1) (reply.Given x size) choices draws f f' ∷ []) (store k' stream' quarantine parking)) (sym g.addr_is)
         (pushed told runs faults c number arena p es k stream quarantine parking kept (meaning.runs now) f' k' stream' quarantine parking e
         (allowed_of t (state t es) who (Allot asked 1) (reply.Given q size) choices draws f f' are (asks, refl) (is ∙ kept.count) later
-        (picks, g.size_is, λ y. finds_is c p then q None kept.served.valid.reuse (ap (λ (x : ℕ). first_nonzero (usable_bytes p then x)) (sym g.addr_is) ∙ found_told meaning p k₁.slabs then n i mid now told tell kept.served.shape on lt shows slabs a None g.addr_is g.clean y)))
+        (picks, g.size_is, λ y. ap (λ (x : ℕ). reuse_finds c p then x) (sym g.addr_is) ∙ found_told meaning p k₁.slabs then n i mid now told tell kept.served.shape on lt shows slabs c a None g.addr_is g.clean y))
         (stepped (reply.Given q size) refl) refl
         (record {
           shows = shows';
@@ -152,8 +161,11 @@ module _ (told : Bool) (runs : PageRuns) (faults : ℕ) (c : Config) (number are
         (subst (λ (u : Uses). Shows p u (condemns q then)) (sym items) (shows_condemned p k₁.slabs then n i b v kept.served.shape lt is_slab was shows free)) in
         subst (λ (x : ℕ). IsKept told (meaning.runs now) f' (identity c number arena p) (es ++ entry_of who (Allot asked 1) (reply.Overwritten x at found) choices draws f f' ∷ []) (store k' stream' quarantine parking)) (sym g.addr_is)
         (pushed told runs faults c number arena p es k stream quarantine parking kept (meaning.runs now) f' k' stream' quarantine parking e
-        (allowed_of t (state t es) who (Allot asked 1) (reply.Overwritten q at found) choices draws f f' are (asks, refl) (is ∙ kept.count) later
-        (picks, kept.served.valid.reuse, λ y. finds_is c p then q (Some (at, found)) kept.served.valid.reuse (ap (λ (x : ℕ). first_nonzero (usable_bytes p then x)) (sym g.addr_is) ∙ found_told meaning p k₁.slabs then n i mid now told tell kept.served.shape on lt shows slabs a (Some (at, found)) g.addr_is g.stained y)))
+        (allowed_of t (state t es) who (Allot asked 1) (reply.Overwritten q at found) choices draws f f' are (asks, refl) (is ∙ kept.count) later (
+          picks,
+          is_checked meaning p k₁.slabs then n i mid now told tell kept.served.shape on lt shows slabs c a (at, found) g.stained,
+          λ y. ap (λ (x : ℕ). reuse_finds c p then x) (sym g.addr_is) ∙ found_told meaning p k₁.slabs then n i mid now told tell kept.served.shape on lt shows slabs c a (Some (at, found)) g.addr_is g.stained y,
+        ))
         (stepped (reply.Overwritten q at found) refl) refl
         (record {
           shows = shows';

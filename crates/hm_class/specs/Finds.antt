@@ -3,7 +3,9 @@ use Rattle.std.specs.Prelude.{◌≡◌, ℕ, ◌<◌, ◌≤◌, true, false, I
 use Rattle.std.specs.FinMap as map
 use Rattle.hm_choice.specs.Stream.{Words, next_word, after_word, canary_of, drawn}
 use Rattle.hm_outside.specs.declared.pages.Pages as pages
-use Rattle.hm_outside.specs.PageRuns.{PageRuns, zeros}
+use Rattle.hm_base.specs.Lists.{zeros}
+use Rattle.hm_outside.specs.PageRuns.{PageRuns}
+use Rattle.hm_sizes.specs.declared.config.Config.{Config}
 use Rattle.hm_sizes.specs.declared.shape.Shape.{Shape}
 use Rattle.hm_sizes.specs.Shapes.{slab_at, has_bytes}
 use Rattle.hm_slab_lists.specs.Lists.{placed}
@@ -16,7 +18,7 @@ use Rattle.hm_class.specs.declared.outcome.Outcome.TheVariants as outcome
 use Rattle.hm_class.specs.Slabs.{Slabs, SameLists, taken_of, list_of, opened_lists}
 use Rattle.hm_class.specs.declared.slabs.Slot.{Slot}
 use Rattle.hm_class.specs.declared.slabs.Source.TheVariants as from
-use Rattle.hm_model.specs.Calls.{no_choices, one_word}
+use Rattle.hm_model.specs.Calls.{no_choices}
 use Rattle.hm_class.specs.Gives.{Gives}
 use Rattle.hm_class.specs.Outcomes.{plain, canary_value, chose_opened, start_draws}
 use Rattle.hm_class.specs.Sources.{Sources}
@@ -65,6 +67,17 @@ CanServe p k (next.New n canary) = CanPick p k n
 CanServe p k next.Exhausted = ⊤
 CanServe p k next.PagesFailed = ⊤
 
+-- the word that draws the slot at which the search begins, where slots are random; that slot, which else is the first;
+-- and the stream after it
+abbrev pub start_word : Config → Words → Option ℕ
+start_word c stream = if c.random_slots then Some (next_word stream) else None
+
+abbrev pub start_from : Config → Shape → Words → ℕ
+start_from c p stream = if c.random_slots then drawn p.slots (next_word stream) else 0
+
+abbrev pub start_stream : Config → Words → Words
+start_stream c stream = if c.random_slots then after_word stream else stream
+
 abbrev pub slot_in : ℕ → ℕ → Slot
 slot_in n i = record { slab = n; index = i }
 
@@ -100,20 +113,23 @@ module _ {P : Type 0} (meaning : pages.Ghosts P) (old new : Slabs) (before now :
     Finds next.PagesFailed = (n : ℕ) × Sources old (from.New n) × KeepsRuns × (has_bytes p ≡ true)
         × (meaning.faults before < meaning.faults now)
 
-    -- a slot of slab n was picked by the next word, and given or condemned; the slab went to the list of its kind
+  module _ (c : Config) (p : Shape) where
+    -- the first available slot of slab n from the start was picked, and given or condemned; the slab went to the list of
+    -- its kind
     pub record Serve (n : ℕ) (o : Outcome) : Type 0 where
       pub index : ℕ
-      pub first : first_at old.slabs n (drawn p.slots (next_word stream)) ≡ Some index
-      pub gives : Gives meaning p old new before now (slot_in n index) o
+      pub first : first_at old.slabs n (start_from c p stream) ≡ Some index
+      pub gives : Gives meaning c p old new before now (slot_in n index) o
       pub lists : new.lists ≡ placed (list_of (kind_at new.slabs n)) n old.lists
       pub parking : new.parking ≡ old.parking
       pub numbers : new.numbers ≡ old.numbers
-      pub stream_is : stream' ≡ after_word stream
+      pub stream_is : stream' ≡ start_stream c stream
 
     -- where there is no slab all stays
     abbrev pub Serves : NextSlab → Event → Type 0
-    Serves (next.Open n) e = Serve n e.outcome × (e.choices ≡ no_choices) × (e.draws ≡ one_word (next_word stream))
+    Serves (next.Open n) e = Serve n e.outcome × (e.choices ≡ no_choices)
+        × (e.draws ≡ start_draws None (start_word c stream))
     Serves (next.New n canary) e = Serve n e.outcome × (e.choices ≡ chose_opened n canary)
-        × (e.draws ≡ start_draws canary (next_word stream))
+        × (e.draws ≡ start_draws canary (start_word c stream))
     Serves next.Exhausted e = (e ≡ plain outcome.Exhausted) × KeepsRuns
     Serves next.PagesFailed e = (e ≡ plain outcome.PagesFailed) × KeepsRuns

@@ -3,7 +3,8 @@ use Rattle.std.specs.Prelude.{◌≡◌, ℕ, ◌+◌, ◌*◌, ◌<◌, ◌≤�
 use Rattle.std.specs.FinMap as map
 use Rattle.hm_choice.specs.Stream.{Words, next_word, after_word, drawn}
 use Rattle.hm_outside.specs.declared.pages.Pages as pages
-use Rattle.hm_outside.specs.PageRuns.{PageRuns, IsHeld, IsRun, Writes, zeros}
+use Rattle.hm_base.specs.Lists.{zeros}
+use Rattle.hm_outside.specs.PageRuns.{PageRuns, IsHeld, IsRun, Writes}
 use Rattle.hm_sizes.specs.declared.shape.Shape.{Shape}
 use Rattle.hm_sizes.specs.Shapes.{slab_at, slab_of, slot_of, has_bytes, usable}
 use Rattle.hm_class_rules.specs.Kinds.{Empty, same_kind}

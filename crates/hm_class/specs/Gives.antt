@@ -4,6 +4,7 @@ use Rattle.std.specs.Int.{to_le_bytes}
 use mir.Syntax.{w64}
 use Rattle.hm_outside.specs.declared.pages.Pages as pages
 use Rattle.hm_outside.specs.PageRuns.{IsHeld, Reads, Writes}
+use Rattle.hm_sizes.specs.declared.config.Config.{Config}
 use Rattle.hm_sizes.specs.declared.shape.Shape.{Shape}
 use Rattle.hm_sizes.specs.Shapes.{place, usable, has_bytes}
 use Rattle.hm_class_rules.specs.Bytes.{first_nonzero}
@@ -15,10 +16,12 @@ use Rattle.hm_class.specs.declared.slabs.Slot.{Slot}
 use Rattle.hm_class.specs.Uses.{passes_at, canary_at, with_use}
 
 module _ {P : Type 0} (meaning : pages.Ghosts P) where
-  -- what is found among the usable bytes of the slot at a, where slots have bytes
-  pub record Stains (p : Shape) (pages : P) (a : ℕ) (found : Option (ℕ × ℕ)) : Type 0 where
+  -- what is found among the usable bytes of the slot at a, where reuse is checked and slots have bytes
+  pub record Stains (c : Config) (p : Shape) (pages : P) (a : ℕ) (found : Option (ℕ × ℕ)) : Type 0 where
+    pub unchecked : c.check_reuse ≡ false → found ≡ None
     pub none : has_bytes p ≡ false → found ≡ None
-    pub some : has_bytes p ≡ true → IsTrue (meaning.told pages) → IsHeld (meaning.runs pages) a (usable p)
+    pub some : c.check_reuse ≡ true → has_bytes p ≡ true → IsTrue (meaning.told pages)
+        → IsHeld (meaning.runs pages) a (usable p)
         → (slice : List ℕ) × Reads (meaning.runs pages) a (usable p) slice × (found ≡ first_nonzero slice)
 
   -- the canary was set behind them
@@ -28,23 +31,24 @@ module _ {P : Type 0} (meaning : pages.Ghosts P) where
         → Writes (meaning.runs before) (a + usable p) 8 (to_le_bytes w64 canary) (meaning.runs now)
 
 -- what was and what is: the slabs and the pages, before and after slot s was given, or condemned
-module _ {P : Type 0} (meaning : pages.Ghosts P) (p : Shape) (old new : Slabs) (before now : P) (s : Slot) where
-  -- all usable bytes are zero; the slot becomes live, and its last 8 bytes the canary
-  pub record GivesSlot (a size : ℕ) : Type 0 where
-    pub addr_is : a ≡ place p s.slab s.index
-    pub size_is : size ≡ usable p
-    pub clean : Stains meaning p before a None
-    pub slabs : new.slabs ≡ with_use old.slabs s.slab s.index Live
-    pub written : Seals meaning p before now a (canary_at old.slabs s.slab)
+module _ {P : Type 0} (meaning : pages.Ghosts P) (c : Config) (p : Shape) (old new : Slabs) (before now : P) (s : Slot)
+  where
+    -- nothing is found; the slot becomes live, and its last 8 bytes the canary
+    pub record GivesSlot (a size : ℕ) : Type 0 where
+      pub addr_is : a ≡ place p s.slab s.index
+      pub size_is : size ≡ usable p
+      pub clean : Stains meaning c p before a None
+      pub slabs : new.slabs ≡ with_use old.slabs s.slab s.index Live
+      pub written : Seals meaning p before now a (canary_at old.slabs s.slab)
 
-  -- a usable byte is not zero; the slot is condemned
-  pub record CondemnsSlot (a at found : ℕ) : Type 0 where
-    pub addr_is : a ≡ place p s.slab s.index
-    pub stained : Stains meaning p before a (Some (at, found))
-    pub slabs : new.slabs ≡ with_use old.slabs s.slab s.index (Condemned (passes_at was_given old.slabs s.slab s.index))
-    pub same : IsTrue (meaning.told before) → meaning.runs now ≡ meaning.runs before
+    -- a usable byte that is not zero is found; the slot is condemned
+    pub record CondemnsSlot (a at found : ℕ) : Type 0 where
+      pub addr_is : a ≡ place p s.slab s.index
+      pub stained : Stains meaning c p before a (Some (at, found))
+      pub slabs : new.slabs ≡ with_use old.slabs s.slab s.index (Condemned (passes_at was_given old.slabs s.slab s.index))
+      pub same : IsTrue (meaning.told before) → meaning.runs now ≡ meaning.runs before
 
-  abbrev pub Gives : Outcome → Type 0
-  Gives (outcome.Given a size) = GivesSlot a size
-  Gives (outcome.Overwritten a at found) = CondemnsSlot a at found
-  Gives other = ⊥
+    abbrev pub Gives : Outcome → Type 0
+    Gives (outcome.Given a size) = GivesSlot a size
+    Gives (outcome.Overwritten a at found) = CondemnsSlot a at found
+    Gives other = ⊥

@@ -39,10 +39,12 @@ canary_value canary = option_map (λ (c : Canary). c.canary) canary
 abbrev pub chose_opened : ℕ → Option Canary → Choices
 chose_opened n canary = record no_choices { canary = canary_value canary; opened = Some n }
 
--- the words of the canary, and the start slot's
-abbrev pub start_draws : Option Canary → ℕ → Draws
-start_draws None word = one_word word
-start_draws (Some c) word = record { used = 3; w0 = c.low; w1 = c.high; w2 = word }
+-- the words of the canary, and the start slot's, each where it is drawn
+abbrev pub start_draws : Option Canary → Option ℕ → Draws
+start_draws None None = no_words
+start_draws None (Some word) = one_word word
+start_draws (Some c) None = record { used = 2; w0 = c.low; w1 = c.high; w2 = 0 }
+start_draws (Some c) (Some word) = record { used = 3; w0 = c.low; w1 = c.high; w2 = word }
 
 -- ---- a block was taken back
 -- what is chosen

@@ -56,13 +56,20 @@ pub enum Emptied {
 }
 
 /// The words that are drawn as a slot is picked: those of the canary of a slab that is opened for it, and
-/// the start slot's.
-pub fn start_draws(canary: Option<Canary>, word: u32) -> Draws
+/// the start slot's, where slots are random.
+pub fn start_draws(canary: Option<Canary>, word: Option<u32>) -> Draws
     ensures { result ≡ start_draws canary word }
 {
-    match canary {
-        None => Draws::one(word),
-        Some(canary) => Draws {
+    match (canary, word) {
+        (None, None) => Draws::none(),
+        (None, Some(word)) => Draws::one(word),
+        (Some(canary), None) => Draws {
+            used: 2,
+            w0: canary.low,
+            w1: canary.high,
+            w2: 0,
+        },
+        (Some(canary), Some(word)) => Draws {
             used: 3,
             w0: canary.low,
             w1: canary.high,

@@ -9,7 +9,7 @@ ghost use Rattle.hm_class.specs.Slabs.{HasRoom, no_slabs, with_spare, taken_of, 
 ghost use Rattle.hm_class.specs.Sources.{IsAvailable, IsWithin, AreWhole, Sources, Judges};
 ghost use Rattle.hm_class.specs.Uses.{numbers_of, slab_in, open_at, kind_at, use_at, passes_at, lives, canary_at, first_at, with_use, with_condemned, with_open, with_canary_at, live_count};
 
-use hm_outside::NoMemory;
+use hm_base::NoMemory;
 use hm_sizes::{Shape, place_of};
 use hm_slab_lists::{Place, SlabLists};
 use hm_slab_meta::SlotState;

@@ -8,7 +8,7 @@ use Rattle.hm_sizes.specs.Shapes.{IsShape}
 use Rattle.hm_class_rules.specs.Rules.{IsLegal}
 use Rattle.hm_class_rules.specs.Drawn.{IsDrawn, AreDrawn}
 use Rattle.hm_class_rules.specs.Stepped.{first_cells, next, IsSteppedEntry}
-use Rattle.hm_class_rules.specs.DrawnExamples.{first_region, first_entries, canary_zero, first_slot, paired, latest_source, earlier_source, undrawn, first_slots, waiting_room, oldest_released, parked, same_place, parked_later, second_word}
+use Rattle.hm_class_rules.specs.DrawnExamples.{first_region, first_entries, canary_zero, first_slot, light_region, light_entries, paired, latest_source, earlier_source, undrawn, first_slots, waiting_room, oldest_released, parked, same_place, parked_later, second_word}
 use Rattle.hm_class_rules.proofs.Alike.{stepped_drawn}
 use Rattle.std.proofs.lemmas.Option.{same_Some}
 
@@ -31,6 +31,39 @@ zero_not_drawn h = omega (arith, h.choices.0.choices.picked.canary)
 
 pub slot_not_drawn : IsDrawn 0 0 first_region first_slot → ⊥
 slot_not_drawn h = omega (arith, same_Some _ _ h.choices.0.choices.picked.place)
+
+light_shape : IsShape light_region.shape
+light_shape = record { class_below = lit< tt; slots_some = lit≤ tt; slots_most = lit≤ tt; slot_least = lit≤ tt; slots_fit = lit≤ tt; slab_pages = refl; slab_most = lit≤ tt; first_pages = refl; first_least = lit≤ tt; space = lit≤ tt; limit_most = lit≤ tt; guards_some = lit≤ tt; guards_most = lit≤ tt }
+
+light_steps : Legal (next light_region) (IsSteppedEntry light_region) (first_cells 0 0 light_region) light_entries
+unfolding u32_at block_word double_rounds diagonal_round quarter_round column_round count_leading_zeros
+light_steps = (
+  record { count = refl; words = refl; choices = record { picked = record { canary = refl; place = refl }; source = λ none. absurd (some_none 0 none) } },
+  (
+    record { count = refl; words = refl; choices = record { released = refl; unparked = refl } },
+    (
+      record { count = refl; words = refl; choices = tt },
+      (
+        record { count = refl; words = refl; choices = record { picked = record { canary = tt; place = refl }; source = λ none. refl } },
+        (
+          record { count = refl; words = refl; choices = tt },
+          (
+            record { count = refl; words = refl; choices = record { released = refl; unparked = refl } },
+            (record { count = refl; words = refl; choices = tt }, tt),
+          ),
+        ),
+      ),
+    ),
+  ),
+)
+
+pub light_drawn : IsLegal light_region light_entries → IsDrawn 0 0 light_region light_entries
+unfolding u32_at block_word double_rounds diagonal_round quarter_round column_round count_leading_zeros
+light_drawn legal = record {
+  shape = refl;
+  words = refl;
+  choices = stepped_drawn 0 0 light_region light_entries (lit≤ tt) light_shape legal light_steps;
+}
 
 paired_shape : IsShape paired.shape
 paired_shape = record { class_below = lit< tt; slots_some = lit≤ tt; slots_most = lit≤ tt; slot_least = lit≤ tt; slots_fit = lit≤ tt; slab_pages = refl; slab_most = lit≤ tt; first_pages = refl; first_least = lit≤ tt; space = lit≤ tt; limit_most = lit≤ tt; guards_some = lit≤ tt; guards_most = lit≤ tt }

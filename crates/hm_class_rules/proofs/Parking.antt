@@ -1,7 +1,7 @@
 -- The parking array holds just the parked slabs of a legal and drawn history.
 use Rattle.std.proofs.Common.{◌≡◌, ℕ, zero, suc, ◌+◌, ◌<◌, ◌≤◌, ◌==◌, Bool, true, cond, List, [], ◌∷◌, length, replicate, get_or, set, Option, Some, None, sym, ◌∙◌, ap, subst, refl, arith, length-set}
 use Rattle.std.proofs.lemmas.List.{length-replicate}
-use Rattle.hm_outside.specs.Members.{without_option}
+use Rattle.hm_base.specs.Members.{without_option}
 use Rattle.hm_quarantine.specs.Quarantine.{IsArrayPlace}
 use Rattle.hm_quarantine.proofs.Counts as counted
 use Rattle.hm_quarantine.proofs.Counts.{one_of, count, count_in, count_array, count_empty, count_without, self_is, count_at, count_all, count_most}

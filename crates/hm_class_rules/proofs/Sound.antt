@@ -13,7 +13,7 @@ use Rattle.hm_model.specs.Maps.{among, times, has, removed, put, keys}
 use Rattle.hm_class_rules.specs.State.{State, Slab, is_open, is_live, is_taken, is_free, is_empty, unopened}
 use Rattle.hm_sizes.specs.Shapes.{place, IsPlaceOf, IsGuard, after, usable}
 use Rattle.hm_class_rules.specs.Bytes.{write, overlaid_slabs, kept_canary}
-use Rattle.hm_outside.specs.PageRuns.{zeros}
+use Rattle.hm_base.specs.Lists.{zeros}
 use Rattle.hm_class_rules.specs.Steps.{taken_new, new_slab, opened, gives, condemns, takes_back, releases, unparks, retires}
 use Rattle.hm_sizes.specs.Shapes.{IsShape}
 use Rattle.hm_class_rules.specs.Laws.{uses, slab_uses, StandsIn, IsSound}

@@ -1,6 +1,6 @@
 -- What the frees of a legal and drawn history hold in quarantine.
 use Rattle.std.proofs.Common.{◌≡◌, ℕ, ◌+◌, ◌≤◌, ◌==◌, Bool, true, false, List, [], ◌∷◌, length, take, Option, Some, None, IfSome, sym, ◌∙◌, ap, subst, refl, arith}
-use Rattle.hm_outside.specs.Members.{without_option}
+use Rattle.hm_base.specs.Members.{without_option}
 use Rattle.hm_quarantine.specs.Quarantine.{Kept, IsArrayPlace, goes_on, let_go, kept_with}
 use Rattle.hm_quarantine.specs.LookingBack.{Free, released, ArePlaces, kept_after}
 use Rattle.hm_quarantine.specs.Delay.{slots_of, held, AreNew, IsDelayed}

@@ -5,7 +5,7 @@ use mir.Syntax.{w64}
 use Rattle.std.proofs.lemmas.Bool.{cases_eq}
 use Rattle.std.proofs.lemmas.List.{length-replicate}
 use Rattle.std.proofs.lemmas.Option.{none-some, same_Some}
-use Rattle.hm_outside.specs.PageRuns.{zeros}
+use Rattle.hm_base.specs.Lists.{zeros}
 use Rattle.hm_model.specs.declared.entry.Call.{Call}
 use Rattle.hm_model.specs.declared.entry.Call.TheVariants.{Allot, GiveBack, Fill}
 use Rattle.hm_model.specs.declared.entry.Reply.{Reply}

@@ -1,10 +1,10 @@
 -- Short histories whose choices are drawn, and some whose choices are not. The words were computed by another program.
 use Rattle.std.specs.Prelude.{ℕ, false, List, [], ◌∷◌, ◌++◌, Some, None}
 use Rattle.hm_model.specs.declared.entry.Entry.{Entry}
-use Rattle.hm_model.specs.declared.entry.Call.TheVariants.{Allot, GiveBack}
-use Rattle.hm_model.specs.declared.entry.Reply.TheVariants.{Given, DoubleFree}
+use Rattle.hm_model.specs.declared.entry.Call.TheVariants.{Allot, GiveBack, Fetch, Fill}
+use Rattle.hm_model.specs.declared.entry.Reply.TheVariants.{Given, DoubleFree, Bytes, Filled}
 use Rattle.hm_sizes.specs.declared.shape.Shape.{Shape}
-use Rattle.hm_sizes.specs.Configs.{standard}
+use Rattle.hm_sizes.specs.Configs.{standard, light}
 use Rattle.hm_model.specs.Calls.{no_choices}
 use Rattle.hm_class_rules.specs.Rules.{Terms}
 use Rattle.hm_class_rules.specs.Examples.{basic, region, entry, given, freed, opens, opens_bare, frees, retires, seven}
@@ -39,6 +39,27 @@ canary_zero = given_and_freed 1592101124736 0
 
 abbrev pub first_slot : List Entry
 first_slot = given_and_freed 1592101122048 14572588304984079872
+
+-- ---- the same region in the light configuration
+abbrev pub light_region : Terms
+light_region = record first_region {
+  config = light;
+  shape = record first_region.shape { guard_interval = 8; array = 0; ring = 0 };
+}
+
+-- the words of the canary alone are drawn; a slot leaves at its own free, and is given again with what was written
+-- to it since
+abbrev pub light_entries : List Entry
+light_entries =
+    record (entry (Allot 100 1) (Given 1592101122048 104) (opens 0 14572588304984079872)) {
+      draws = record { used = 2; w0 = 3231088256; w1 = 3392945114; w2 = 0 };
+    }
+    ∷ freed 1592101122048 (frees 1592101122048)
+    ∷ entry (Fill 1592101122048 ((65, 4) ∷ [])) Filled no_choices
+    ∷ entry (Allot 100 1) (Given 1592101122048 104) no_choices
+    ∷ entry (Fetch 1592101122048 5) (Bytes ((65, 4) ∷ (0, 1) ∷ [])) no_choices
+    ∷ freed 1592101122048 (frees 1592101122048)
+    ∷ entry (GiveBack 1592101122048 None) DoubleFree no_choices ∷ []
 
 -- ---- small regions of the run of seed 0, in arena 1
 -- what their shapes have in common

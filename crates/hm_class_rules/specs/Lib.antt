@@ -11,3 +11,4 @@ pub mod Drawn
 pub mod Stepped
 pub mod DrawnLaws
 pub mod DrawnExamples
+pub mod OneEntry

@@ -11,7 +11,7 @@ use Rattle.hm_class_rules.specs.State.{State, Slab}
 use Rattle.hm_sizes.specs.Shapes.{slab_at, after, has_bytes, usable}
 use Rattle.hm_class_rules.specs.Bytes.{write, set_canary}
 use Rattle.hm_model.specs.Runs.{expand}
-use Rattle.hm_outside.specs.PageRuns.{zeros}
+use Rattle.hm_base.specs.Lists.{zeros}
 use Rattle.hm_sizes.specs.declared.shape.Shape.{Shape}
 
 -- ---- allotting

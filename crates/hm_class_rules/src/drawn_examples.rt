@@ -2,7 +2,7 @@
 ghost use Rattle.std.specs.Prelude.{[]};
 ghost use Rattle.hm_class_rules.specs.Rules.{IsLegal};
 ghost use Rattle.hm_class_rules.specs.Drawn.{AreDrawn, IsDrawn};
-ghost use Rattle.hm_class_rules.specs.DrawnExamples.{first_region, first_entries, canary_zero, first_slot, paired, latest_source, earlier_source, undrawn, first_slots, waiting_room, oldest_released, newest_released, parked, same_place, other_place, parked_later, second_word, nothing_unparked};
+ghost use Rattle.hm_class_rules.specs.DrawnExamples.{first_region, first_entries, canary_zero, first_slot, light_region, light_entries, paired, latest_source, earlier_source, undrawn, first_slots, waiting_room, oldest_released, newest_released, parked, same_place, other_place, parked_later, second_word, nothing_unparked};
 
 /// The first entries of a region as it is, with the words of its stream; no other canary is drawn, and no
 /// other slot. A free that is refused draws nothing.
@@ -11,6 +11,13 @@ pub fn first_entries()
     ensures drawn { IsDrawn 0 0 first_region first_entries }
     ensures zero { IsDrawn 0 0 first_region canary_zero → ⊥ }
     ensures first { IsDrawn 0 0 first_region first_slot → ⊥ }
+{}
+
+/// In the light configuration a slot is given again at once, and as it is: what was written to it after its free is
+/// read. The words of the canary alone are drawn.
+pub fn light_entries()
+    ensures legal { IsLegal light_region light_entries }
+    ensures drawn { IsDrawn 0 0 light_region light_entries }
 {}
 
 /// A slot is given from the slab that became partial last, and from no other.

@@ -9,6 +9,10 @@ pub mod Allotted
 pub mod Released
 pub mod Entries
 pub mod Accessed
-pub mod Writing
+pub mod Parts
 pub mod Reached
 pub mod Zeros
+pub mod SameRuns
+pub mod SameEntry
+pub mod SizeMaps
+pub mod LiveSizes

@@ -21,12 +21,13 @@ use Rattle.hm_model.specs.Runs.{expand}
 use Rattle.hm_model.proofs.Lists.{same_eq, other_eq, eq_same}
 use Rattle.hm_model.proofs.Overlaid.{overlaid_apart, overlaid_written}
 use Rattle.hm_outside.specs.declared.pages.Pages as pages
-use Rattle.hm_outside.specs.PageRuns.{PageRuns, Reads, Writes, InNone, IsHeld, written}
+use Rattle.hm_base.specs.Lists.{written}
+use Rattle.hm_outside.specs.PageRuns.{PageRuns, Reads, Writes, InNone, IsHeld}
 use Rattle.hm_sizes.specs.declared.config.Config.{Config}
 use Rattle.hm_large.specs.declared.store.Store.{Store}
 use Rattle.hm_large.specs.declared.access.Reading.{Reading}
 use Rattle.hm_large.specs.declared.access.Reading.TheVariants as reading
-use Rattle.hm_large.specs.Access.{fetch_reply, fill_reply, IsRead}
+use Rattle.hm_large.specs.Access.{fetch_reply, fill_reply, IsRead, AreDisjoint}
 use Rattle.hm_large.specs.Blocks.{Block, Blocks, covers, covered, is_quarantined, is_owed, first_trap, bytes_read, overlay, written_over, mark}
 use Rattle.hm_large.specs.State.{State, start, step, moved, takes_back, releases, free_of}
 use Rattle.hm_large.specs.Rules.{Allowed, state}
@@ -100,6 +101,26 @@ held_by_none c s runs q len sound holds some none a x e low high =
 
 pub in_none_held : (runs : PageRuns) (q len : ℕ) → InNone runs q len → IsHeld runs q len → ⊥
 in_none_held runs q len none h = none h.0 h.1 h.2 h.3
+
+-- no two runs meet, as no two blocks do
+pub disjoint_blocks : (c : Config) (s : State) (runs : PageRuns) → IsSound c s → HoldsBlocks s.live runs → AreDisjoint runs
+disjoint_blocks c s runs sound holds p q b d first second ne =
+    let x = run_of s.live runs p b holds first in
+    let y = run_of s.live runs q d holds second in
+    let long : length b ≡ x.0.size = ap length (sym x.2) ∙ (placed_at c p x.0 s.live sound.live x.1).whole in
+    let long' : length d ≡ y.0.size = ap length (sym y.2) ∙ (placed_at c q y.0 s.live sound.live y.1).whole in
+    ⊎_elim
+    (λ (lt : p < q). ⊎_elim (λ (inside : q < p + length b). absurd (omega (arith, twice p q x.0 y.0 x.1 y.1 ne (omega arith) (omega (arith, inside, long))))) inl (cases_lt q (p + length b)))
+    (λ (ge : q ≤ p). ⊎_elim (λ (inside : p < q + length d). absurd (omega (arith, twice q p y.0 x.0 y.1 x.1 (λ e. ne (sym e)) ge (omega (arith, inside, long'))))) inr (cases_lt p (q + length d)))
+    (cases_lt p q)
+  where
+    twice : (a k : ℕ) (x y : Block) → at a s.live ≡ Some x → at k s.live ≡ Some y → (a ≡ k → ⊥) → a ≤ k → k < a + x.size → 1 ≤ 0
+    twice a k x y e f ne low high =
+        omega (
+          arith,
+          two_covered a k k x y s.live e f ne (spans_from a x.size x.guard k (omega (arith, low)) (omega (arith, high))) (covers_own c (k, y) (placed_at c k y s.live sound.live f)) (live_once c s a sound),
+          sound.once k,
+        )
 
 -- ---- writing
 at_overlaid : (q a : ℕ) (w : List ℕ) (m : Blocks) → at q (written_over a w m) ≡ option_map (λ (b : Block). (overlay a w (q, b)).1) (at q m)

@@ -5,7 +5,7 @@ use Rattle.std.specs.Bool.{MatchBool}
 use Rattle.std.specs.Option.{IfSome}
 use Rattle.std.proofs.lemmas.Bool.{cases_eq, cases_Bool}
 use Rattle.std.proofs.lemmas.Option.{same_Some}
-use Rattle.hm_outside.specs.Members.{without_option}
+use Rattle.hm_base.specs.Members.{without_option}
 use Rattle.hm_choice.specs.Stream.{Words, next_word, after_word, drawn}
 use Rattle.hm_model.specs.Maps.{at, removed, keys, among}
 use Rattle.hm_model.proofs.Lists.{same_eq, other_eq, keys_removed, has_keys}

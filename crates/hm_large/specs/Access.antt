@@ -1,8 +1,10 @@
 -- What reading and writing a range find.
-use Rattle.std.specs.Prelude.{◌≡◌, ℕ, Option, Some, None}
+use Rattle.std.specs.Prelude.{◌≡◌, ◌≢◌, ℕ, ◌+◌, ◌≤◌, ◌⊎◌, List, length, Option, Some, None}
+use Rattle.std.specs.FinMap as map
 use Rattle.hm_model.specs.declared.entry.Reply.{Reply}
 use Rattle.hm_model.specs.declared.entry.Reply.TheVariants as reply
 use Rattle.hm_model.specs.Runs.{expand}
+use Rattle.hm_outside.specs.PageRuns.{PageRuns}
 use Rattle.hm_large.specs.declared.access.Reading.{Reading}
 use Rattle.hm_large.specs.declared.access.Reading.TheVariants as reading
 use Rattle.hm_large.specs.Blocks.{Blocks, first_trap, bytes_read}
@@ -21,3 +23,8 @@ fill_reply (Some q) = reply.Trap q
 abbrev pub IsRead : Blocks → ℕ → ℕ → Reading → Type 0
 IsRead live addr len (reading.Bytes runs) = (first_trap live addr len ≡ None) × (expand runs ≡ bytes_read live addr len)
 IsRead live addr len (reading.Trap q) = first_trap live addr len ≡ Some q
+
+-- no address is in two runs
+abbrev pub AreDisjoint : PageRuns → Type 0
+AreDisjoint runs = (p q : ℕ) (b d : List ℕ) → map.get runs p ≡ Some b → map.get runs q ≡ Some d → p ≢ q
+    → (p + length b ≤ q) ⊎ (q + length d ≤ p)

@@ -3,7 +3,7 @@ use Rattle.std.specs.Prelude.{ℕ, ◌+◌, ◌-◌, ◌*◌, ◌/◌, nat_lt, n
 use Rattle.hm_choice.specs.Stream.{drawn}
 use Rattle.hm_model.specs.Overlaid.{overlaid}
 use Rattle.hm_model.specs.Ranges as ranges
-use Rattle.hm_outside.specs.PageRuns.{zeros}
+use Rattle.hm_base.specs.Lists.{zeros}
 use Rattle.hm_sizes.specs.Sizes.{raised, large_size}
 
 -- a block: the size that was asked for, its size, the pages of its guard on each side, whether a page failed as it was

@@ -10,3 +10,5 @@ pub mod BlockTable
 pub mod Kept
 pub mod Stored
 pub mod Zeroed
+pub mod OneEntry
+pub mod LiveSizes

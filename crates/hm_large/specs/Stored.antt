@@ -2,7 +2,8 @@
 use Rattle.std.specs.Prelude.{◌≡◌, ℕ, zero, suc, ◌+◌, ◌*◌, ◌-◌, ◌^◌, ◌<◌, ◌≤◌, Bool, false, IsTrue, ◌∷◌, Option, Some, None}
 use Rattle.std.specs.FinMap as map
 use Rattle.hm_outside.specs.declared.pages.Pages as pages
-use Rattle.hm_outside.specs.PageRuns.{PageRuns, zeros}
+use Rattle.hm_base.specs.Lists.{zeros}
+use Rattle.hm_outside.specs.PageRuns.{PageRuns}
 use Rattle.std.specs.Bool.{MatchBool}
 use Rattle.hm_model.specs.Maps.{at}
 use Rattle.hm_quarantine.specs.LookingBack.{released}

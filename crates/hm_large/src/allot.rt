@@ -3,7 +3,8 @@
 ghost use Rattle.std.specs.Prelude.{◌≡◌, ◌+◌, ◌-◌, ◌*◌, ◌%◌, ◌^◌, ◌<◌, ◌≤◌, ℕ, IsTrue, false, IfOk, OnOk, OnErr, Some, None};
 ghost use Rattle.std.specs.FinMap as map;
 ghost use Rattle.hm_choice.specs.Stream.{next_word, after_word};
-ghost use Rattle.hm_outside.specs.PageRuns.{MeetsNone, zeros};
+ghost use Rattle.hm_base.specs.Lists.{zeros};
+ghost use Rattle.hm_outside.specs.PageRuns.{MeetsNone};
 ghost use Rattle.hm_outside.specs.Causes.{HasRefusalCause};
 ghost use Rattle.hm_space.specs.Space.{IsFreeRange, TakesRange};
 ghost use Rattle.hm_sizes.specs.Aligned.{IsAlignment};
@@ -17,7 +18,8 @@ ghost use Rattle.hm_region_table.specs.declared.entry.Block.{Block as KeptBlock}
 
 use crate::block_table::BlockTable;
 use crate::store::{Store, span};
-use hm_outside::{NoMemory, PageRefusal, Pages};
+use hm_base::NoMemory;
+use hm_outside::{PageRefusal, Pages};
 use hm_region_table::Block as KeptBlock;
 use hm_sizes::{PAGE, large_size, raised};
 

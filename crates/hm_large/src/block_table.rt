@@ -6,7 +6,7 @@ ghost use Rattle.std.specs.BTreeMap as tree;
 ghost use Rattle.std.specs.FinMap as map;
 ghost use Rattle.hm_large.specs.BlockTable.{Updates, live_size};
 
-use hm_outside::NoMemory;
+use hm_base::NoMemory;
 use hm_region_table::{Block, RegionTable};
 use std::alloc::Global;
 use std::collections::BTreeMap;

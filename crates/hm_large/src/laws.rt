@@ -1,6 +1,8 @@
 //! Laws of legal histories of the large region. Each function does nothing: its contract is the law.
 ghost use Rattle.hm_large.specs.Laws.{Prefixes, OneMore, OneLess, Sound, Apart, Delays};
+ghost use Rattle.hm_large.specs.LiveSizes.{LiveSizes};
 ghost use Rattle.hm_large.specs.Zeroed.{Zeroed};
+ghost use Rattle.hm_large.specs.OneEntry.{OneEntry};
 
 /// What a legal history begins with is legal, and it goes on with exactly the entries that are allowed.
 pub fn legal_prefixes()
@@ -29,4 +31,15 @@ pub fn delayed_blocks()
 /// All bytes of a given block are zero.
 pub fn zeroed_blocks()
     ensures { Zeroed }
+{}
+
+/// In whatever state an entry follows from who calls, the call, the count of page faults and whether a page
+/// failed.
+pub fn one_entry()
+    ensures { OneEntry }
+{}
+
+/// What the changes of a legal history make of sizes are those of the live blocks after it.
+pub fn live_block_sizes()
+    ensures { LiveSizes }
 {}

@@ -7,14 +7,13 @@ mod access;
 mod allot;
 mod block_table;
 mod heap;
-#[cfg(test)]
-mod heap_tests;
 mod judge;
 mod laws;
-#[cfg(test)]
-mod lending_pages;
 mod release;
 mod store;
 
 pub use heap::LargeHeap;
-pub use laws::{apart_blocks, delayed_blocks, legal_prefixes, sound_blocks, zeroed_blocks};
+pub use laws::{
+    apart_blocks, delayed_blocks, legal_prefixes, live_block_sizes, one_entry, sound_blocks,
+    zeroed_blocks,
+};

@@ -8,8 +8,8 @@ ghost use Rattle.hm_large.specs.Rules.{IsCandidate, IsLeastCandidate};
 ghost use Rattle.hm_large.specs.Kept.{Shows};
 
 use crate::block_table::BlockTable;
+use hm_base::NoMemory;
 use hm_choice::Stream;
-use hm_outside::NoMemory;
 use hm_quarantine::Quarantine;
 use hm_sizes::{Config, LARGE_START, PAGE};
 use hm_space::Space;

@@ -11,18 +11,21 @@ read-requires-clause-from g c κs within = (begins_inside c.args.shape.now c.arg
 
 pub returns-in-Some-2-clause-fetched : goal.returns-in-Some-2-clause-fetched
 returns-in-Some-2-clause-fetched g c = (
-  (let long = rw c.in-Some-2.is at c.in_ok-bytes.ensures.length in long),
+  (let long = rw c.in-Some-2.is at c.in_ok-runs.ensures.length in long),
   λ told s shows h. (let none : first_trap c.args.shape.now s c.args.addr c.args.len ≡ None = trap_told c.args.shape.now c.args.slabs.now.slabs s _ c.args.addr c.args.len c.requires.shape shows h ∙ sym c.in_default.ensures in
-      (none, (let read = rw c.in-Some-2.is at (c.in_ok-bytes.ensures.bytes told s h none) in read))),
+      (none, (let read = rw c.in-Some-2.is at (c.in_ok-runs.ensures.bytes told s h none) in read))),
 )
 
 pub returns-in-None-clause-fetched : goal.returns-in-None-clause-fetched
 returns-in-None-clause-fetched g c = λ told s shows h.
     (let none : first_trap c.args.shape.now s c.args.addr c.args.len ≡ None = trap_told c.args.shape.now c.args.slabs.now.slabs s _ c.args.addr c.args.len c.requires.shape shows h ∙ sym c.in_default.ensures in
-    absurd (let read = rw c.in-None.is at (c.in_ok-bytes.ensures.bytes told s h none) in read))
+    absurd (let read = rw c.in-None.is at (c.in_ok-runs.ensures.bytes told s h none) in read))
 
 pub returns-in-Some-clause-within : goal.returns-in-Some-clause-within
 returns-in-Some-clause-within g c = trap_within c.args.shape.now c.args.slabs.now.slabs c.args.addr c.args.len _ (sym c.in-Some.ensures)
 
 pub returns-in-Some-2-clause-trap : goal.returns-in-Some-2-clause-trap
 returns-in-Some-2-clause-trap g c = sym c.in_default.ensures
+
+pub returns-in-Some-2-clause-within : goal.returns-in-Some-2-clause-within
+returns-in-Some-2-clause-within g c = (let long = rw c.in-Some-2.is at c.in_ok-runs.ensures.length in long)

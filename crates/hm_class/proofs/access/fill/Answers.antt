@@ -1,11 +1,12 @@
 use Rattle.std.proofs.Common.{◌≡◌, ◌∙◌, ℕ, List, Option, None, length, sym, ap, subst, refl, true≢false}
-use Rattle.hm_model.specs.Runs.{expand}
+use Rattle.hm_model.specs.Runs.{expand, total}
+use Rattle.hm_model.proofs.RunsOf.{length_expand}
 use Rattle.hm_sizes.specs.declared.shape.Shape.{Shape}
 use Rattle.hm_class_rules.specs.Bytes.{first_trap, write}
-use Rattle.hm_class.specs.Access.{trap_in}
+use Rattle.hm_class.specs.Access.{trap_in, HaveBytes}
 use Rattle.hm_class.specs.Region.{HoldsSlabs}
 use Rattle.hm_class.specs.Uses.{Uses}
-use Rattle.hm_class.proofs.Accessed.{trap_told, trap_within, begins_inside}
+use Rattle.hm_class.proofs.Accessed.{trap_told, trap_within, begins_inside, have_bytes}
 use Rattle.hm_class.proofs.access.fill.Goals as goal
 
 -- what was found over a range is found over as many bytes
@@ -44,10 +45,10 @@ write-requires-clause-from g c κs within =
 
 pub returns-clause-filled : goal.returns-clause-filled
 returns-clause-filled g c = λ told s shows h.
-    (let bytes : c.deref.result.now ≡ expand c.args.runs.now = c.deref.ensures.value ∙ c.in_ok-bytes.ensures in
-    let none : first_trap c.args.shape.now s c.args.addr (length (expand c.args.runs.now)) ≡ None = trap_told c.args.shape.now c.args.slabs.now.slabs s _ c.args.addr (length (expand c.args.runs.now)) c.requires.shape shows h
+    (let none : first_trap c.args.shape.now s c.args.addr (length (expand c.args.runs.now)) ≡ None = trap_told c.args.shape.now c.args.slabs.now.slabs s _ c.args.addr (length (expand c.args.runs.now)) c.requires.shape shows h
     ∙ found c.args.shape.now c.args.slabs.now.slabs c.args.addr c.len-len.result (length (expand c.args.runs.now)) _ c.len-len.ensures.bytes c.in_default.ensures in (
       none,
-      subst (λ (l : List ℕ). HoldsSlabs c.args.shape.now (write c.args.shape.now c.args.addr l s).opens (g.P.Pages.runs c.write.new.pages)) bytes
-          (c.write.ensures.written told s h (ap (λ (l : List ℕ). first_trap c.args.shape.now s c.args.addr (length l)) bytes ∙ none)),
+      subst (λ (l : List (ℕ × ℕ)). HoldsSlabs c.args.shape.now (write c.args.shape.now c.args.addr (expand l) s).opens (g.P.Pages.runs c.write.new.pages)) c.pairs.ensures
+          (c.write.ensures.written told s h (subst (λ (n : ℕ). HaveBytes c.args.shape.now s c.args.addr n) (length_expand c.args.runs.now ∙ ap total (sym c.pairs.ensures))
+          (have_bytes c.args.shape.now s (g.P.Pages.runs c.args.pages.now) c.args.addr (length (expand c.args.runs.now)) h none))),
     ))

@@ -1,4 +1,6 @@
 use Rattle.std.proofs.Common.{◌≡◌, ◌∙◌, ◌-◌, ◌+◌, ◌≤◌, ℕ, min, arith, sym, ap, refl, true≢false}
+use Rattle.hm_model.specs.Runs.{expand}
+use Rattle.hm_model.proofs.RunsOf.{length_expand}
 use Rattle.hm_class.proofs.Accessed.{piece_at, piece_held, piece_read}
 use Rattle.hm_class.proofs.access.read.Goals as goal
 
@@ -12,12 +14,12 @@ loop-at-preserved g c =
     let later : c.loop-at.at ≤ c.min-next.result = omega (arith, c.min-next.ensures, c.slab_end.ensures.later, c.loop-at-test.true) in record {
       later = omega (arith, c.loop-at.invariant.later, later);
       within = within;
-      counted = omega (arith, c.in_ok-append_range.ensures.length c.if-not-branch.false, c.loop-at.invariant.counted, c.loop-at.invariant.later, later);
+      counted = omega (arith, c.in_ok-append_range.ensures.count c.if-not-branch.false, c.loop-at.invariant.counted, c.loop-at.invariant.later, later);
       read = λ told s h none.
           (let piece = piece_at p s runs c.args.addr c.args.len c.loop-at.at c.min-next.result end c.requires.shape h none refl c.loop-at.invariant.later c.loop-at-test.true is in
           let held = piece_held p s s runs c.loop-at.at (c.min-next.result - c.loop-at.at) piece piece.byte.open_slab h in
           let got = c.in_ok-append_range.ensures.value told held in
-          got.3 ∙ piece_read p s runs c.args.addr c.loop-at.at c.min-next.result c.loop-at.bytes.items got.1 h c.loop-at.invariant.later later piece got.2 (c.loop-at.invariant.read told s h none));
+          got.3 ∙ piece_read p s runs c.args.addr c.loop-at.at c.min-next.result (expand c.loop-at.runs) got.1 h c.loop-at.invariant.later later piece got.2 (c.loop-at.invariant.read told s h none));
     }
 
 pub returns-then-not-branch-clause-bytes : goal.returns-then-not-branch-clause-bytes
@@ -30,3 +32,6 @@ returns-then-not-branch-clause-bytes g c = λ told s h none.
     let held = piece_held p s s runs c.loop-at.at (c.min-next.result - c.loop-at.at) piece piece.byte.open_slab h in
     let got = c.in_ok-append_range.ensures.value told held in
     absurd (true≢false (sym got.0 ∙ c.if-not-branch.true)))
+
+pub returns-clause-length : goal.returns-clause-length
+returns-clause-length g c = omega (arith, length_expand c.loop-at.runs, c.loop-at.invariant.counted, c.loop-at.invariant.later, c.loop-at.invariant.within, c.loop-at-test.false)

@@ -40,3 +40,6 @@ returns-clause-value g c = λ told held.
       reads_in runs c.args.addr c.args.len q b held.2 held.3,
       sym (first_none all (λ k lt. c.loop-done.invariant.zero told q b held.2 held.3 k (omega (arith, lt, c.loop-done.invariant.within, c.loop-done-test.false, length-take c.args.len (drop (c.args.addr - q) b), length-drop (c.args.addr - q) b)))),
     ))
+
+pub returns-in-Some-clause-lent : goal.returns-in-Some-clause-lent
+returns-in-Some-clause-lent g c = λ told. (c.in_ok-piece.ensures.value told).0

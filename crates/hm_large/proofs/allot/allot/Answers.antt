@@ -1,6 +1,6 @@
 use Rattle.std.proofs.Common.{ℕ, suc, Err, ◌∙◌, ap, subst, refl}
 use Rattle.std.specs.FinMap as map
-use Rattle.hm_outside.specs.PageRuns.{zeros}
+use Rattle.hm_base.specs.Lists.{zeros}
 use Rattle.hm_outside.specs.declared.pages.PageRefusal.{PageRefusal}
 use Rattle.hm_large.specs.declared.allot.Outcome.TheVariants as outcome
 use Rattle.hm_large.specs.declared.store.Store.{Store}

@@ -2,7 +2,7 @@ use Rattle.std.proofs.Common.{sym, ◌∙◌, subst}
 use Rattle.std.specs.FinMap as map
 use Rattle.std.proofs.lemmas.Option.{none-some}
 use Rattle.hm_outside.specs.PageRuns.{PageRuns, MeetsNone}
-use Rattle.hm_large.proofs.lending_pages.LendingPages.build.Goals as goal
+use Rattle.hm_large_tests.proofs.lending_pages.LendingPages.build.Goals as goal
 
 -- there is no run yet
 pub make_accessible-requires-clause-apart : goal.make_accessible-requires-clause-apart

@@ -5,9 +5,11 @@ ghost use Rattle.std.specs.Prelude.{◌≡◌, ◌≤◌, ◌<◌, IsTrue};
 ghost use Rattle.std.specs.FinMap as map;
 ghost use Rattle.hm_sizes.specs.Classes.{class_count};
 
-use crate::ClassHeap;
+use hm_base::NoMemory;
+use hm_class::ClassHeap;
+use hm_fakes::{FailingPages, PlainPages, SilentPages};
 use hm_model::{Draws, Reply, Runs, Who};
-use hm_outside::{FailingPages, NoMemory, Pages, PlainPages, SilentPages};
+use hm_outside::Pages;
 use hm_sizes::{ClassId, Config, Kind, class_of};
 use std::alloc::Global;
 use std::process::Abort;
@@ -63,6 +65,15 @@ fn region<P: Pages>(alloc: Global, class: u8, base: u32, pages: P) -> Result<Cla
     requires count { P.faults pages ≡ 0 }
 {
     region_of(alloc, 0, class, base, pages)
+}
+
+/// A region in arena 0 of run 0, in the light configuration.
+fn light_region<P: Pages>(alloc: Global, class: u8, pages: P) -> Result<ClassHeap<P>, NoMemory>
+    requires class { class < class_count }
+    requires nothing { IsTrue (P.told pages) → P.runs pages ≡ map.empty }
+    requires count { P.faults pages ≡ 0 }
+{
+    ClassHeap::build(alloc, &Config::light(), 0, 0, ClassId(class), pages)
 }
 
 /// The reply to a request, which must be one of the region's class.
@@ -358,6 +369,45 @@ fn expect_words<P: Pages>(rt: &impl Abort, region: &ClassHeap<P>) {
     assert_eq!(rt; drawn(region, 1), Some(freed));
     assert_eq!(rt; canary(region, 0), Some(14_572_588_304_984_079_872));
     assert_eq!(rt; released(region, 1), None);
+}
+
+#[test]
+fn light_block_of_run_zero(rt: HostRuntime) -> Result<(), Fail> {
+    let alloc = rt.alloc();
+    let mut region = light_region(alloc, 7, PlainPages::new(alloc))?;
+    expect_light_block(&rt, alloc, &mut region)?;
+    expect_light_words(&rt, &region);
+    Ok(())
+}
+
+/// The first slot is given, released at its own free, and given again with the byte that was written to it since.
+fn expect_light_block<P: Pages>(
+    rt: &impl Abort,
+    alloc: Global,
+    region: &mut ClassHeap<P>,
+) -> Result<(), Fail> {
+    assert_eq!(rt; one_block(region)?, FIRST);
+    stain(alloc, region, FIRST)?;
+    assert_eq!(rt; given(region, 100)?, FIRST);
+    assert_eq!(rt; two_runs(region, FIRST)?, (Some((0x41, 1)), Some((0, 4))));
+    free(region, FIRST)?;
+    assert_eq!(rt; refusal_of(region, FIRST)?, Refused::DoubleFree);
+    Ok(())
+}
+
+/// Only the canary is drawn.
+fn expect_light_words<P: Pages>(rt: &impl Abort, region: &ClassHeap<P>) {
+    let opened = Draws {
+        used: 2,
+        w0: 3_231_088_256,
+        w1: 3_392_945_114,
+        w2: 0,
+    };
+    assert_eq!(rt; drawn(region, 0), Some(opened));
+    assert_eq!(rt; released(region, 1), Some(FIRST));
+    for at in 1..7 {
+        assert_eq!(rt; drawn(region, at), Some(Draws::none()), "call {at}");
+    }
 }
 
 #[test]

@@ -3,10 +3,12 @@
 ghost use Rattle.std.specs.Prelude.{◌≡◌, ◌≤◌, ◌^◌, IsTrue};
 ghost use Rattle.std.specs.FinMap as map;
 
-use crate::LargeHeap;
 use crate::lending_pages::LendingPages;
+use hm_base::NoMemory;
+use hm_fakes::{FailingPages, PlainPages, SilentPages};
+use hm_large::LargeHeap;
 use hm_model::{Reply, Runs, Who};
-use hm_outside::{FailingPages, NoMemory, Pages, PlainPages, SilentPages};
+use hm_outside::Pages;
 use hm_sizes::{Config, LARGE_START};
 use std::alloc::Global;
 use std::process::Abort;
