@@ -1,0 +1,16 @@
+//! The sizes of blocks, published by one writer and read by others without waiting.
+#![tactic(auto)]
+
+mod entries;
+mod reader;
+mod rule;
+mod sizes;
+mod writer;
+
+pub use reader::{SizeReader, Unread};
+pub use rule::{Known, OnlyGrows};
+pub use sizes::Sizes;
+pub use writer::SizeWriter;
+
+#[cfg(test)]
+mod tests;
