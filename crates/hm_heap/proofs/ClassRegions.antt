@@ -5,7 +5,7 @@ use Rattle.std.proofs.lemmas.Nat.{div-mul-add, mod-mul-add}
 use mathlib.Core.Logic.{inl}
 use Rattle.std.specs.Box.{with_value}
 use Rattle.std.specs.Global.{Box}
-use Rattle.hm_outside.specs.declared.memory.NoMemory.{NoMemory}
+use Rattle.hm_base.specs.declared.memory.NoMemory.{NoMemory}
 use Rattle.hm_outside.specs.declared.pages.Pages as pages
 use Rattle.hm_model.specs.declared.entry.Call.{Call}
 use Rattle.hm_model.specs.declared.entry.Call.TheVariants.{Allot, GiveBack, Measure, Fetch, Fill}

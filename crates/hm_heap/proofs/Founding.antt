@@ -4,7 +4,7 @@ use Rattle.std.proofs.lemmas.Bool.{cases_lt, lt-ltb, le-ltb}
 use Rattle.std.proofs.lemmas.List.{get_or_append_left}
 use Rattle.std.proofs.Math.Seq.{get_or-append_seam}
 use mathlib.Core.Logic.{inl, inr}
-use Rattle.hm_outside.specs.declared.memory.NoMemory.{NoMemory}
+use Rattle.hm_base.specs.declared.memory.NoMemory.{NoMemory}
 use Rattle.hm_sizes.specs.declared.config.Config.{Config}
 use Rattle.hm_sizes.specs.Configs.{IsValid}
 use Rattle.hm_turn.specs.Knowledge.{Knowledge, founding}

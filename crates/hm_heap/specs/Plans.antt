@@ -1,6 +1,6 @@
 -- A call of a heap as a plan: its parts, each chosen by the replies before it, and its answer.
 use Rattle.std.specs.Prelude.{◌≡◌, ◌+◌, ℕ, Option, MatchOption, Result, Ok, Err, MatchResult}
-use Rattle.hm_outside.specs.declared.memory.NoMemory.{NoMemory}
+use Rattle.hm_base.specs.declared.memory.NoMemory.{NoMemory}
 use Rattle.hm_model.specs.declared.answer.Answer.{Answer}
 use Rattle.hm_model.specs.declared.answer.Answer.TheVariants.{Busy}
 use Rattle.hm_model.specs.declared.entry.Call.{Call}

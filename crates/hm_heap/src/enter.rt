@@ -8,8 +8,9 @@ ghost use Rattle.hm_heap.specs.Called.{Called, Tried};
 use crate::region::Region;
 use crate::request::Request;
 use core::mem::replace_with;
+use hm_base::{NoMemory, RegionId};
 use hm_model::{Reply, Who};
-use hm_outside::{Gate, NoMemory, Pages, RegionId};
+use hm_outside::{Gate, Pages};
 use hm_turn::{Turn, TurnLock};
 use std::sync::Wait;
 

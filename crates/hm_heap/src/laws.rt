@@ -28,8 +28,8 @@ pub fn apart_blocks()
     homes_of_blocks();
 }
 
-/// All bytes of a given block are zero: of a slot the usable ones, where they are told. One that is not was written by
-/// a fill since the slot's latest free and its slab's latest opening.
+/// All bytes of a given block are zero: of a slot the usable ones, where they are told and reuse is checked. One that is
+/// not was written by a fill since the slot's latest free and its slab's latest opening.
 pub fn zeroed_blocks()
     ensures slots { SlotsZeroed }
     ensures written { SlotsWritten }

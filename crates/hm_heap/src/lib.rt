@@ -4,6 +4,7 @@
 mod attempts;
 mod build;
 mod calls;
+mod changes;
 mod close;
 mod enter;
 mod heap;
@@ -16,11 +17,9 @@ mod request;
 mod serve;
 mod split;
 
+pub use changes::Changes;
 pub use close::{Closed, History};
 pub use heap::Heap;
 pub use laws::{apart_blocks, delayed_blocks, homes_of_blocks, lawful_fronts, zeroed_blocks};
 pub use pass::Pass;
 pub use region::Region;
-
-#[cfg(test)]
-mod tests;

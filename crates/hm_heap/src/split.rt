@@ -7,7 +7,8 @@ ghost use Rattle.hm_heap.specs.Passes.{AreOf, AllKnow, cut, born, all_met, with_
 use crate::heap::Heap;
 use crate::pass::Pass;
 use crate::region::Region;
-use hm_outside::{Gate, NoMemory, Pages};
+use hm_base::NoMemory;
+use hm_outside::{Gate, Pages};
 use hm_turn::{Turn, TurnLock};
 use std::alloc::Global;
 

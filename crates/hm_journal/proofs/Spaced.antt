@@ -8,7 +8,7 @@ use Rattle.std.proofs.lemmas.List.Folds.{flat_map-map}
 use Rattle.std.proofs.lemmas.Grind.{flat_map-append}
 use Rattle.hm_model.specs.declared.entry.Entry.{Entry}
 use Rattle.hm_journal.specs.Entries.{call_words, choices_words, draws_words, entry_words, faults_words, reply_words, who_words}
-use Rattle.hm_outside.specs.Bytes.{run_word}
+use Rattle.hm_base.specs.Bytes.{run_word}
 use Rattle.hm_journal.specs.Words.{line_text, runs_word, spaced}
 
 joined : (c : ℕ) (word : List ℕ) (words : List (List ℕ))

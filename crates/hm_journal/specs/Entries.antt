@@ -9,7 +9,7 @@ use Rattle.hm_model.specs.declared.entry.Entry.{Entry}
 use Rattle.hm_model.specs.declared.entry.Reply.{Reply}
 use Rattle.hm_model.specs.declared.entry.Reply.TheVariants.{Given, Overwritten, Exhausted, NoSpace, PagesFailed, Freed, NoSlot, Unused, DoubleFree, WrongSize, Canary, Usable, Bytes, Filled, Trap, NotLive}
 use Rattle.hm_model.specs.declared.entry.Who.{Who}
-use Rattle.hm_outside.specs.Bytes.{byte_word}
+use Rattle.hm_base.specs.Bytes.{byte_word}
 use Rattle.hm_journal.specs.Words.{option_word, runs_word}
 
 -- CALLER ROUND THREAD STEP PART

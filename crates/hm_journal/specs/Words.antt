@@ -2,7 +2,7 @@
 use Rattle.std.specs.Prelude.{ℕ, List, [], ◌∷◌, ◌++◌, map, codes, Option, Some, None}
 use Rattle.std.specs.List.{flat_map, join_with_byte}
 use Rattle.std.specs.Fmt.{decimal}
-use Rattle.hm_outside.specs.Bytes.{run_word}
+use Rattle.hm_base.specs.Bytes.{run_word}
 
 -- a number, or `-` for None
 abbrev pub option_word : Option ℕ → List ℕ

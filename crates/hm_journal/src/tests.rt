@@ -1,9 +1,9 @@
 //! Journals of single entries: each call and each reply once, runs of bytes, choices, words and faults. The lines
 //! are written out by hand.
 use crate::write_journal;
+use hm_base::{List, RegionId};
 use hm_heap::History;
 use hm_model::{Call, Choices, Draws, Entry, Reply, Runs, Who};
-use hm_outside::{List, RegionId};
 use hm_sizes::Config;
 use std::test::Fail;
 

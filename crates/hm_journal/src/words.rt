@@ -1,7 +1,7 @@
 //! Writing words: `-` for None, and runs of bytes.
 ghost use Rattle.std.specs.Prelude.{◌≡◌, ◌++◌, ◌∷◌, [], OnOk, string_bytes};
 ghost use Rattle.std.specs.List.{flat_map};
-ghost use Rattle.hm_outside.specs.Bytes.{run_word};
+ghost use Rattle.hm_base.specs.Bytes.{run_word};
 ghost use Rattle.hm_journal.specs.Words.{option_word, runs_word, spaced};
 
 use std::alloc::AllocError;

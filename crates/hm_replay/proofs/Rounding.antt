@@ -5,7 +5,7 @@ use Rattle.std.proofs.lemmas.List.{get_or-map, length-map, same_lists}
 use Rattle.std.specs.Result.{result_ok}
 use mathlib.Core.Logic.{inl, inr}
 use mathlib.Core.Path.{fun_ext, transport}
-use Rattle.hm_outside.specs.declared.memory.NoMemory.{NoMemory}
+use Rattle.hm_base.specs.declared.memory.NoMemory.{NoMemory}
 use Rattle.hm_model.specs.declared.entry.Entry.{Entry}
 use Rattle.hm_model.specs.Entries.{calls_of}
 use Rattle.hm_report.specs.declared.results.Results.{Results}

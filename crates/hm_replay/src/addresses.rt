@@ -4,7 +4,7 @@ ghost use Rattle.hm_trace.specs.Views.{name_view};
 ghost use Rattle.hm_heap.specs.Requests.{IsInReach};
 ghost use Rattle.hm_replay.specs.Names.{Names, Touched, touched_too, with_name};
 
-use hm_outside::NoMemory;
+use hm_base::NoMemory;
 use hm_trace::Name;
 
 /// Names of which each holds an address or none.

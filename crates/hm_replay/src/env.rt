@@ -5,7 +5,7 @@ ghost use Rattle.hm_replay.specs.Names.{no_names, held, any_name, with_lists};
 use crate::addresses::Addresses;
 use crate::left::NameLeft;
 use crate::rooms::{put_lists, take_all_rooms};
-use hm_outside::NoMemory;
+use hm_base::NoMemory;
 use hm_trace::Name;
 use std::alloc::Global;
 use std::collections::BTreeMap;

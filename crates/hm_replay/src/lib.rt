@@ -18,6 +18,3 @@ pub use hm_report::{Results, StepResult};
 pub use laws::{replayed_rounds, small_rounds};
 pub use round::run_round;
 pub use script::run_script;
-
-#[cfg(test)]
-mod tests;

@@ -7,8 +7,8 @@ ghost use Rattle.hm_replay.specs.Names.{touched_by, touched_too};
 ghost use Rattle.hm_replay.specs.Steps.{given_by, moved_by, named, SetsInReach};
 
 use crate::addresses::Addresses;
+use hm_base::NoMemory;
 use hm_model::{Answer, Reply};
-use hm_outside::NoMemory;
 use hm_trace::{Name, Step};
 
 // The address that an answer gives.

@@ -5,7 +5,7 @@ ghost use Rattle.hm_replay.specs.Names.{held, with_name, with_all, with_lists};
 ghost use Rattle.hm_replay.specs.Rooms.{set_in, AreRooms, HaveRooms, HaveAllRooms};
 
 use crate::left::NameLeft;
-use hm_outside::NoMemory;
+use hm_base::NoMemory;
 use hm_trace::Name;
 use std::collections::BTreeMap;
 

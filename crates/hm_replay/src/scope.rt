@@ -6,7 +6,7 @@ ghost use Rattle.hm_replay.specs.Names.{Names, held, no_name, own_names, seen_in
 use crate::addresses::Addresses;
 use crate::env::Env;
 use crate::left::NameLeft;
-use hm_outside::NoMemory;
+use hm_base::NoMemory;
 use hm_trace::Name;
 use std::alloc::Global;
 use std::collections::BTreeMap;

@@ -1,37 +1,12 @@
 //! `hmreplay run` reads a trace from standard input, runs it and writes one line a step; `hmreplay journal` writes the
-//! histories, `hmreplay stats` what they come to, and `hmreplay stress` runs a trace that a number makes. It ends with the status of `replay`; with 9 where
-//! the words after its name could not be taken from the system, and with 6 where there was no memory for them.
+//! histories, `hmreplay stats` what they come to, and `hmreplay stress` runs a trace that a number makes. It ends with
+//! the status of `replay`; with 9 where the words after its name could not be taken from the system, and with 6 where
+//! there was no memory for them.
 #![tactic(auto)]
-
-#[cfg(test)]
-mod hostile_tests;
-#[cfg(test)]
-mod journal_tests;
-mod laws;
-mod notes;
-mod reading;
-mod refusal;
-mod rounds;
-mod run;
-#[cfg(test)]
-mod stats_tests;
-mod status;
-#[cfg(test)]
-mod test_runs;
-#[cfg(test)]
-mod tests;
-mod trace_fault;
-#[cfg(test)]
-mod version_two_tests;
-mod words;
-#[cfg(test)]
-mod words_tests;
-mod writing;
 
 use hm_frames::FrameMaker;
 use hm_outside::{NoGate, StdinSource, StdoutSink};
-use run::replay;
-use status::Status;
+use hm_run::{Status, replay};
 use std::io::ErrorKind;
 use std::process::ExitCode;
 use std::{env, mem};

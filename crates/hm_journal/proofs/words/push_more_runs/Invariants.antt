@@ -1,6 +1,6 @@
 use Rattle.std.proofs.Common.{◌≡◌, ◌++◌, ◌∷◌, drop, string_bytes}
 use Rattle.std.specs.List.{flat_map}
-use Rattle.hm_outside.specs.Bytes.{run_word}
+use Rattle.hm_base.specs.Bytes.{run_word}
 use Rattle.hm_journal.proofs.words.push_more_runs.Given as goal
 
 abbrev pub invariant-loop-byte : goal.invariant-loop-byte

@@ -1,0 +1,5 @@
+//! Tests of a heap of regions, over pages in memory.
+#![tactic(auto)]
+
+#[cfg(test)]
+mod tests;

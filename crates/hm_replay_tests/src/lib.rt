@@ -1,0 +1,5 @@
+//! Tests of scripts and rounds, over pages in memory.
+#![tactic(auto)]
+
+#[cfg(test)]
+mod tests;

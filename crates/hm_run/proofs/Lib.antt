@@ -1,0 +1,13 @@
+pub mod Taking
+pub mod Putting
+pub mod Completed
+pub mod TooLong
+pub mod Counting
+pub mod NoteOrder
+mod Numerals
+pub mod Valid
+pub mod Causes
+pub mod Outcomes
+pub mod Exact
+pub mod FirstFaults
+mod Journals

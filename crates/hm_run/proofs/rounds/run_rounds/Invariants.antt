@@ -1,0 +1,14 @@
+use Rattle.std.proofs.Common.{◌≡◌, map, take}
+use Rattle.hm_heap.specs.Passes.{AreOf}
+use Rattle.hm_replay.specs.Names.{held}
+use Rattle.hm_replay.specs.Replays.{HasReplayed}
+use Rattle.hm_run.proofs.rounds.run_rounds.Given as goal
+
+-- the rounds so far were run, and the names are those that they have left
+abbrev pub invariant-loop-index : goal.invariant-loop-index
+invariant-loop-index g l = record {
+  of : AreOf l.heap.locks l.root.turns;
+  caller : l.root.caller ≡ 0;
+  out : l.root.out ≡ 0;
+  ran : HasReplayed l.heap.config l.root (map (λ r. r.scripts) (take l.index l.rounds)) l.all.items (held l.env);
+}

@@ -1,0 +1,138 @@
+//! Laws of how runs end, and of the histories that they hand out. Each function does nothing of its own: its
+//! contract is the law.
+ghost use Rattle.std.specs.Prelude.{◌≡◌, ◌<◌, ◌≤◌, ◌⊎◌, ℕ, List, None, Some, String, length};
+ghost use Rattle.std.specs.declared.alloc.Global.{Global};
+ghost use Rattle.hm_trace.specs.declared.fault.TraceFault.{TraceFault};
+ghost use Rattle.hm_trace.specs.Faults.{text_fault};
+ghost use Rattle.hm_trace.specs.Spelling.{spelling};
+ghost use Rattle.hm_trace.specs.Traces.{IsTrace};
+ghost use Rattle.hm_trace.specs.Views.{TraceView};
+ghost use Rattle.hm_heap.specs.declared.close.Closed.{Closed};
+ghost use Rattle.hm_run.specs.declared.run.Run.{Run};
+ghost use Rattle.hm_run.specs.declared.words.Options.{Options};
+ghost use Rattle.hm_run.specs.Endings.{Ends, HasFirstFault};
+ghost use Rattle.hm_run.specs.Laws.{LiveBlocksApart, RegionsApart, SlotsComeLate, BlocksComeLate, SlotsAreZero, SlotsAreWritten};
+ghost use Rattle.hm_run.specs.Laws.{BlocksAreZero, OverwrittenStay, ClassRefusals, LargeRefusals, JournalsTell};
+ghost use Rattle.hm_run.specs.Streams.{Stream, HasFailed, IsSound, IsTakenPast};
+ghost use Rattle.hm_run.specs.Words.{AsksRun, AsksStress, asked_in};
+
+use hm_class_rules::condemned_slots;
+use hm_heap::{apart_blocks, delayed_blocks, zeroed_blocks};
+use hm_journal::journals_differ;
+use hm_outside::Pages;
+use hm_trace::{spellings_are_short, spellings_have_no_fault};
+
+/// Where the words ask for a source to be run, it has a trace, and neither it nor the sink fails, a run ends with
+/// 0 or 1, or for want of memory with 6. And so where they ask for the trace that a number makes, and the sink does
+/// not fail.
+pub fn runs_are_complete<P: Pages>()
+    ensures source { (words : List (String Global)) (run : Run P) (source sink : Stream)
+        (trace : TraceView)
+        → Ends P.Pages words run source sink → AsksRun words
+        → IsTrace trace → source.before ≡ Some (spelling trace) → (HasFailed source → ⊥) → (HasFailed sink → ⊥)
+        → (run.status ≡ 0) ⊎ (run.status ≡ 1) ⊎ (run.status ≡ 6) }
+    ensures stress { (words : List (String Global)) (run : Run P) (source sink : Stream)
+        → Ends P.Pages words run source sink → AsksStress words → (HasFailed sink → ⊥)
+        → (run.status ≡ 0) ⊎ (run.status ≡ 1) ⊎ (run.status ≡ 6) }
+{
+    spellings_have_no_fault();
+    spellings_are_short();
+}
+
+/// A run ends with 7 only where more than 67,108,864 bytes were taken, where the source tells. And where the words ask
+/// for a source to be run, it tells and has more, and neither it nor the sink fails, a run ends with 7, or for want of
+/// memory with 6.
+pub fn too_long_is_exact<P: Pages>()
+    ensures only { (words : List (String Global)) (run : Run P) (source sink : Stream)
+        → Ends P.Pages words run source sink → run.status ≡ 7 → IsTakenPast 67108864 source }
+    ensures long { (words : List (String Global)) (run : Run P) (source sink : Stream) (bytes : List ℕ)
+        → Ends P.Pages words run source sink → AsksRun words
+        → source.before ≡ Some bytes → 67108864 < length bytes → (HasFailed source → ⊥) → (HasFailed sink → ⊥)
+        → (run.status ≡ 7) ⊎ (run.status ≡ 6) }
+{}
+
+/// A run ends with 2 only where the words are not accepted. And where they are not, and the sink does not fail, a run
+/// ends with 2.
+pub fn usage_is_exact<P: Pages>()
+    ensures only { (words : List (String Global)) (run : Run P) (source sink : Stream)
+        → Ends P.Pages words run source sink → run.status ≡ 2 → asked_in words ≡ None }
+    ensures unaccepted { (words : List (String Global)) (run : Run P) (source sink : Stream)
+        → Ends P.Pages words run source sink → asked_in words ≡ None → (HasFailed sink → ⊥) → run.status ≡ 2 }
+{}
+
+/// A run ends with 3 only where the words ask for a source to be run, and its bytes, read to their end, have a first
+/// fault. And where the words ask for a source to be run, it tells and has at most 67,108,864 bytes with a first fault,
+/// and neither it nor the sink fails, a run ends with 3, or for want of memory with 6.
+pub fn no_trace_is_exact<P: Pages>()
+    ensures only { (words : List (String Global)) (run : Run P) (source sink : Stream)
+        → Ends P.Pages words run source sink → run.status ≡ 3 → AsksRun words × HasFirstFault source }
+    ensures faulty { (words : List (String Global)) (run : Run P) (source sink : Stream) (bytes : List ℕ)
+        (fault : TraceFault)
+        → Ends P.Pages words run source sink → AsksRun words
+        → source.before ≡ Some bytes → length bytes ≤ 67108864 → text_fault bytes ≡ Some fault
+        → (HasFailed source → ⊥) → (HasFailed sink → ⊥)
+        → (run.status ≡ 3) ⊎ (run.status ≡ 6) }
+{
+    spellings_have_no_fault();
+}
+
+/// A run ends with 4 only where the source failed: its count of faults rose, or stands at its last value; and with 5 only
+/// where the sink did. Where the count of the sink is not as before, a run ends with 5; where that of the source is not,
+/// with 4, or with 5.
+pub fn faults_show<P: Pages>()
+    ensures source_only { (words : List (String Global)) (run : Run P) (source sink : Stream)
+        → Ends P.Pages words run source sink → run.status ≡ 4 → HasFailed source }
+    ensures source_shows { (words : List (String Global)) (run : Run P) (source sink : Stream)
+        → Ends P.Pages words run source sink → (IsSound source → ⊥) → (run.status ≡ 4) ⊎ (run.status ≡ 5) }
+    ensures sink_only { (words : List (String Global)) (run : Run P) (source sink : Stream)
+        → Ends P.Pages words run source sink → run.status ≡ 5 → HasFailed sink }
+    ensures sink_shows { (words : List (String Global)) (run : Run P) (source sink : Stream)
+        → Ends P.Pages words run source sink → (IsSound sink → ⊥) → run.status ≡ 5 }
+{}
+
+/// Where two runs wrote journals, each to a sink that was empty, tells what it holds and did not fail, and the texts are
+/// the same, the configurations, the numbers and the histories are.
+pub fn journals_tell<P: Pages>()
+    ensures { JournalsTell P.Pages }
+{
+    journals_differ();
+}
+
+/// After any number of entries of each history, live blocks never overlap, in one region or across regions.
+pub fn live_blocks_apart<P: Pages>()
+    ensures one_region { (o : Options) (closed : Closed P) (place : ℕ) (p : P)
+        → LiveBlocksApart P.Pages o closed place p }
+    ensures two_regions { (o : Options) (closed : Closed P) → RegionsApart P.Pages o closed }
+{
+    apart_blocks();
+}
+
+/// A freed slot, or the range of a freed block below 32 MiB, is given again only after the stated number of further
+/// frees.
+pub fn freed_blocks_come_late<P: Pages>()
+    ensures slots { (o : Options) (closed : Closed P) (place : ℕ) (p : P) → SlotsComeLate P.Pages o closed place p }
+    ensures blocks { (o : Options) (closed : Closed P) (place : ℕ) (p : P) → BlocksComeLate P.Pages o closed place p }
+{
+    delayed_blocks();
+}
+
+/// All bytes of a given block are zero: of a slot the usable ones, where bytes are told and reuse is checked. A byte of a
+/// given slot that is not zero was written by a fill, after the slot's latest free and its slab's latest opening. A slot
+/// that was found overwritten is never given again.
+pub fn given_blocks_are_zero<P: Pages>()
+    ensures slots { (o : Options) (closed : Closed P) (place : ℕ) (p : P) → SlotsAreZero P.Pages o closed place p }
+    ensures written { (o : Options) (closed : Closed P) (place : ℕ) (p : P) → SlotsAreWritten P.Pages o closed place p }
+    ensures blocks { (o : Options) (closed : Closed P) (place : ℕ) (p : P) → BlocksAreZero P.Pages o closed place p }
+    ensures overwritten { (o : Options) (closed : Closed P) (place : ℕ) (p : P)
+        → OverwrittenStay P.Pages o closed place p }
+{
+    zeroed_blocks();
+    condemned_slots();
+}
+
+/// Each refusal comes exactly where its cause holds, a canary, an overwrite and a trap where the pages tell; a page fails
+/// only where one was asked for, or had to go, and the count of faults rose.
+pub fn refusals_have_causes<P: Pages>()
+    ensures class { (o : Options) (closed : Closed P) (place : ℕ) (p : P) → ClassRefusals P.Pages o closed place p }
+    ensures large { (o : Options) (closed : Closed P) (place : ℕ) (p : P) → LargeRefusals P.Pages o closed place p }
+{}

@@ -1,0 +1,22 @@
+//! The calls of the program: `replay` reads words and a source, runs what they ask for and writes it to a sink. The
+//! theorem stands on its clauses and on the laws beside it.
+#![tactic(auto)]
+
+mod laws;
+mod notes;
+mod reading;
+mod refusal;
+mod rounds;
+mod run;
+mod status;
+mod trace_fault;
+mod words;
+mod writing;
+
+pub use laws::{
+    faults_show, freed_blocks_come_late, given_blocks_are_zero, journals_tell, live_blocks_apart,
+    no_trace_is_exact, refusals_have_causes, runs_are_complete, too_long_is_exact, usage_is_exact,
+};
+pub use run::{Run, replay};
+pub use status::Status;
+pub use words::{Asked, Command, Options, Output, Template, read_words};

@@ -1,0 +1,99 @@
+//! The rounds of a trace on a heap, which is built for them and closed after them.
+ghost use Rattle.std.specs.Prelude.{◌≡◌, ◌≤◌, ◌<◌, ◌^◌, true, length, map, IfOk};
+ghost use Rattle.std.specs.List.{list_all};
+ghost use Rattle.hm_sizes.specs.Configs.{IsValid};
+ghost use Rattle.hm_stats.specs.Tables.{entry_count};
+ghost use Rattle.hm_report.specs.Findings.{ascends};
+ghost use Rattle.hm_trace.specs.Traces.{is_round};
+ghost use Rattle.hm_heap.specs.Founds.{Founds};
+ghost use Rattle.hm_heap.specs.Passes.{AreOf, first_pass};
+ghost use Rattle.hm_replay.specs.Replays.{HasReplayed};
+ghost use Rattle.hm_run.specs.Replayed.{IsReplayed};
+ghost use Rattle.hm_run.specs.Words.{config_of};
+
+use crate::words::Options;
+use hm_base::NoMemory;
+use hm_heap::{Closed, Heap, Pass};
+use hm_outside::{Gate, PageMaker, Pages};
+use hm_replay::{Env, replayed_rounds, run_round, small_rounds};
+use hm_report::Results;
+use hm_trace::{Round, Trace};
+use std::alloc::Global;
+use std::sync::Wait;
+use std::thread::Threads;
+
+/// What a trace is run with.
+#[derive(Drop)]
+pub struct Machine<'a, R, M, G> {
+    /// The runtime.
+    pub rt: &'a R,
+    /// Where memory is taken.
+    pub alloc: Global,
+    /// The maker of the pages.
+    pub maker: &'a mut M,
+    /// The gate that region calls pass.
+    pub gate: &'a G,
+}
+
+/// What a trace that was run hands out, and its results.
+#[derive(Drop)]
+pub struct Ran<P> {
+    /// The histories, and the pages of each region.
+    pub closed: Closed<P>,
+    /// The results of the trace's steps, in the order of a report.
+    pub results: Vec<Results>,
+}
+
+// Runs the rounds in order, each with the names that the one before has left. The laws are called for their
+// contracts.
+fn run_rounds<R: Threads + Wait + Sync, P: Pages, G: Gate>(
+    rt: &R,
+    alloc: Global,
+    heap: &Heap<'_, P, G>,
+    root: &mut Pass,
+    rounds: &[Round],
+) -> Result<Vec<Results>, NoMemory>
+    requires of { AreOf heap.now.locks root.old.turns }
+    requires first { root.old ≡ first_pass root.old.turns }
+    requires founds { Founds heap.now.locks root.old.turns }
+    requires valid { list_all (λ r. is_round r.scripts) rounds.now ≡ true }
+    requires few { length rounds.now ≤ 1024 }
+    ensures of { AreOf heap.now.locks root.new.turns }
+    ensures root { (root.new.caller ≡ 0) × (root.new.out ≡ 0) }
+    ensures ran { IfOk result (λ results. (last : _)
+        × HasReplayed heap.now.config root.new (map (λ r. r.scripts) rounds.now) results.items last) }
+{
+    replayed_rounds();
+    small_rounds();
+    let mut env = Env::build(alloc);
+    let mut all = Vec::new(alloc);
+    for (index, round) in rounds.iter().enumerate() {
+        let mut results = run_round(rt, alloc, heap, root, index as u32 + 1, round, &mut env)?;
+        all.append(&mut results)?;
+    }
+    Ok(all)
+}
+
+/// Runs a trace on a new heap.
+pub fn run_trace<R: Threads + Wait + Sync, M: PageMaker, G: Gate>(
+    machine: Machine<'_, R, M, G>,
+    options: &Options,
+    trace: &Trace,
+) -> Result<Ran<M::P>, NoMemory>
+    requires valid { IsValid (config_of options.now) }
+    ensures replayed { IfOk result (λ ran. IsReplayed M.P.Pages options.now ran.closed trace.now ran.results.items) }
+    ensures order { IfOk result (λ ran. ascends ran.results.items ≡ true) }
+    ensures few { IfOk result (λ ran. entry_count ran.closed.histories < 2 ^ 63) }
+{
+    replayed_rounds();
+    let Machine {
+        rt,
+        alloc,
+        maker,
+        gate,
+    } = machine;
+    let (heap, mut root) = Heap::build(alloc, options.config(), options.seed, maker, gate)?;
+    let results = run_rounds(rt, alloc, &heap, &mut root, trace.rounds())?;
+    let closed = heap.close(alloc, root)?;
+    Ok(Ran { closed, results })
+}
