@@ -109,7 +109,7 @@ def read_config(line):
     need(2 ** 20 <= config.large_space <= 2 ** 40, 'BadText')
     need(1 <= config.guard_interval <= 8 and 1 <= config.park_length <= 32, 'BadText')
     need(config.array_base <= 1 and config.ring_base <= 1, 'BadText')
-    need(config.check_reuse == 1 and config.random_slots == 1, 'BadText')
+    need(config.check_reuse <= 1 and config.random_slots <= 1, 'BadText')
     return config
 
 
@@ -287,7 +287,7 @@ class ClassHistory(History):
         usable = self.open[n][0][i * self.c.slot:i * self.c.slot + self.c.usable]
         at = len(usable) - len(usable.lstrip(b'\0'))
         self.change(n, i, True)
-        if at < len(usable):
+        if self.config.check_reuse and at < len(usable):
             self.reply_is(OVERWRITTEN, addr, at, usable[at])
             self.condemned.add(addr)
             return
@@ -306,12 +306,12 @@ class ClassHistory(History):
         canary = self.entry.canary
 
         def rule():
-            start = scaled(self.words[-1], self.c.slots)
+            start = scaled(self.words[-1], self.c.slots) if self.config.random_slots else 0
             first = min(available, key=lambda k: (k - start) % self.c.slots)
             drawn_canary = canary_of(*self.words[:2]) if opens_bytes else None
             return n == latest and i == first and canary == drawn_canary
 
-        self.drawn_rule = (3 if opens_bytes else 1, rule)
+        self.drawn_rule = ((2 if opens_bytes else 0) + self.config.random_slots, rule)
 
     def refusal(self, addr):
         """The reply for an address that is no live block's, or None."""

@@ -1,7 +1,7 @@
 """A plain model of a hardened allocator that replays traces.
 
-`replay` takes the text of a trace, the number from which all choices are drawn, and the two sizes
-of the address space, and gives what the replayer has to write: the report, the exit status and the
+`replay` takes the text of a trace, the number from which all choices are drawn, and the
+configuration, and gives what the replayer has to write: the report, the exit status and the
 journal.  The model keeps lists and dictionaries alone, and runs the scripts of a round one after
 another, in the order of their threads.  It reads good traces only.
 """
@@ -171,8 +171,16 @@ Config = namedtuple('Config', 'arenas class_region large_space guard_interval ar
 
 
 def standard_config(class_region, large_space):
-    """The configuration that the program runs with."""
+    """The configuration that the program runs with where no other is named."""
     return Config(4, class_region, large_space, 1, 1, 1, 32, 1, 1)
+
+
+def light_config(class_region, large_space):
+    """No quarantine of slots, no look at their bytes, no drawn start, and a guard after eight slabs."""
+    return Config(4, class_region, large_space, 8, 0, 0, 32, 0, 0)
+
+
+CONFIGS = {'standard': standard_config, 'light': light_config}
 
 
 def home_of(config, addr):
@@ -281,6 +289,10 @@ class Quarantine:
         item, self.array[place] = self.array[place], item
         if item is None:
             return None
+        return self.enter_ring(item)
+
+    def enter_ring(self, item):
+        """Puts an item at the end of the ring; the answer is what leaves, or None."""
         self.ring.append(item)
         return self.ring.pop(0) if len(self.ring) > self.ring_length else None
 
@@ -308,6 +320,7 @@ class ClassRegion(Region):
 
     def __init__(self, config, seed, number):
         super().__init__(seed, number)
+        self.config = config
         self.shape = Shape(config, number, self.stream.word())
         self.first, self.c = self.shape.first, self.shape.size_class
         self.slabs, self.partial, self.empty = {}, [], []
@@ -329,7 +342,7 @@ class ClassRegion(Region):
         self.slabs[n].taken.add(i)
         self.sort_in(n)
         usable = self.usable_bytes(n, i)
-        rest = usable.lstrip(b'\0')
+        rest = usable.lstrip(b'\0') if self.config.check_reuse else b''
         if rest:
             self.condemned.add(addr)
             return ('Overwritten', addr, len(usable) - len(rest), rest[0])
@@ -365,8 +378,8 @@ class ClassRegion(Region):
         self.empty.insert(0, n)
 
     def pick_slot(self, slab):
-        """The first available slot from a random start, round the slab's end."""
-        start = self.draw(self.c.slots)
+        """The first available slot from the start, which is random or 0, round the slab's end."""
+        start = self.draw(self.c.slots) if self.config.random_slots else 0
         return next(i for k in range(self.c.slots)
                     for i in [(start + k) % self.c.slots] if i not in slab.taken)
 
@@ -423,10 +436,16 @@ class ClassRegion(Region):
             start = i * self.c.slot
             self.slabs[n].data[start:start + self.c.usable] = bytes(self.c.usable)
         del self.live[addr]
-        released = self.quarantine.replace(addr, self.draw(self.shape.array))
+        released = self.quarantined(addr)
         if released is not None:
             self.chosen['released'] = released
             self.release(released)
+
+    def quarantined(self, addr):
+        """Sends a slot into quarantine, at a random place of the array where there is one; what leaves, or None."""
+        if not self.shape.array:
+            return self.quarantine.enter_ring(addr)
+        return self.quarantine.replace(addr, self.draw(self.shape.array))
 
     def release(self, addr):
         """Makes a slot available again; the slab is retired where too many are empty."""
@@ -936,9 +955,8 @@ def journal_text(config, seed, regions):
     return ''.join(lines + ['end\n'])
 
 
-def replay(trace_text, seed, class_region, large_space):
+def replay(trace_text, seed, config):
     """What the replayer writes for a good trace: the report, the exit status, the journal."""
-    config = standard_config(class_region, large_space)
     heap = Heap(config, seed)
     rounds = read_trace(trace_text)
     results = run_rounds(heap, rounds)

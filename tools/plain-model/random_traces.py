@@ -8,9 +8,9 @@ kept in regions of their own, where their order can't be seen.
 import random
 
 from model import (
-    CLASSES, CLASS_SPACE_START, GREATEST_ALIGN, LARGE_REGION, LARGE_SPACE_START, MASK64, PAGE,
+    CLASSES, CLASS_SPACE_START, CONFIGS, GREATEST_ALIGN, LARGE_REGION, LARGE_SPACE_START, MASK64, PAGE,
     PLACE_WORD, SIZE_CLASSES, Heap, Names, Pass, home_of, kind_aligned, kind_of, large_size, merged,
-    read_place, run_step, standard_config)
+    read_place, run_step)
 
 GREATEST_OFFSET = 2 ** 40
 LENGTH_LIMIT = 1048576
@@ -41,8 +41,8 @@ ODD_NAMES = ['nullx', 'null_', 'nul', 'a' * 32, 'z9_', 'free', 'round', 'end', '
 class TraceMaker:
     """Makes one trace, and the numbers that go with it."""
 
-    def __init__(self, seed, steps=None):
-        self.rng = random.Random(seed)
+    def __init__(self, seed, config='standard', steps=None):
+        self.rng, self.config_name = random.Random(seed), config
         self.classes, self.large_share, count, weights = THEMES[self.rng.choice(sorted(THEMES))]
         self.weights = dict(WEIGHTS, **weights)
         self.pool = ['n%d' % k for k in range(count)] + self.rng.sample(ODD_NAMES, 3)
@@ -51,11 +51,19 @@ class TraceMaker:
         self.class_region = self.some_class_region()
         self.large_space = self.some_large_space()
         self.steps_left = steps or self.rng.choice([20, 60, 150, 400, 400, 900, 1800])
-        self.heap = Heap(standard_config(self.class_region, self.large_space), self.seed)
+        self.heap = self.new_heap()
         version = self.rng.choice([1, 2])
         self.greatest_thread, self.notes_left = GREATEST_THREAD[version], NOTES_LIMIT * (version - 1)
         self.lines, self.shared, self.caller, self.round = ['hmtrace %d' % version], {}, 0, 0
         self.owned_names, self.allowed, self.waiting = {}, None, []
+
+    def config(self):
+        """The configuration that the trace is made for."""
+        return CONFIGS[self.config_name](self.class_region, self.large_space)
+
+    def new_heap(self):
+        """A heap of it."""
+        return Heap(self.config(), self.seed)
 
     def some_class_region(self):
         """A size of the class regions: often the least one."""
@@ -451,11 +459,11 @@ class TraceMaker:
 class BulkMaker(TraceMaker):
     """Makes a long trace of one small class: many blocks, all of them freed, and some more."""
 
-    def __init__(self, seed, size_class, count):
-        super().__init__(seed, steps=1)
+    def __init__(self, seed, config, size_class, count):
+        super().__init__(seed, config, steps=1)
         self.size_class, self.count = SIZE_CLASSES[size_class], count
         self.class_region = max(self.class_region, 2 ** 25)
-        self.heap = Heap(standard_config(self.class_region, self.large_space), self.seed)
+        self.heap = self.new_heap()
 
     def make(self):
         """The trace."""
@@ -530,11 +538,11 @@ class ContestMaker(TraceMaker):
 class LargeBulkMaker(TraceMaker):
     """Makes a long trace of large blocks, so that they leave their quarantine."""
 
-    def __init__(self, seed, count):
-        super().__init__(seed, steps=1)
+    def __init__(self, seed, config, count):
+        super().__init__(seed, config, steps=1)
         self.count = count
         self.large_space = self.rng.choice([2 ** 40, 2 ** 30, 2 ** 28 + PAGE * 77, 2 ** 29])
-        self.heap = Heap(standard_config(self.class_region, self.large_space), self.seed)
+        self.heap = self.new_heap()
 
     def make(self):
         """The trace."""
@@ -556,14 +564,14 @@ class LargeBulkMaker(TraceMaker):
         return ('\n'.join(self.lines) + '\n').encode()
 
 
-def make_trace(seed):
+def make_trace(seed, config):
     """A maker whose trace is to be made: mostly of mixed steps, now and then a long one."""
     if seed % 50 == 12:
-        return LargeBulkMaker(seed, 2600)
+        return LargeBulkMaker(seed, config, 2600)
     if seed % 25 == 24:
         rng = random.Random(seed)
         size_class = rng.randrange(8, 49)
         length = SIZE_CLASSES[size_class].length
         slots = max(1, 131072 // SIZE_CLASSES[size_class].slot)
-        return BulkMaker(seed, size_class, min(12000, 8 * length + 3 * slots + 60))
-    return TraceMaker(seed)
+        return BulkMaker(seed, config, size_class, min(12000, 8 * length + 3 * slots + 60))
+    return TraceMaker(seed, config)
