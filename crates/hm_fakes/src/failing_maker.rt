@@ -1,5 +1,5 @@
 //! A maker of pages in memory, some of whose calls fail in one region.
-ghost use Rattle.std.specs.Prelude.{◌≡◌, ◌≢◌, [], IfOk, IsOkAnd};
+ghost use Rattle.std.specs.Prelude.{None, ◌≡◌, ◌≢◌, [], IfOk, IsOkAnd};
 ghost use Rattle.std.specs.FinMap as map;
 ghost use Rattle.hm_fakes.specs.FailingPages.{fresh_failing};
 
@@ -17,6 +17,8 @@ pub struct FailingMaker {
 
 impl PageMaker for FailingMaker {
     type P = FailingPages;
+
+    ghost asked = { λ m. None };
 
     fn make(&mut self, alloc: Global, region: RegionId) -> Result<FailingPages, NoMemory>
         ensures nothing { IfOk result (λ p. p.runs ≡ map.empty) }

@@ -1,5 +1,5 @@
 //! A maker of pages in memory.
-ghost use Rattle.std.specs.Prelude.{◌≡◌, IfOk, IsOk};
+ghost use Rattle.std.specs.Prelude.{None, ◌≡◌, IfOk, IsOk};
 ghost use Rattle.std.specs.FinMap as map;
 
 use crate::PlainPages;
@@ -13,6 +13,8 @@ pub struct PlainMaker;
 
 impl PageMaker for PlainMaker {
     type P = PlainPages;
+
+    ghost asked = { λ m. None };
 
     fn make(&mut self, alloc: Global, _region: RegionId) -> Result<PlainPages, NoMemory>
         ensures always { IsOk result }

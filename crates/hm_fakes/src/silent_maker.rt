@@ -1,5 +1,5 @@
 //! A maker of pages that tell nothing.
-ghost use Rattle.std.specs.Prelude.{◌≡◌, IfOk, IsOk};
+ghost use Rattle.std.specs.Prelude.{None, ◌≡◌, IfOk, IsOk};
 ghost use Rattle.std.specs.FinMap as map;
 
 use crate::SilentPages;
@@ -13,6 +13,8 @@ pub struct SilentMaker;
 
 impl PageMaker for SilentMaker {
     type P = SilentPages;
+
+    ghost asked = { λ m. None };
 
     fn make(&mut self, alloc: Global, _region: RegionId) -> Result<SilentPages, NoMemory>
         ensures always { IsOk result }

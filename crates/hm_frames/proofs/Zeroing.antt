@@ -14,13 +14,6 @@ use Rattle.hm_frames.proofs.Marking.{lent, over_marked, same_bytes, zero_part}
 abbrev pub zeroed : List ℕ → ℕ → ℕ → List ℕ
 zeroed bytes from to = take from bytes ++ zeros (to - from) ++ drop to bytes
 
-pub none_zeroed : (bytes : List ℕ) (from : ℕ) → bytes ≡ zeroed bytes from from
-none_zeroed bytes from =
-    sym (take-append-drop from bytes) ∙ ap (λ (l : List ℕ). l ++ drop from bytes) (sym (append-nil (take from bytes)) ∙ ap (λ (n : ℕ). take from bytes ++ zeros n) {x = 0} {y = from - from} (omega arith))
-
-pub all_zeroed : (bytes : List ℕ) (from len : ℕ) → zeroed bytes from (from + len) ≡ with_zeros bytes from len
-all_zeroed bytes from len = ap (λ (n : ℕ). take from bytes ++ zeros n ++ drop (from + len) bytes) (omega arith)
-
 -- n more of them are written
 pub zeros_on : (places : List (Option ℕ)) (bytes : List ℕ) (from at n : ℕ) → from ≤ at → at + n ≤ length bytes → bytes_of places ≡ zeroed bytes from at
     → bytes_of (with_places places at n (zeros n)) ≡ zeroed bytes from (at + n)
