@@ -1,8 +1,7 @@
 -- A page is touched, and bytes of touched pages are lent.
-use Rattle.std.proofs.Common.{◌≡◌, ◌≢◌, ⊎_elim, ℕ, zero, suc, ◌+◌, ◌-◌, ◌*◌, ◌/◌, ◌<◌, ◌≤◌, List, ◌∷◌, ◌++◌, map, length, min, take, drop, replicate, slice_set, Option, Some, None, Bool, true, false, refl, sym, ap, ◌∙◌, subst, arith}
+use Rattle.std.proofs.Common.{◌≡◌, ◌≢◌, ⊎_elim, ℕ, zero, suc, ◌+◌, ◌-◌, ◌*◌, ◌/◌, ◌<◌, ◌≤◌, List, ◌∷◌, ◌++◌, map, length, min, take, drop, replicate, slice_set, Option, Some, None, Bool, true, false, refl, sym, ap, ◌∙◌, arith}
 use Rattle.std.proofs.lemmas.Bool.{cases_lt, cases_eq}
-use Rattle.std.proofs.lemmas.List.{length-take, length-drop, length-set, length-map, length-replicate, drop-drop, take-append-drop, take_at, take_all, drop_at, set-get_or, replicate-append-replicate, get_or-take, get_or-drop, get_or-set_same, get_or-set_other}
-use Rattle.std.proofs.Math.Seq.{take-add}
+use Rattle.std.proofs.lemmas.List.{length-take, length-drop, length-set, length-map, drop-drop, take-append-drop, take_at, get_or-take, get_or-drop, get_or-set_same, get_or-set_other}
 use Rattle.std.specs.Prelude.{get_or, is_some}
 use Rattle.hm_frames.specs.Places.{IsFilled, byte_of, bytes_of, with_places}
 use Rattle.std.specs.List.{refill, length_refill}

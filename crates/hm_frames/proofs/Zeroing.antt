@@ -1,11 +1,10 @@
 -- Bytes of a range are made zero part by part, each in one page, and touched pages alone are written.
-use Rattle.std.proofs.Common.{◌≡◌, ℕ, ◌+◌, ◌-◌, ◌*◌, ◌<◌, ◌≤◌, List, ◌++◌, length, take, drop, Option, Bool, true, false, sym, ap, ◌∙◌, arith, append-nil}
-use Rattle.std.proofs.lemmas.List.{length-take, length-append, length-replicate, append_assoc, take_at, take-append-drop, drop_all, replicate-append-replicate}
+use Rattle.std.proofs.Common.{◌≡◌, ℕ, ◌+◌, ◌-◌, ◌*◌, ◌<◌, ◌≤◌, List, ◌++◌, length, take, drop, Option, Bool, true, false, sym, ap, ◌∙◌, arith}
+use Rattle.std.proofs.lemmas.List.{length-take, length-append, length-replicate, append_assoc, take_at, replicate-append-replicate}
 use Rattle.std.proofs.lemmas.Slice.{drop-append-drop}
 use Rattle.std.specs.Prelude.{get_or}
 use Rattle.hm_base.specs.Lists.{zeros}
 use Rattle.hm_frames.specs.Places.{bytes_of, with_places}
-use Rattle.hm_frames.specs.Part.{with_zeros}
 use Rattle.hm_frames.specs.Marks.{AreMarked}
 use Rattle.hm_frames.proofs.Written.{bytes_with}
 use Rattle.hm_frames.proofs.Marking.{lent, over_marked, same_bytes, zero_part}
@@ -44,7 +43,3 @@ module _ (touched : List Bool) (places : List (Option ℕ)) (page from len : ℕ
       over_marked touched places from len (zeros len) marked
       (lent touched places page (page + 1) from len marked (omega (arith, within)) (λ p above below. ap (λ (k : ℕ). get_or touched k false) (omega (arith, above, below)) ∙ on) low (omega (arith, high)))
       (length-replicate len 0)
-
--- all bytes of a run
-pub whole_zeroed : (bytes : List ℕ) → with_zeros bytes 0 (length bytes) ≡ zeros (length bytes)
-whole_zeroed bytes = ap (λ (l : List ℕ). zeros (length bytes) ++ l) (drop_all (0 + length bytes) bytes (omega arith)) ∙ append-nil (zeros (length bytes))
