@@ -1,6 +1,8 @@
--- The locks and the turns of a new heap.
-use Rattle.std.specs.Prelude.{◌≡◌, ◌<◌, ℕ, List, length, slice_index_or}
+-- The locks and the turns of a new heap, and the regions whose pages are made for it.
+use Rattle.std.specs.Prelude.{◌≡◌, ◌<◌, ℕ, List, ◌∷◌, [], ◌++◌, length, range_with_len, slice_index_or}
 use Rattle.hm_sizes.specs.declared.config.Config.{Config}
+use Rattle.hm_sizes.specs.Homes.{region_count}
+use Rattle.hm_sizes.specs.Origins.{large_region_number}
 use Rattle.hm_turn.specs.Knowledge.{founding}
 use Rattle.hm_turn.specs.Known.{Lock, Known}
 use Rattle.hm_heap.specs.Passes.{IsOriginOf}
@@ -15,3 +17,7 @@ pub record IsFounded (c : Config) (number region : ℕ) (lock : Lock) (turn : Kn
 abbrev pub Founds : List Lock → List Known → Type 0
 Founds locks turns = (r : ℕ) (l : Lock) (t : Known) → r < length locks
     → (slice_index_or turns r t).knows ≡ founding (slice_index_or locks r l).origin
+
+-- the numbers of all regions of a configuration, each once: those of the classes, then the large one
+abbrev pub all_regions : Config → List ℕ
+all_regions c = range_with_len 0 (region_count c) ++ (large_region_number ∷ [])

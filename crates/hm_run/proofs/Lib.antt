@@ -1,5 +1,4 @@
 pub mod Taking
-pub mod Putting
 pub mod Completed
 pub mod TooLong
 pub mod Counting

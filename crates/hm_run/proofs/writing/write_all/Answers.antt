@@ -1,7 +1,7 @@
 use Rattle.std.proofs.Common.{◌∙◌, arith}
 use Rattle.std.proofs.Math.Seq.{take-add}
 use Rattle.std.proofs.lemmas.List.{take_rest}
-use Rattle.hm_run.proofs.Putting.{put_more}
+use Rattle.hm_outside.proofs.Putting.{put_more}
 use Rattle.hm_run.proofs.writing.write_all.Goals as goal
 
 pub turns-preserved : goal.turns-preserved
