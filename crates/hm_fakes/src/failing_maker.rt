@@ -18,7 +18,7 @@ pub struct FailingMaker {
 impl PageMaker for FailingMaker {
     type P = FailingPages;
 
-    ghost asked = { λ m. None };
+    ghost made = { λ m. None };
 
     fn make(&mut self, alloc: Global, region: RegionId) -> Result<FailingPages, NoMemory>
         ensures nothing { IfOk result (λ p. p.runs ≡ map.empty) }

@@ -14,7 +14,7 @@ pub struct PlainMaker;
 impl PageMaker for PlainMaker {
     type P = PlainPages;
 
-    ghost asked = { λ m. None };
+    ghost made = { λ m. None };
 
     fn make(&mut self, alloc: Global, _region: RegionId) -> Result<PlainPages, NoMemory>
         ensures always { IsOk result }

@@ -14,7 +14,7 @@ pub struct SilentMaker;
 impl PageMaker for SilentMaker {
     type P = SilentPages;
 
-    ghost asked = { λ m. None };
+    ghost made = { λ m. None };
 
     fn make(&mut self, alloc: Global, _region: RegionId) -> Result<SilentPages, NoMemory>
         ensures always { IsOk result }

@@ -4,16 +4,16 @@ ghost use Rattle.std.specs.Prelude.{◌≡◌, OnOk};
 ghost use Rattle.hm_heap.specs.Passes.{AreOf};
 
 use hm_base::{NoMemory, RegionId};
-use hm_fakes::{PlainMaker, PlainPages, SilentMaker};
+use hm_fakes::{Holding, Meeting, PlainMaker, PlainPages, SilentMaker, comes_to};
 use hm_heap::{Closed, Heap, Pass};
 use hm_model::{Answer, Reply, Runs};
 use hm_outside::{Gate, NoGate, PageMaker, Pages};
 use hm_sizes::Config;
 use std::alloc::Global;
 use std::sync::Wait;
-use std::sync::atomic::{AtomicU64, Ordering};
+use std::sync::atomic::Ordering;
 use std::test::Fail;
-use std::thread::{self, Threads, join};
+use std::thread::{Threads, join};
 
 /// A call. The block of row k is number k, from 1; block 0 is address 0. An offset is added to its address.
 #[derive(Clone, Copy)]
@@ -289,33 +289,6 @@ fn a_write_after_a_free_is_found(rt: HostRuntime) -> Result<(), Fail> {
     Ok(())
 }
 
-/// A gate that holds caller 1 inside its region until it is let go, or for 10,000,000 turns.
-#[derive(Drop)]
-struct Holding {
-    inside: AtomicU64,
-    let_go: AtomicU64,
-}
-
-/// Waits until a word is at least so much, or for 10,000,000 turns. It says whether it came to that.
-fn comes_to(word: &AtomicU64, least: u64) -> bool {
-    for _ in 0u32..10_000_000 {
-        if word.load(Ordering::SeqCst) >= least {
-            return true;
-        }
-        thread::yield_now();
-    }
-    false
-}
-
-impl Gate for Holding {
-    fn inside(&self, _region: RegionId, caller: u32) {
-        if caller == 1 {
-            self.inside.fetch_add(1, Ordering::SeqCst);
-            comes_to(&self.let_go, 1);
-        }
-    }
-}
-
 /// While the first pass is held inside the region of blocks of 8 bytes, the second asks there and elsewhere.
 fn second_asks<P: Pages>(
     heap: &Heap<P, Holding>,
@@ -370,10 +343,7 @@ fn both_ask<R: Threads + Wait + Sync, P: Pages>(
 
 #[test]
 fn a_region_is_busy_by_itself(rt: HostRuntime) -> Result<(), Fail> {
-    let gate = Holding {
-        inside: AtomicU64::new(0),
-        let_go: AtomicU64::new(0),
-    };
+    let gate = Holding::new();
     let config = Config::standard();
     let (heap, mut root) = Heap::build(rt.alloc(), config, 1, &mut PlainMaker, &gate)?;
     let first = heap.split(rt.alloc(), &mut root, 1, 1)?;
@@ -383,22 +353,6 @@ fn a_region_is_busy_by_itself(rt: HostRuntime) -> Result<(), Fail> {
     assert_eq!(rt; told_by(&held?), Told::Busy);
     assert_eq!(rt; told_by(&free?), Told::Given(4088));
     Ok(())
-}
-
-/// A gate that holds each call inside its region until two are inside, or for 10,000,000 turns.
-#[derive(Drop)]
-struct Meeting {
-    inside: AtomicU64,
-    missed: AtomicU64,
-}
-
-impl Gate for Meeting {
-    fn inside(&self, _region: RegionId, _caller: u32) {
-        self.inside.fetch_add(1, Ordering::SeqCst);
-        if !comes_to(&self.inside, 2) {
-            self.missed.fetch_add(1, Ordering::SeqCst);
-        }
-    }
 }
 
 fn both_wait<R: Threads + Wait + Sync, P: Pages>(
@@ -423,10 +377,7 @@ fn both_wait<R: Threads + Wait + Sync, P: Pages>(
 /// Two calls that may wait, each in a thread of its own, are inside two regions at once.
 #[test]
 fn waiting_calls_meet(rt: HostRuntime) -> Result<(), Fail> {
-    let gate = Meeting {
-        inside: AtomicU64::new(0),
-        missed: AtomicU64::new(0),
-    };
+    let gate = Meeting::of(2);
     let config = Config::standard();
     let (heap, mut root) = Heap::build(rt.alloc(), config, 1, &mut PlainMaker, &gate)?;
     let first = heap.split(rt.alloc(), &mut root, 1, 1)?;
@@ -434,8 +385,7 @@ fn waiting_calls_meet(rt: HostRuntime) -> Result<(), Fail> {
     let (small, great) = both_wait(&rt, &heap, first, second);
     assert_eq!(rt; told_by(&small?), Told::Given(8));
     assert_eq!(rt; told_by(&great?), Told::Given(4088));
-    assert_eq!(rt; gate.inside.load(Ordering::SeqCst), 2);
-    assert_eq!(rt; gate.missed.load(Ordering::SeqCst), 0);
+    assert_eq!(rt; gate.counts(), (2, 0));
     Ok(())
 }
 

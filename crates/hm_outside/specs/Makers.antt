@@ -1,8 +1,13 @@
--- For which regions a maker was asked for pages, where it tells.
-use Rattle.std.specs.Prelude.{ℕ, List}
+-- For which regions a maker has made pages, where it tells.
+use Rattle.std.specs.Prelude.{◌≡◌, ℕ, List, ◌∷◌, [], MatchResult}
 use Rattle.std.specs.declared.option.Option.{Option}
+use Rattle.std.specs.declared.result.Result.{Result}
 use Rattle.hm_outside.specs.Streams.{Put}
 
--- pages were asked for these regions, in this order, after those of before; whether the maker tells them stays
-abbrev pub Asked : Option (List ℕ) → Option (List ℕ) → List ℕ → Type 0
-Asked before after regions = Put before after regions
+-- pages were made for these regions, in this order, after those of before; whether the maker tells them stays
+abbrev pub Made : Option (List ℕ) → Option (List ℕ) → List ℕ → Type 0
+Made before after regions = Put before after regions
+
+-- one call of `make`: pages were made for this region; where it lacks memory, for none
+abbrev pub Makes : {T E : Type 0} → Option (List ℕ) → Option (List ℕ) → Result T E → ℕ → Type 0
+Makes before after result region = MatchResult result (λ _. Made before after (region ∷ [])) (λ _. after ≡ before)

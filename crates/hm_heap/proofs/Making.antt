@@ -1,4 +1,4 @@
--- A maker is asked for the pages of one region after another.
+-- Pages are made for one region after another.
 use Rattle.std.proofs.Common.{ℕ, suc, zero, List, ◌∷◌, [], ◌++◌, ◌+◌, ◌≡◌, ◌∙◌, ap, arith}
 use Rattle.std.specs.Prelude.{range_with_len}
 
