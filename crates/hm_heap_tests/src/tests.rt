@@ -1,12 +1,12 @@
 //! Tables of calls of a heap on one pass, each call with its answer; calls of several passes, and the end
 //! of a heap.
-ghost use Rattle.std.specs.Prelude.{◌≡◌, OnOk};
+ghost use Rattle.std.specs.Prelude.{◌≡◌, Some, OnOk};
 ghost use Rattle.hm_heap.specs.Passes.{AreOf};
 
 use hm_base::{NoMemory, RegionId};
 use hm_fakes::{Holding, Meeting, PlainMaker, PlainPages, SilentMaker, comes_to};
 use hm_heap::{Closed, Heap, Pass};
-use hm_model::{Answer, Reply, Runs};
+use hm_model::{Answer, Reply, Runs, SizeChange};
 use hm_outside::{Gate, NoGate, PageMaker, Pages};
 use hm_sizes::Config;
 use std::alloc::Global;
@@ -389,35 +389,38 @@ fn waiting_calls_meet(rt: HostRuntime) -> Result<(), Fail> {
     Ok(())
 }
 
-/// A maker that notes the regions for which it was asked.
+/// A maker that tells for which regions it made pages.
 #[derive(Drop)]
 struct NotingMaker {
-    asked: Vec<u32>,
+    made: Vec<u32>,
 }
 
 impl PageMaker for NotingMaker {
     type P = PlainPages;
 
+    ghost made = { λ m. Some m.made.items };
+
     fn make(&mut self, alloc: Global, region: RegionId) -> Result<PlainPages, NoMemory> {
-        self.asked.push(region.0)?;
         let mut maker = PlainMaker;
-        maker.make(alloc, region)
+        let pages = maker.make(alloc, region)?;
+        self.made.push(region.0)?;
+        Ok(pages)
     }
 }
 
 #[test]
 fn each_region_has_pages_and_a_history(rt: HostRuntime) -> Result<(), Fail> {
     let mut maker = NotingMaker {
-        asked: Vec::new(rt.alloc()),
+        made: Vec::new(rt.alloc()),
     };
     let config = Config::standard();
     let (heap, pass) = Heap::build(rt.alloc(), config, 1, &mut maker, &NoGate)?;
     assert!(rt; pass.caller() == 0 && pass.round() == 0 && pass.thread() == 1 && pass.out() == 0);
-    assert!(rt; maker.asked.len() == 197);
+    assert!(rt; maker.made.len() == 197);
     assert!(rt;
         (0..197u32)
-            .zip(&maker.asked)
-            .all(|(region, asked)| region == *asked)
+            .zip(&maker.made)
+            .all(|(region, made)| region == *made)
     );
     let closed = heap.close(rt.alloc(), pass)?;
     assert!(rt; closed.histories.items().len() == 197 && closed.pages.items().len() == 197);
@@ -486,6 +489,24 @@ fn a_root_goes_on_round_a_split(rt: HostRuntime) -> Result<(), Fail> {
     assert_eq!(rt; again.caller(), 2);
     heap.join(&mut root, again);
     assert_eq!(rt; (root.caller(), root.out()), (0, 0));
+    Ok(())
+}
+
+/// A large block is given and freed: two changes of its size, which no entry of the look itself joins.
+#[test]
+fn changes_of_large_blocks(rt: HostRuntime) -> Result<(), Fail> {
+    let config = Config::standard();
+    let (heap, mut root) = Heap::build(rt.alloc(), config, 1, &mut PlainMaker, &NoGate)?;
+    let given = heap.malloc(&rt, &mut root, 1, 200_000)?;
+    let addr = block_of(&given).ok_or("a block")?;
+    let freed = heap.free(&rt, &mut root, 2, addr)?;
+    assert_eq!(rt; told_by(&freed), Told::Freed);
+    let seen = heap.large_changes(&rt, rt.alloc(), &mut root, 0)?;
+    assert_eq!(rt; seen.upto, 2);
+    assert_eq!(rt;
+        seen.list.as_slice(),
+        [SizeChange::Put { addr, size: 229_376 }, SizeChange::Gone { addr }].as_slice()
+    );
     Ok(())
 }
 

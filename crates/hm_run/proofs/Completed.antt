@@ -20,6 +20,7 @@ use Rattle.hm_run.specs.declared.words.Output.{Output}
 use Rattle.hm_run.specs.Words.{AsksRun, AsksStress, asked_in}
 use Rattle.hm_run.specs.Endings.{CommandEnds, Ends, EndsAsked, RunsTrace, SourceEnds, TextEnds, IsRefused, status_after}
 use Rattle.hm_run.specs.Streams.{Stream, HasFailed, IsReadToEnd, IsTakenPast, IsWritten}
+use Rattle.hm_run.specs.Limits.{most_bytes}
 
 abbrev EndsWell : ℕ → Type 0
 EndsWell status = (status ≡ 0) ⊎ (status ≡ 1) ⊎ (status ≡ 6)
@@ -34,7 +35,7 @@ read_all source bytes read before h =
     by_rest (Some rest) taken emptied = sym (taken ∙ ap (λ (l : List ℕ). read ++ l) emptied ∙ append-nil read)
 
 -- not more than what was left is taken
-pub not_past : (source : Stream) (bytes : List ℕ) → source.before ≡ Some bytes → length bytes ≤ 67108864 → IsTakenPast 67108864 source → ⊥
+pub not_past : (source : Stream) (bytes : List ℕ) → source.before ≡ Some bytes → length bytes ≤ most_bytes → IsTakenPast most_bytes source → ⊥
 not_past source bytes before short past =
     by_rest source.after (subst (λ (o : Option (List ℕ)). Taken o source.after past.0) before past.1)
   where
@@ -47,7 +48,7 @@ finding_or_none true status e = inr (inl e)
 finding_or_none false status e = inl e
 
 refused : (refusal : Refusal) (source : Stream) (bytes : List ℕ) → source.before ≡ Some bytes
-    → length bytes ≤ 67108864 → (HasFailed source → ⊥) → IsRefused refusal source → ⊥
+    → length bytes ≤ most_bytes → (HasFailed source → ⊥) → IsRefused refusal source → ⊥
 refused Usage source bytes before short sound cause = cause
 refused ReadFault source bytes before short sound cause = sound cause.0
 refused TooLong source bytes before short sound cause = not_past source bytes before short cause.0
@@ -57,7 +58,7 @@ abbrev pub Faultless : Type 0
 Faultless = (trace : TraceView) → IsTrace trace → text_fault (spelling trace) ≡ None
 
 abbrev pub Short : Type 0
-Short = (trace : TraceView) → IsTrace trace → length (spelling trace) ≤ 67108864
+Short = (trace : TraceView) → IsTrace trace → length (spelling trace) ≤ most_bytes
 
 module _ {P : Type 0} (meaning : pages.Ghosts P) (run : Run P) (sink : Stream) (sound : HasFailed sink → ⊥) where
   ran_well : (o : Options) (trace : TraceView) (text_of : Closed P → List Results → List ℕ)

@@ -17,6 +17,7 @@ use Rattle.hm_run.specs.Endings.{CommandEnds, Ends, EndsAsked, HasFirstFault, Te
 use Rattle.hm_run.specs.Streams.{Stream, HasFailed, IsWritten}
 use Rattle.hm_run.proofs.Completed.{Faultless, not_past, read_all}
 use Rattle.hm_run.proofs.Exact.{planned_is, ran_not}
+use Rattle.hm_run.specs.Limits.{most_bytes}
 
 not_five : (s : ℕ) → s ≤ 4 → s ≡ 5 → ⊥
 not_five s most e = omega (arith, most, e)
@@ -101,7 +102,7 @@ module _ {P : Type 0} (meaning : pages.Ghosts P) (run : Run P) (sink : Stream) w
     only_faulty words ends e = asked_only words (asked_in words) refl ends.1 e
 
     -- with no fault of the source or the sink
-    module _ (faultless : Faultless) (bytes : List ℕ) (fault : TraceFault) (before : source.before ≡ Some bytes) (short : length bytes ≤ 67108864)
+    module _ (faultless : Faultless) (bytes : List ℕ) (fault : TraceFault) (before : source.before ≡ Some bytes) (short : length bytes ≤ most_bytes)
         (first : text_fault bytes ≡ Some fault) (whole : HasFailed source → ⊥) (sound : HasFailed sink → ⊥) where
       text_told : (o : Options) (output : Output) (read : List ℕ) → read ≡ bytes → TextEnds meaning run sink o output read → run.status ≡ 3
       text_told o output read is (inl ran) =

@@ -17,6 +17,7 @@ use Rattle.hm_run.specs.Words.{AsksRun}
 use Rattle.hm_run.specs.Endings.{CommandEnds, Ends, EndsAsked, RunsTrace, SourceEnds, TextEnds, IsRefused, status_of, status_after}
 use Rattle.hm_run.specs.Streams.{Stream, HasFailed, IsTakenPast, IsWritten}
 use Rattle.hm_run.proofs.Completed.{read_all}
+use Rattle.hm_run.specs.Limits.{most_bytes}
 
 -- a status that is not 5 is the one planned
 planned_is : (status planned : ℕ) (sink : Stream) (text : List ℕ) → IsWritten status planned sink text → status ≡ 7 → planned ≡ 7
@@ -27,7 +28,7 @@ finding_not : (b : Bool) (n : ℕ) → n ≡ cond b 1 0 → n ≡ 7 → ⊥
 finding_not true n is e = omega (arith, is, e)
 finding_not false n is e = omega (arith, is, e)
 
-refused_past : (refusal : Refusal) (source : Stream) → IsRefused refusal source → status_of refusal ≡ 7 → IsTakenPast 67108864 source
+refused_past : (refusal : Refusal) (source : Stream) → IsRefused refusal source → status_of refusal ≡ 7 → IsTakenPast most_bytes source
 refused_past Usage source cause e = absurd cause
 refused_past ReadFault source cause e = absurd (omega (arith, e))
 refused_past TooLong source cause e = cause.0
@@ -44,22 +45,22 @@ module _ {P : Type 0} (meaning : pages.Ghosts P) (run : Run P) (sink : Stream) w
 
   module _ (source : Stream) where
     source_past : (Ended : List ℕ → Type 0) → ((bytes : List ℕ) → Ended bytes → run.status ≡ 7 → ⊥)
-        → SourceEnds meaning run sink source Ended → run.status ≡ 7 → IsTakenPast 67108864 source
+        → SourceEnds meaning run sink source Ended → run.status ≡ 7 → IsTakenPast most_bytes source
     source_past Ended not (inl read) e = absurd (not read.bytes read.ends e)
     source_past Ended not (inr ended) e =
         refused_past ended.refusal source ended.cause (planned_is run.status (status_of ended.refusal) sink _ ended.tells.written e)
 
-    command_past : (o : Options) (command : Command) → CommandEnds meaning run sink source o command → run.status ≡ 7 → IsTakenPast 67108864 source
+    command_past : (o : Options) (command : Command) → CommandEnds meaning run sink source o command → run.status ≡ 7 → IsTakenPast most_bytes source
     command_past o (command.Run output) ends e = source_past _ (text_not o output) ends e
     command_past o (command.Stress number) ran e = absurd (ran_not o _ _ ran e)
 
-    pub only_past : (asked : Option Asked) → EndsAsked meaning run sink source asked → run.status ≡ 7 → IsTakenPast 67108864 source
+    pub only_past : (asked : Option Asked) → EndsAsked meaning run sink source asked → run.status ≡ 7 → IsTakenPast most_bytes source
     only_past None tells e = absurd (omega (arith, planned_is run.status 2 sink _ tells.written e))
     only_past (Some asked) (inl done) e = command_past asked.options asked.command done e
     only_past (Some asked) (inr none) e = absurd (omega (arith, none.0.status_is, e))
 
     -- with no fault of the source or the sink
-    module _ (bytes : List ℕ) (before : source.before ≡ Some bytes) (long : 67108864 < length bytes) (whole : HasFailed source → ⊥) (sound : HasFailed sink → ⊥) where
+    module _ (bytes : List ℕ) (before : source.before ≡ Some bytes) (long : most_bytes < length bytes) (whole : HasFailed source → ⊥) (sound : HasFailed sink → ⊥) where
       refused_long : (refusal : Refusal) (text : List ℕ)
           → IsRefused refusal source → IsWritten run.status (status_of refusal) sink text → run.status ≡ 7
       refused_long refusal text cause (inr w) = absurd (sound w.1)

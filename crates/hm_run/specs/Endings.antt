@@ -33,12 +33,15 @@ use Rattle.hm_run.specs.declared.words.Output.TheVariants.{Report, Journal, Stat
 use Rattle.hm_run.specs.Words.{IfUnasked, asked_in, config_of}
 use Rattle.hm_run.specs.Streams.{Stream, HasFailed, IsSound, IsReadToEnd, IsTakenPast, IsTakenWithin, IsUntaken, IsWritten}
 use Rattle.hm_run.specs.Replayed.{IsReplayed}
+use Rattle.hm_run.specs.Limits.{most_bytes}
+use Rattle.hm_run.specs.declared.status.Status.TheVariants as statuses
+use Rattle.hm_run.specs.Statuses.{code_of}
 
 -- ---- refusals
 abbrev pub status_of : Refusal → ℕ
-status_of Usage = 2
-status_of ReadFault = 4
-status_of TooLong = 7
+status_of Usage = code_of statuses.Usage
+status_of ReadFault = code_of statuses.ReadFault
+status_of TooLong = code_of statuses.TooLong
 
 abbrev pub line_of : Refusal → List ℕ
 line_of Usage = codes "fault: usage" ++ 10 ∷ []
@@ -49,8 +52,8 @@ line_of TooLong = codes "fault: too long" ++ 10 ∷ []
 -- what the words are is no matter of the source
 abbrev pub IsRefused : Refusal → Stream → Type 0
 IsRefused Usage source = ⊥
-IsRefused ReadFault source = HasFailed source × IsTakenWithin 67108864 source
-IsRefused TooLong source = IsTakenPast 67108864 source × IsSound source
+IsRefused ReadFault source = HasFailed source × IsTakenWithin most_bytes source
+IsRefused TooLong source = IsTakenPast most_bytes source × IsSound source
 
 -- ---- faults of a trace
 abbrev pub kind_text : FaultKind → List ℕ
@@ -81,7 +84,7 @@ fault_line fault = fault_start ++ fault_text fault.line fault.kind
 -- ---- a run
 -- 1 exactly where there is a finding
 abbrev pub status_after : List Results → ℕ
-status_after results = if has_finding results then 1 else 0
+status_after results = if has_finding results then code_of statuses.Finding else code_of statuses.Clean
 
 -- the notes of the rounds, of which the first has this number
 abbrev pub notes_in : ℕ → List RoundView → List RoundNotes
@@ -115,7 +118,7 @@ module _ {P : Type 0} (meaning : pages.Ghosts P) (run : Run P) (sink : Stream) w
 
   -- memory was wanted: nothing was written
   pub record LacksMemory : Type 0 where
-    pub status_is : run.status ≡ 6
+    pub status_is : run.status ≡ code_of statuses.NoMemory
     pub unwritten : sink.after ≡ sink.before
     pub sound : IsSound sink
     pub not_closed : run.closed ≡ None
@@ -135,7 +138,7 @@ module _ {P : Type 0} (meaning : pages.Ghosts P) (run : Run P) (sink : Stream) w
     pub first : text_fault bytes ≡ Some fault
     pub not_closed : run.closed ≡ None
     pub no_results : run.results ≡ None
-    pub written : IsWritten run.status 3 sink (fault_line fault)
+    pub written : IsWritten run.status (code_of statuses.NoTrace) sink (fault_line fault)
 
   -- how a text that was read ends
   abbrev pub TextEnds : Options → Output → List ℕ → Type 0
@@ -160,7 +163,7 @@ module _ {P : Type 0} (meaning : pages.Ghosts P) (run : Run P) (sink : Stream) w
       pub bytes : List ℕ
       pub read : IsReadToEnd source bytes
       pub sound : IsSound source
-      pub within : length bytes ≤ 67108864
+      pub within : length bytes ≤ most_bytes
       pub ends : Ended bytes
 
     -- how a command that reads it ends, by the bytes
@@ -184,7 +187,7 @@ module _ {P : Type 0} (meaning : pages.Ghosts P) (run : Run P) (sink : Stream) w
 pub record HasFirstFault (source : Stream) : Type 0 where
   pub bytes : List ℕ
   pub read : IsReadToEnd source bytes
-  pub within : length bytes ≤ 67108864
+  pub within : length bytes ≤ most_bytes
   pub fault : TraceFault
   pub first : text_fault bytes ≡ Some fault
 

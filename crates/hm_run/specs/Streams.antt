@@ -5,6 +5,8 @@ use Rattle.hm_outside.specs.declared.streams.Source as sources
 use Rattle.hm_outside.specs.declared.streams.Sink as sinks
 use Rattle.hm_outside.specs.Causes.{Rose}
 use Rattle.hm_outside.specs.Streams.{Taken, Put, IsEmptied}
+use Rattle.hm_run.specs.declared.status.Status.TheVariants as statuses
+use Rattle.hm_run.specs.Statuses.{code_of}
 
 -- a stream before a run and after it: what a source has left, or a sink holds, where it tells that; and how often it
 -- failed
@@ -63,4 +65,4 @@ IsFrontPut sink text = (n : ℕ) × (n < length text) × Put sink.before sink.af
 abbrev pub IsWritten : ℕ → ℕ → Stream → List ℕ → Type 0
 IsWritten status planned sink text =
     ((status ≡ planned) × IsSound sink × Put sink.before sink.after text)
-    ⊎ ((status ≡ 5) × HasFailed sink × IsFrontPut sink text)
+    ⊎ ((status ≡ code_of statuses.WriteFault) × HasFailed sink × IsFrontPut sink text)

@@ -15,6 +15,9 @@ ghost use Rattle.hm_run.specs.Laws.{LiveBlocksApart, RegionsApart, SlotsComeLate
 ghost use Rattle.hm_run.specs.Laws.{BlocksAreZero, OverwrittenStay, ClassRefusals, LargeRefusals, JournalsTell};
 ghost use Rattle.hm_run.specs.Streams.{Stream, HasFailed, IsSound, IsTakenPast};
 ghost use Rattle.hm_run.specs.Words.{AsksRun, AsksStress, asked_in};
+ghost use Rattle.hm_run.specs.Limits.{most_bytes};
+ghost use Rattle.hm_run.specs.declared.status.Status.TheVariants.{Clean, Finding, Usage, NoTrace, ReadFault, WriteFault, NoMemory, TooLong};
+ghost use Rattle.hm_run.specs.Statuses.{code_of};
 
 use hm_class_rules::condemned_slots;
 use hm_heap::{apart_blocks, delayed_blocks, zeroed_blocks};
@@ -30,10 +33,10 @@ pub fn runs_are_complete<P: Pages>()
         (trace : TraceView)
         → Ends P.Pages words run source sink → AsksRun words
         → IsTrace trace → source.before ≡ Some (spelling trace) → (HasFailed source → ⊥) → (HasFailed sink → ⊥)
-        → (run.status ≡ 0) ⊎ (run.status ≡ 1) ⊎ (run.status ≡ 6) }
+        → (run.status ≡ code_of Clean) ⊎ (run.status ≡ code_of Finding) ⊎ (run.status ≡ code_of NoMemory) }
     ensures stress { (words : List (String Global)) (run : Run P) (source sink : Stream)
         → Ends P.Pages words run source sink → AsksStress words → (HasFailed sink → ⊥)
-        → (run.status ≡ 0) ⊎ (run.status ≡ 1) ⊎ (run.status ≡ 6) }
+        → (run.status ≡ code_of Clean) ⊎ (run.status ≡ code_of Finding) ⊎ (run.status ≡ code_of NoMemory) }
 {
     spellings_have_no_fault();
     spellings_are_short();
@@ -44,20 +47,20 @@ pub fn runs_are_complete<P: Pages>()
 /// memory with 6.
 pub fn too_long_is_exact<P: Pages>()
     ensures only { (words : List (String Global)) (run : Run P) (source sink : Stream)
-        → Ends P.Pages words run source sink → run.status ≡ 7 → IsTakenPast 67108864 source }
+        → Ends P.Pages words run source sink → run.status ≡ code_of TooLong → IsTakenPast most_bytes source }
     ensures long { (words : List (String Global)) (run : Run P) (source sink : Stream) (bytes : List ℕ)
         → Ends P.Pages words run source sink → AsksRun words
-        → source.before ≡ Some bytes → 67108864 < length bytes → (HasFailed source → ⊥) → (HasFailed sink → ⊥)
-        → (run.status ≡ 7) ⊎ (run.status ≡ 6) }
+        → source.before ≡ Some bytes → most_bytes < length bytes → (HasFailed source → ⊥) → (HasFailed sink → ⊥)
+        → (run.status ≡ code_of TooLong) ⊎ (run.status ≡ code_of NoMemory) }
 {}
 
 /// A run ends with 2 only where the words are not accepted. And where they are not, and the sink does not fail, a run
 /// ends with 2.
 pub fn usage_is_exact<P: Pages>()
     ensures only { (words : List (String Global)) (run : Run P) (source sink : Stream)
-        → Ends P.Pages words run source sink → run.status ≡ 2 → asked_in words ≡ None }
+        → Ends P.Pages words run source sink → run.status ≡ code_of Usage → asked_in words ≡ None }
     ensures unaccepted { (words : List (String Global)) (run : Run P) (source sink : Stream)
-        → Ends P.Pages words run source sink → asked_in words ≡ None → (HasFailed sink → ⊥) → run.status ≡ 2 }
+        → Ends P.Pages words run source sink → asked_in words ≡ None → (HasFailed sink → ⊥) → run.status ≡ code_of Usage }
 {}
 
 /// A run ends with 3 only where the words ask for a source to be run, and its bytes, read to their end, have a first
@@ -65,13 +68,13 @@ pub fn usage_is_exact<P: Pages>()
 /// and neither it nor the sink fails, a run ends with 3, or for want of memory with 6.
 pub fn no_trace_is_exact<P: Pages>()
     ensures only { (words : List (String Global)) (run : Run P) (source sink : Stream)
-        → Ends P.Pages words run source sink → run.status ≡ 3 → AsksRun words × HasFirstFault source }
+        → Ends P.Pages words run source sink → run.status ≡ code_of NoTrace → AsksRun words × HasFirstFault source }
     ensures faulty { (words : List (String Global)) (run : Run P) (source sink : Stream) (bytes : List ℕ)
         (fault : TraceFault)
         → Ends P.Pages words run source sink → AsksRun words
-        → source.before ≡ Some bytes → length bytes ≤ 67108864 → text_fault bytes ≡ Some fault
+        → source.before ≡ Some bytes → length bytes ≤ most_bytes → text_fault bytes ≡ Some fault
         → (HasFailed source → ⊥) → (HasFailed sink → ⊥)
-        → (run.status ≡ 3) ⊎ (run.status ≡ 6) }
+        → (run.status ≡ code_of NoTrace) ⊎ (run.status ≡ code_of NoMemory) }
 {
     spellings_have_no_fault();
 }
@@ -81,13 +84,13 @@ pub fn no_trace_is_exact<P: Pages>()
 /// with 4, or with 5.
 pub fn faults_show<P: Pages>()
     ensures source_only { (words : List (String Global)) (run : Run P) (source sink : Stream)
-        → Ends P.Pages words run source sink → run.status ≡ 4 → HasFailed source }
+        → Ends P.Pages words run source sink → run.status ≡ code_of ReadFault → HasFailed source }
     ensures source_shows { (words : List (String Global)) (run : Run P) (source sink : Stream)
-        → Ends P.Pages words run source sink → (IsSound source → ⊥) → (run.status ≡ 4) ⊎ (run.status ≡ 5) }
+        → Ends P.Pages words run source sink → (IsSound source → ⊥) → (run.status ≡ code_of ReadFault) ⊎ (run.status ≡ code_of WriteFault) }
     ensures sink_only { (words : List (String Global)) (run : Run P) (source sink : Stream)
-        → Ends P.Pages words run source sink → run.status ≡ 5 → HasFailed sink }
+        → Ends P.Pages words run source sink → run.status ≡ code_of WriteFault → HasFailed sink }
     ensures sink_shows { (words : List (String Global)) (run : Run P) (source sink : Stream)
-        → Ends P.Pages words run source sink → (IsSound sink → ⊥) → run.status ≡ 5 }
+        → Ends P.Pages words run source sink → (IsSound sink → ⊥) → run.status ≡ code_of WriteFault }
 {}
 
 /// Where two runs wrote journals, each to a sink that was empty, tells what it holds and did not fail, and the texts are

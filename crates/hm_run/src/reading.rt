@@ -2,6 +2,7 @@
 ghost use Rattle.std.specs.Prelude.{◌≡◌, ◌≤◌, length, IfOk, IsErrOf};
 ghost use Rattle.hm_run.specs.declared.reading.ReadStop.{ReadStop};
 ghost use Rattle.hm_run.specs.Streams.{HasFailed, IsSound, IsReadToEnd, IsTakenPast, IsTakenWithin, source_of};
+ghost use Rattle.hm_run.specs.Limits.{most_bytes, most_taken, most_piece};
 
 use hm_outside::{Source, SourceFault};
 use std::alloc::{AllocError, Global};
@@ -43,15 +44,15 @@ impl From<SourceFault> for ReadStop {
 /// the limit is taken.
 pub fn read_all<S: Source>(alloc: Global, source: &mut S) -> Result<Vec<u8>, ReadStop>
     ensures whole { IfOk result (λ v. IsReadToEnd (source_of S.Source source.old source.new) v.items) }
-    ensures within { IfOk result (λ v. length v.items ≤ 67108864) }
+    ensures within { IfOk result (λ v. length v.items ≤ most_bytes) }
     ensures sound { IfOk result (λ _. IsSound (source_of S.Source source.old source.new)) }
     ensures memory { IsErrOf result ReadStop.NoMemory → IsSound (source_of S.Source source.old source.new) }
     ensures fault { IsErrOf result ReadStop.Fault → HasFailed (source_of S.Source source.old source.new) }
     ensures before_fault { IsErrOf result ReadStop.Fault
-        → IsTakenWithin 67108864 (source_of S.Source source.old source.new) }
-    ensures bound { IsTakenWithin 67108865 (source_of S.Source source.old source.new) }
+        → IsTakenWithin most_bytes (source_of S.Source source.old source.new) }
+    ensures bound { IsTakenWithin most_taken (source_of S.Source source.old source.new) }
     ensures long { IsErrOf result ReadStop.TooLong
-        → IsTakenPast 67108864 (source_of S.Source source.old source.new) }
+        → IsTakenPast most_bytes (source_of S.Source source.old source.new) }
     ensures sound_long { IsErrOf result ReadStop.TooLong → IsSound (source_of S.Source source.old source.new) }
 {
     let mut piece = vec![in alloc; 0u8; PIECE]?;
@@ -60,17 +61,17 @@ pub fn read_all<S: Source>(alloc: Global, source: &mut S) -> Result<Vec<u8>, Rea
 
 // All bytes of the source, each piece of them by way of a buffer.
 fn read_by<S: Source>(alloc: Global, source: &mut S, piece: &mut [u8]) -> Result<Vec<u8>, ReadStop>
-    requires { length piece.old ≡ 65536 }
+    requires { length piece.old ≡ most_piece }
     ensures whole { IfOk result (λ v. IsReadToEnd (source_of S.Source source.old source.new) v.items) }
-    ensures within { IfOk result (λ v. length v.items ≤ 67108864) }
+    ensures within { IfOk result (λ v. length v.items ≤ most_bytes) }
     ensures sound { IfOk result (λ _. IsSound (source_of S.Source source.old source.new)) }
     ensures memory { IsErrOf result ReadStop.NoMemory → IsSound (source_of S.Source source.old source.new) }
     ensures fault { IsErrOf result ReadStop.Fault → HasFailed (source_of S.Source source.old source.new) }
     ensures before_fault { IsErrOf result ReadStop.Fault
-        → IsTakenWithin 67108864 (source_of S.Source source.old source.new) }
-    ensures bound { IsTakenWithin 67108865 (source_of S.Source source.old source.new) }
+        → IsTakenWithin most_bytes (source_of S.Source source.old source.new) }
+    ensures bound { IsTakenWithin most_taken (source_of S.Source source.old source.new) }
     ensures long { IsErrOf result ReadStop.TooLong
-        → IsTakenPast 67108864 (source_of S.Source source.old source.new) }
+        → IsTakenPast most_bytes (source_of S.Source source.old source.new) }
     ensures sound_long { IsErrOf result ReadStop.TooLong → IsSound (source_of S.Source source.old source.new) }
 {
     let mut bytes = Vec::new(alloc);

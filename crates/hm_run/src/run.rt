@@ -9,6 +9,9 @@ ghost use Rattle.hm_trace.specs.Stress.{stress};
 ghost use Rattle.hm_run.specs.Endings.{CommandEnds, Ends, RunsTrace, TextEnds, OutputFits, status_of, line_of, status_after, output_text, fault_line};
 ghost use Rattle.hm_run.specs.Streams.{IsSound, IsTakenWithin, IsWritten, sink_of, source_of};
 ghost use Rattle.hm_run.specs.Words.{IfMade, IfUnasked, asked_in, config_of};
+ghost use Rattle.hm_run.specs.Limits.{most_taken};
+ghost use Rattle.hm_run.specs.declared.status.Status.TheVariants as statuses;
+ghost use Rattle.hm_run.specs.Statuses.{code_of};
 
 use crate::notes::notes_of;
 use crate::reading::{ReadStop, read_all};
@@ -46,7 +49,7 @@ fn refuse<K: Sink, P>(sink: &mut K, refusal: Refusal) -> Run<P>
     ensures results { result.results ≡ None }
     ensures written { IsWritten result.status (status_of refusal) (sink_of K.Sink sink.old sink.new)
         (line_of refusal) }
-    ensures status { result.status ≢ 6 }
+    ensures status { result.status ≢ code_of statuses.NoMemory }
 {
     Run {
         status: finish(sink, refusal.status(), refusal.line()).code(),
@@ -57,7 +60,7 @@ fn refuse<K: Sink, P>(sink: &mut K, refusal: Refusal) -> Run<P>
 
 // What is handed out for want of memory, when nothing was written.
 fn give_up<P>() -> Run<P>
-    ensures status { result.status ≡ 6 }
+    ensures status { result.status ≡ code_of statuses.NoMemory }
     ensures closed { result.closed ≡ None }
     ensures results { result.results ≡ None }
 {
@@ -78,7 +81,7 @@ fn refuse_text<K: Sink, P>(
     ensures results { IfOk result (λ run. run.results ≡ None) }
     ensures written { IfOk result (λ run. IsWritten run.status 3 (sink_of K.Sink sink.old sink.new)
         (fault_line fault.now)) }
-    ensures status { IfOk result (λ run. run.status ≢ 6) }
+    ensures status { IfOk result (λ run. run.status ≢ code_of statuses.NoMemory) }
     ensures memory { OnErr result (sink.new ≡ sink.old) }
 {
     let line = line_of_fault(alloc, fault)?;
@@ -133,7 +136,7 @@ fn write_results<K: Sink, P>(sink: &mut K, ran: Ran<P>, found: bool, text: &[u8]
     ensures results { result.results ≡ Some ran.results.items }
     ensures written { IsWritten result.status (status_after ran.results.items) (sink_of K.Sink sink.old sink.new)
         text.now }
-    ensures status { result.status ≢ 6 }
+    ensures status { result.status ≢ code_of statuses.NoMemory }
 {
     let planned = if found {
         Status::Finding
@@ -159,7 +162,7 @@ fn run_text<R: Threads + Wait + Sync, K: Sink, M: PageMaker, G: Gate>(
     requires valid { IsValid (config_of options.now) }
     ensures ends { IfOk result (λ run.
         TextEnds M.P.Pages run (sink_of K.Sink sink.old sink.new) options.now output bytes.items) }
-    ensures status { IfOk result (λ run. run.status ≢ 6) }
+    ensures status { IfOk result (λ run. run.status ≢ code_of statuses.NoMemory) }
     ensures memory { OnErr result (sink.new ≡ sink.old) }
 {
     let rt = machine.rt;
@@ -186,11 +189,11 @@ fn run_source<R: Threads + Wait + Sync, S: Source, K: Sink, M: PageMaker, G: Gat
     sink: &mut K,
 ) -> Result<Run<M::P>, NoMemory>
     requires valid { IsValid (config_of options.now) }
-    ensures bound { IsTakenWithin 67108865 (source_of S.Source source.old source.new) }
+    ensures bound { IsTakenWithin most_taken (source_of S.Source source.old source.new) }
     ensures sound { OnErr result (IsSound (source_of S.Source source.old source.new)) }
     ensures ends { IfOk result (λ run. CommandEnds M.P.Pages run (sink_of K.Sink sink.old sink.new)
         (source_of S.Source source.old source.new) options.now (Command.Run output)) }
-    ensures status { IfOk result (λ run. run.status ≢ 6) }
+    ensures status { IfOk result (λ run. run.status ≢ code_of statuses.NoMemory) }
     ensures memory { OnErr result (sink.new ≡ sink.old) }
 {
     match read_all(machine.alloc, source) {
@@ -211,7 +214,7 @@ fn run_stress<R: Threads + Wait + Sync, K: Sink, M: PageMaker, G: Gate>(
     requires valid { IsValid (config_of options.now) }
     ensures ends { IfOk result (λ run. RunsTrace M.P.Pages run (sink_of K.Sink sink.old sink.new) options.now
         (stress number) (λ left. summary_text number)) }
-    ensures status { IfOk result (λ run. run.status ≢ 6) }
+    ensures status { IfOk result (λ run. run.status ≢ code_of statuses.NoMemory) }
     ensures memory { OnErr result (sink.new ≡ sink.old) }
 {
     let alloc = machine.alloc;
@@ -230,12 +233,12 @@ fn carry_out<R: Threads + Wait + Sync, S: Source, K: Sink, M: PageMaker, G: Gate
     sink: &mut K,
 ) -> Result<Run<M::P>, NoMemory>
     requires valid { IsValid (config_of asked.now.options) }
-    ensures bound { IsTakenWithin 67108865 (source_of S.Source source.old source.new) }
+    ensures bound { IsTakenWithin most_taken (source_of S.Source source.old source.new) }
     ensures sound { OnErr result (IsSound (source_of S.Source source.old source.new)) }
     ensures ends { IfOk result (λ run. CommandEnds M.P.Pages run (sink_of K.Sink sink.old sink.new)
         (source_of S.Source source.old source.new) asked.now.options asked.now.command) }
     ensures untouched { IfMade asked.now.command (source.new ≡ source.old) }
-    ensures status { IfOk result (λ run. run.status ≢ 6) }
+    ensures status { IfOk result (λ run. run.status ≢ code_of statuses.NoMemory) }
     ensures memory { OnErr result (sink.new ≡ sink.old) }
 {
     let options = &asked.options;
@@ -258,11 +261,11 @@ pub fn replay<R: Threads + Wait + Sync, S: Source, K: Sink, M: PageMaker, G: Gat
     maker: &mut M,
     gate: &G,
 ) -> Run<M::P>
-    ensures bound { IsTakenWithin 67108865 (source_of S.Source source.old source.new) }
+    ensures bound { IsTakenWithin most_taken (source_of S.Source source.old source.new) }
     ensures ends { Ends M.P.Pages words.now result (source_of S.Source source.old source.new)
         (sink_of K.Sink sink.old sink.new) }
     ensures untouched { IfUnasked (asked_in words.now) (source.new ≡ source.old) }
-    ensures memory { result.status ≡ 6 → sink.new ≡ sink.old }
+    ensures memory { result.status ≡ code_of statuses.NoMemory → sink.new ≡ sink.old }
 {
     let asked = match read_words(words) {
         Some(asked) => asked,

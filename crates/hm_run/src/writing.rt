@@ -3,6 +3,7 @@ ghost use Rattle.std.specs.Prelude.{◌≢◌, OnOk, OnErr};
 ghost use Rattle.hm_outside.specs.Streams.{Put};
 ghost use Rattle.hm_run.specs.Statuses.{code_of};
 ghost use Rattle.hm_run.specs.Streams.{HasFailed, IsSound, IsFrontPut, IsWritten, sink_of};
+ghost use Rattle.hm_run.specs.declared.status.Status.TheVariants as statuses;
 
 use crate::status::Status;
 use hm_outside::{Sink, SinkFault};
@@ -27,7 +28,7 @@ fn write_all<K: Sink>(sink: &mut K, text: &[u8]) -> Result<(), SinkFault>
 /// Writes the text and answers the status that is planned, or that of a failed sink.
 pub fn finish<K: Sink>(sink: &mut K, planned: Status, text: &[u8]) -> Status
     ensures written { IsWritten (code_of result) (code_of planned) (sink_of K.Sink sink.old sink.new) text.now }
-    ensures status { code_of planned ≢ 6 → code_of result ≢ 6 }
+    ensures status { code_of planned ≢ code_of statuses.NoMemory → code_of result ≢ code_of statuses.NoMemory }
 {
     match write_all(sink, text) {
         Ok(()) => planned,
