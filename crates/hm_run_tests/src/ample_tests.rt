@@ -1,7 +1,8 @@
 //! Runs that ask for much, with ample memory: as many rounds as a trace may have, and blocks of a mebibyte and more.
 
-use crate::test_runs::{run_plain, text_of};
-use hm_fakes::VecSink;
+use crate::test_runs::{report_of, text_of};
+use hm_fakes::PlainMaker;
+use hm_outside::NoGate;
 use std::alloc::{AllocError, Global};
 use std::fmt::Write;
 use std::sync::Wait;
@@ -25,10 +26,9 @@ fn most_rounds(alloc: Global) -> Result<(String, String), AllocError> {
 fn as_many_rounds_as_may_be(rt: HostRuntime) -> Result<(), Fail> {
     let alloc = rt.alloc();
     let (text, report) = most_rounds(alloc)?;
-    let mut sink = VecSink::build(alloc, 65_536, 999, Vec::new(alloc))?;
-    let run = run_plain(&rt, alloc, "run", text.as_bytes(), &mut sink)?;
-    assert_eq!(rt; run.status, 0);
-    assert_eq!(rt; sink.held.as_slice(), report.as_bytes());
+    let (status, written) = report_of(&rt, alloc, &text, &mut PlainMaker, &NoGate)?;
+    assert_eq!(rt; status, 0);
+    assert_eq!(rt; written.as_slice(), report.as_bytes());
     Ok(())
 }
 
@@ -38,11 +38,10 @@ fn great_blocks(rt: HostRuntime) -> Result<(), Fail> {
     let steps =
         "malloc y 1048576\nwrite y 1048576 41\nrealloc z y 2000000\nread z 1048576\nread z+1048570 12\nfree z\n";
     let text = text_of(alloc, steps)?;
-    let mut sink = VecSink::build(alloc, 999, 99, Vec::new(alloc))?;
-    let run = run_plain(&rt, alloc, "run", text.as_bytes(), &mut sink)?;
-    assert_eq!(rt; run.status, 0);
+    let (status, written) = report_of(&rt, alloc, &text, &mut PlainMaker, &NoGate)?;
+    assert_eq!(rt; status, 0);
     assert_eq!(rt;
-        sink.held.as_slice(),
+        written.as_slice(),
         b"1.1.1 given 1048576\n1.1.2 written\n1.1.3 given 2097152\n1.1.4 bytes 41*1048576\n\
             1.1.5 bytes 41*6 00*6\n1.1.6 freed\n"
             .as_slice()

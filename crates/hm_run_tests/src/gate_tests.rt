@@ -1,42 +1,18 @@
-//! Gates that look at what a round does: that as many threads run as there are scripts, and for which region and caller
-//! a gate is called.
+//! Gates that look at what a round does: that as many threads run as there are scripts, for which region and caller a
+//! gate is called, and that this is before the region works.
+ghost use Rattle.std.specs.Prelude.{None};
 
-use crate::test_runs::{run_text, text_of};
-use hm_base::RegionId;
-use hm_fakes::{PlainMaker, VecSink};
-use hm_outside::Gate;
+use crate::test_runs::{report_of, text_of};
+use hm_base::{NoMemory, RegionId};
+use hm_fakes::{Meeting, PlainMaker, SilentPages};
+use hm_outside::{Gate, PageFault, PageMaker, PageRefusal, Pages};
 use std::alloc::{AllocError, Global};
 use std::fmt::Write;
+use std::marker::Model;
 use std::sync::Wait;
 use std::sync::atomic::{AtomicU64, Ordering};
 use std::test::Fail;
-use std::thread::{self, Threads};
-
-/// A gate that holds each call inside its region until 16 are inside, or for 10,000,000 turns.
-#[derive(Drop)]
-struct Gathering {
-    inside: AtomicU64,
-    missed: AtomicU64,
-}
-
-impl Gathering {
-    fn wait_for_all(&self) {
-        for _ in 0u32..10_000_000 {
-            if self.inside.load(Ordering::SeqCst) >= 16 {
-                return;
-            }
-            thread::yield_now();
-        }
-        self.missed.fetch_add(1, Ordering::SeqCst);
-    }
-}
-
-impl Gate for Gathering {
-    fn inside(&self, _region: RegionId, _caller: u32) {
-        self.inside.fetch_add(1, Ordering::SeqCst);
-        self.wait_for_all();
-    }
-}
+use std::thread::Threads;
 
 /// A request of each of four classes, whose blocks have so many usable bytes.
 const CLASSES: [(u64, u64); 4] = [(8, 8), (100, 104), (1000, 1016), (4000, 4088)];
@@ -61,25 +37,12 @@ fn sixteen_regions(alloc: Global) -> Result<(String, String), AllocError> {
 #[test]
 fn as_many_threads_as_scripts(rt: HostRuntime) -> Result<(), Fail> {
     let alloc = rt.alloc();
-    let gate = Gathering {
-        inside: AtomicU64::new(0),
-        missed: AtomicU64::new(0),
-    };
+    let gate = Meeting::of(16);
     let (text, report) = sixteen_regions(alloc)?;
-    let mut sink = VecSink::build(alloc, 999, 99, Vec::new(alloc))?;
-    let run = run_text(
-        &rt,
-        alloc,
-        "run",
-        text.as_bytes(),
-        &mut sink,
-        &mut PlainMaker,
-        &gate,
-    )?;
-    assert_eq!(rt; run.status, 0);
-    assert_eq!(rt; gate.missed.load(Ordering::SeqCst), 0);
-    assert_eq!(rt; gate.inside.load(Ordering::SeqCst), 16);
-    assert_eq!(rt; sink.held.as_slice(), report.as_bytes());
+    let (status, written) = report_of(&rt, alloc, &text, &mut PlainMaker, &gate)?;
+    assert_eq!(rt; status, 0);
+    assert_eq!(rt; gate.counts(), (16, 0));
+    assert_eq!(rt; written.as_slice(), report.as_bytes());
     Ok(())
 }
 
@@ -112,19 +75,149 @@ fn a_gate_hears_which_region_and_who(rt: HostRuntime) -> Result<(), Fail> {
         others: AtomicU64::new(0),
     };
     let text = text_of(alloc, "malloc a 8\nfree a\nthread 2\nmalloc b 4000\n")?;
-    let mut sink = VecSink::build(alloc, 99, 99, Vec::new(alloc))?;
-    let run = run_text(
-        &rt,
-        alloc,
-        "run",
-        text.as_bytes(),
-        &mut sink,
-        &mut PlainMaker,
-        &gate,
-    )?;
-    assert_eq!(rt; run.status, 0);
+    let (status, written) = report_of(&rt, alloc, &text, &mut PlainMaker, &gate)?;
+    assert_eq!(rt; status, 0);
+    assert_eq!(rt; written.as_slice(), b"1.1.1 given 8\n1.1.2 freed\n1.2.1 given 4088\n".as_slice());
     assert_eq!(rt; gate.first.load(Ordering::SeqCst), 2);
     assert_eq!(rt; gate.second.load(Ordering::SeqCst), 1);
     assert_eq!(rt; gate.others.load(Ordering::SeqCst), 0);
+    Ok(())
+}
+
+/// A gate that counts the calls that are inside or were.
+#[derive(Drop)]
+struct Entering<'a> {
+    entered: &'a AtomicU64,
+}
+
+impl Gate for Entering<'_> {
+    fn inside(&self, _region: RegionId, _caller: u32) {
+        self.entered.fetch_add(1, Ordering::SeqCst);
+    }
+}
+
+/// Pages that tell nothing, and count how often they are made accessible after a call was entered, and how often before.
+#[derive(Drop)]
+struct WatchingPages<'a> {
+    silent: SilentPages,
+    entered: &'a AtomicU64,
+    after: &'a AtomicU64,
+    before: &'a AtomicU64,
+}
+
+impl<'a> Model for WatchingPages<'a> {
+    ghost use Rattle.std.specs.FinMap as map;
+    ghost use Rattle.std.specs.Coded.{coded_ℕ, coded_list};
+    ghost use Rattle.hm_outside.specs.PageRuns.{PageRuns};
+
+    ghost Value = { PageRuns };
+
+    ghost coded = { map.code coded_ℕ (coded_list coded_ℕ) };
+
+    ghost view = { λ p. p.silent };
+}
+
+impl<'a> Pages for WatchingPages<'a> {
+    ghost use Rattle.std.specs.Prelude.{◌≡◌, false, refl};
+    ghost use Rattle.std.specs.FinMap as map;
+    ghost use Rattle.std.proofs.lemmas.Bool.{false≢true};
+    ghost use Rattle.hm_outside.specs.RunLists.{CanWrite};
+    ghost use Rattle.hm_fakes.specs.PlainRuns.{with_range};
+
+    ghost told = { λ p. false };
+
+    ghost runs = { λ p. map.empty };
+
+    ghost faults = { λ p. 0 };
+
+    ghost can_write = { λ p addr len. (addr ≡ 0) × CanWrite p addr len };
+
+    ghost after_write = { λ p addr len bytes. with_range p addr len bytes };
+
+    ghost written = { λ p addr bytes can. record {
+      same_telling = refl;
+      same_count = refl;
+      over = λ tells. absurd (false≢true tells);
+    } };
+
+    fn make_accessible(&mut self, _first: u64, _pages: u32) -> Result<(), PageRefusal> {
+        let word = if self.entered.load(Ordering::SeqCst) > 0 {
+            self.after
+        } else {
+            self.before
+        };
+        word.fetch_add(1, Ordering::SeqCst);
+        Ok(())
+    }
+
+    fn drop_contents(&mut self, _first: u64, _pages: u32) -> Result<(), PageFault> {
+        Ok(())
+    }
+
+    fn purge(&mut self, _first: u64, _pages: u32) {}
+
+    fn piece(&self, addr: u64, len: usize, from: usize) -> Option<&[u8]> {
+        self.silent.piece(addr, len, from)
+    }
+
+    fn holds(&self, addr: u64, len: usize) -> bool {
+        self.silent.holds(addr, len)
+    }
+
+    fn bytes_mut(&mut self, addr: u64, len: usize) -> &mut [u8] {
+        self.silent.bytes_mut(addr, len)
+    }
+
+    fn zero(&mut self, addr: u64, len: usize) {
+        self.silent.zero(addr, len)
+    }
+
+    fn faults(&self) -> u64 {
+        0
+    }
+}
+
+/// It makes pages that watch the same words.
+#[derive(Drop)]
+struct WatchingMaker<'a> {
+    entered: &'a AtomicU64,
+    after: &'a AtomicU64,
+    before: &'a AtomicU64,
+}
+
+impl<'a> PageMaker for WatchingMaker<'a> {
+    type P = WatchingPages<'a>;
+
+    ghost made = { λ m. None };
+
+    fn make(&mut self, alloc: Global, _region: RegionId) -> Result<WatchingPages<'a>, NoMemory> {
+        Ok(WatchingPages {
+            silent: SilentPages::new(alloc),
+            entered: self.entered,
+            after: self.after,
+            before: self.before,
+        })
+    }
+}
+
+#[test]
+fn a_gate_is_called_before_the_region_works(rt: HostRuntime) -> Result<(), Fail> {
+    let alloc = rt.alloc();
+    let entered = AtomicU64::new(0);
+    let after = AtomicU64::new(0);
+    let before = AtomicU64::new(0);
+    let gate = Entering { entered: &entered };
+    let mut maker = WatchingMaker {
+        entered: &entered,
+        after: &after,
+        before: &before,
+    };
+    let text = text_of(alloc, "malloc y 200000\n")?;
+    let (status, written) = report_of(&rt, alloc, &text, &mut maker, &gate)?;
+    assert_eq!(rt; status, 0);
+    assert_eq!(rt; written.as_slice(), b"1.1.1 given 229376\n".as_slice());
+    assert_eq!(rt; entered.load(Ordering::SeqCst), 1);
+    assert_eq!(rt; after.load(Ordering::SeqCst), 1);
+    assert_eq!(rt; before.load(Ordering::SeqCst), 0);
     Ok(())
 }

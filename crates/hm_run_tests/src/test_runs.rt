@@ -68,6 +68,19 @@ pub(crate) fn run_text<R: Threads + Wait + Sync, M: PageMaker, G: Gate>(
     Ok(replay(rt, alloc, &words, &mut source, sink, maker, gate))
 }
 
+// The status of a run of a text, and what it wrote.
+pub(crate) fn report_of<R: Threads + Wait + Sync, M: PageMaker, G: Gate>(
+    rt: &R,
+    alloc: Global,
+    text: &str,
+    maker: &mut M,
+    gate: &G,
+) -> Result<(u8, Vec<u8>), Fail> {
+    let mut sink = VecSink::build(alloc, 65_536, 999, Vec::new(alloc))?;
+    let run = run_text(rt, alloc, "run", text.as_bytes(), &mut sink, maker, gate)?;
+    Ok((run.status, sink.held))
+}
+
 // Runs a text over plain pages.
 pub(crate) fn run_plain<R: Threads + Wait + Sync>(
     rt: &R,

@@ -2,20 +2,20 @@
 //! of a round, what the number of a run moves, and what is asked of a source.
 ghost use Rattle.std.specs.Prelude.{None};
 
-use crate::test_runs::{failing_maker, replay_plain, run_plain, run_text, source, text_of, words};
-use hm_base::RegionId;
-use hm_fakes::{PlainMaker, VecSink};
+use crate::test_runs::{
+    failing_maker, replay_plain, report_of, run_plain, run_text, source, text_of, words,
+};
+use hm_fakes::{Meeting, PlainMaker, VecSink};
 use hm_frames::FrameMaker;
-use hm_outside::{Gate, NoGate, PageMaker, Source, SourceFault};
+use hm_outside::{NoGate, PageMaker, Source, SourceFault};
 use hm_run::{Run, replay};
 use hm_trace::{read_trace, write_trace};
 use std::alloc::{AllocError, Global};
 use std::fmt::Write;
 use std::process::Abort;
 use std::sync::Wait;
-use std::sync::atomic::{AtomicU64, Ordering};
 use std::test::Fail;
-use std::thread::{self, Threads};
+use std::thread::Threads;
 
 /// Words, the steps of thread 1 of round 1 with what may follow them, the report, another one where threads race,
 /// and the status. The traces of `examples/` are among them.
@@ -496,66 +496,15 @@ fn faults_of<P>(alloc: Global, run: &Run<P>, place: usize) -> Result<Vec<(u64, u
     Ok(counts)
 }
 
-/// A gate that holds the first call in each of two regions until both were entered, or for 10,000,000 turns.
-#[derive(Drop)]
-struct Meeting {
-    small: AtomicU64,
-    great: AtomicU64,
-    missed: AtomicU64,
-}
-
-impl Meeting {
-    fn wait_for(&self, word: &AtomicU64) {
-        for _ in 0u32..10_000_000 {
-            if word.load(Ordering::SeqCst) > 0 {
-                return;
-            }
-            thread::yield_now();
-        }
-        self.missed.fetch_add(1, Ordering::SeqCst);
-    }
-}
-
-impl Gate for Meeting {
-    fn inside(&self, region: RegionId, _caller: u32) {
-        if region.0 == 1 {
-            self.small.fetch_add(1, Ordering::SeqCst);
-            self.wait_for(&self.great);
-        }
-        if region.0 == 77 {
-            self.great.fetch_add(1, Ordering::SeqCst);
-            self.wait_for(&self.small);
-        }
-    }
-}
-
 #[test]
 fn threads_of_a_round_run_at_once(rt: HostRuntime) -> Result<(), Fail> {
     let alloc = rt.alloc();
-    let gate = Meeting {
-        small: AtomicU64::new(0),
-        great: AtomicU64::new(0),
-        missed: AtomicU64::new(0),
-    };
+    let gate = Meeting::of(2);
     let text = text_of(alloc, "malloc a 8\nthread 2\nmalloc b 4000\n")?;
-    let mut sink = VecSink::build(alloc, 99, 99, Vec::new(alloc))?;
-    let run = run_text(
-        &rt,
-        alloc,
-        "run",
-        text.as_bytes(),
-        &mut sink,
-        &mut PlainMaker,
-        &gate,
-    )?;
-    assert_eq!(rt; run.status, 0);
-    assert_eq!(rt; gate.small.load(Ordering::SeqCst), 1);
-    assert_eq!(rt; gate.great.load(Ordering::SeqCst), 1);
-    assert_eq!(rt; gate.missed.load(Ordering::SeqCst), 0);
-    assert_eq!(rt;
-        sink.held.as_slice(),
-        b"1.1.1 given 8\n1.2.1 given 4088\n".as_slice()
-    );
+    let (status, written) = report_of(&rt, alloc, &text, &mut PlainMaker, &gate)?;
+    assert_eq!(rt; status, 0);
+    assert_eq!(rt; gate.counts(), (2, 0));
+    assert_eq!(rt; written.as_slice(), b"1.1.1 given 8\n1.2.1 given 4088\n".as_slice());
     Ok(())
 }
 
