@@ -9,12 +9,14 @@ mod notes;
 mod results;
 mod summary_line;
 mod text;
+mod totals;
 
 pub use findings::{has_finding, is_finding_reply};
 pub use lines::report;
 pub use notes::{Note, RoundNotes};
 pub use results::{Results, StepResult};
 pub use summary_line::{RunSummary, summary};
+pub use totals::write_totals;
 
 #[cfg(test)]
 mod tests;

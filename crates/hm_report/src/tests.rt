@@ -1,7 +1,7 @@
 //! The text of each answer and whether it is a finding, the lines of reports, and what summaries count.
 ghost use Rattle.std.specs.Prelude.{◌≡◌, IfOk};
 
-use crate::{Note, Results, RoundNotes, StepResult, has_finding, report, summary};
+use crate::{Note, Results, RoundNotes, StepResult, has_finding, report, summary, write_totals};
 use hm_base::List;
 use hm_model::{Answer, Reply, Runs};
 use std::alloc::{AllocError, Global};
@@ -367,6 +367,25 @@ fn summaries(rt: HostRuntime) -> Result<(), Fail> {
         let summed = summary(rt.alloc(), number, results)?;
         assert_eq!(rt; summed.text.as_slice(), text.as_bytes(), "{text}");
         assert_eq!(rt; summed.found, found, "{text}");
+    }
+    Ok(())
+}
+
+/// Sums after each round, and their lines.
+const TOTALS: [(&[u128], &str); 3] = [
+    (&[], ""),
+    (&[0], "round 1 large 0\n"),
+    (
+        &[229376, u128::MAX],
+        "round 1 large 229376\nround 2 large 340282366920938463463374607431768211455\n",
+    ),
+];
+
+#[test]
+fn lines_of_sums(rt: HostRuntime) -> Result<(), Fail> {
+    for (totals, text) in TOTALS {
+        let lines = write_totals(rt.alloc(), totals)?;
+        assert_eq!(rt; lines.as_slice(), text.as_bytes(), "{text}");
     }
     Ok(())
 }
