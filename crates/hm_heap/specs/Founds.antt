@@ -1,5 +1,6 @@
 -- The locks and the turns of a new heap, and the regions whose pages are made for it.
-use Rattle.std.specs.Prelude.{◌≡◌, ◌<◌, ℕ, List, ◌∷◌, [], ◌++◌, length, range_with_len, slice_index_or}
+use Rattle.std.specs.Prelude.{◌≡◌, ◌<◌, ℕ, List, ◌∷◌, [], ◌++◌, length, slice_index_or}
+use Rattle.std.specs.List.{range_with_len}
 use Rattle.hm_sizes.specs.declared.config.Config.{Config}
 use Rattle.hm_sizes.specs.Homes.{region_count}
 use Rattle.hm_sizes.specs.Origins.{large_region_number}
