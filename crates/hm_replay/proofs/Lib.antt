@@ -15,4 +15,6 @@ pub mod Begun
 pub mod Replaying
 pub mod Ascending
 pub mod Entries
+pub mod Looking
+pub mod Watching
 mod Counting

@@ -191,7 +191,7 @@ none_left [] none = refl
 none_left (e ∷ es) none = absurd (has_one e es (none e.who.caller))
 
 -- the history is what was seen
-all_seen : (h : List Entry) (k : Knowledge) → k.caller ≡ 0 → IsWhole h k → KnowsCallers k → AllJoined k → h ≡ k.seen
+pub all_seen : (h : List Entry) (k : Knowledge) → k.caller ≡ 0 → IsWhole h k → KnowsCallers k → AllJoined k → h ≡ k.seen
 all_seen h k root w know joined =
     w.begins.1 ∙ ap (λ (l : List Entry). k.seen ++ l)
     (none_left w.begins.0 (λ c. none_after c h k.seen w.begins (same c)))

@@ -8,3 +8,4 @@ pub mod Rounds
 pub mod RoundOf
 pub mod Workers
 pub mod Replays
+pub mod Watched

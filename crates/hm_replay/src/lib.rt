@@ -15,6 +15,6 @@ mod script;
 
 pub use env::Env;
 pub use hm_report::{Results, StepResult};
-pub use laws::{replayed_rounds, small_rounds};
+pub use laws::{replayed_rounds, small_rounds, watched_rounds};
 pub use round::run_round;
 pub use script::run_script;
