@@ -566,6 +566,10 @@ class LargeRegion(Region):
             del self.taken[released]
         return ('Freed',)
 
+    def live_bytes(self):
+        """The bytes of all live blocks."""
+        return sum(block.size for block in self.live.values())
+
     def measure(self, who, addr):
         """The usable bytes of a live block."""
         block = self.live.get(addr)
@@ -839,8 +843,8 @@ def merged(shared, all_names):
     return {name: addr for name, addr in result.items() if addr is not None}
 
 
-def run_rounds(heap, rounds):
-    """Runs all rounds; gives (round, thread, results) for each script."""
+def run_rounds(heap, rounds, after_round=lambda: None):
+    """Runs all rounds, with a call after each of them; gives (round, thread, results) for each script."""
     shared, results, caller = {}, [], 0
     for number, one_round in enumerate(rounds, 1):
         all_names = []
@@ -851,6 +855,7 @@ def run_rounds(heap, rounds):
             results.append((number, script.thread, items))
             all_names.append(names)
         shared = merged(shared, all_names)
+        after_round()
     return results
 
 
@@ -955,10 +960,16 @@ def journal_text(config, seed, regions):
     return ''.join(lines + ['end\n'])
 
 
+def watch_text(sums):
+    """A line for each round."""
+    return ''.join('round %d large %d\n' % (number, total) for number, total in enumerate(sums, 1))
+
+
 def replay(trace_text, seed, config):
-    """What the replayer writes for a good trace: the report, the exit status, the journal."""
+    """What the replayer writes for a good trace: the report, the exit status, the journal, the lines of `watch`."""
     heap = Heap(config, seed)
     rounds = read_trace(trace_text)
-    results = run_rounds(heap, rounds)
+    sums = []
+    results = run_rounds(heap, rounds, lambda: sums.append(heap.large.live_bytes()))
     journal = journal_text(config, seed, heap.all_regions())
-    return report_text(rounds, results).encode(), status_of(results), journal.encode()
+    return report_text(rounds, results).encode(), status_of(results), journal.encode(), watch_text(sums).encode()

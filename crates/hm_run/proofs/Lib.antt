@@ -7,6 +7,8 @@ mod Numerals
 pub mod Valid
 pub mod Causes
 pub mod Outcomes
+pub mod Tracking
+pub mod Summing
 pub mod Exact
 pub mod FirstFaults
 mod Journals

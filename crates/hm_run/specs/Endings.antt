@@ -7,6 +7,7 @@ use Rattle.hm_report.specs.declared.notes.RoundNotes.{RoundNotes}
 use Rattle.hm_report.specs.declared.results.Results.{Results}
 use Rattle.hm_report.specs.Summary.{summary_text}
 use Rattle.hm_report.specs.Text.{report_text}
+use Rattle.hm_report.specs.Totals.{totals_text}
 use Rattle.hm_report.specs.Findings.{has_finding}
 use Rattle.hm_trace.specs.declared.fault.FaultKind.{FaultKind}
 use Rattle.hm_trace.specs.declared.fault.FaultKind.TheVariants.{AfterEnd, LineTooLong, NotAscii, BadHeader, BadWord, BadName, BadNumber, TooManyThreads, TooManyRounds, TooManySteps, TooManyNotes, NameSetTwice, NoEnd}
@@ -15,7 +16,7 @@ use Rattle.hm_trace.specs.Faults.{text_fault}
 use Rattle.hm_trace.specs.Spelling.{spelling}
 use Rattle.hm_trace.specs.Stress.{stress}
 use Rattle.hm_trace.specs.Traces.{IsTrace}
-use Rattle.hm_trace.specs.Views.{RoundView, TraceView}
+use Rattle.hm_trace.specs.Views.{RoundView, TraceView, scripts_of}
 use Rattle.hm_heap.specs.declared.close.Closed.{Closed}
 use Rattle.hm_journal.specs.Journals.{journal_text}
 use Rattle.hm_journal.specs.Ranges.{JournalFits}
@@ -29,7 +30,8 @@ use Rattle.hm_run.specs.declared.words.Options.{Options}
 use Rattle.hm_run.specs.declared.words.Output.{Output}
 use Rattle.hm_stats.specs.Tables.{table_of}
 use Rattle.hm_stats.specs.Text.{table_text}
-use Rattle.hm_run.specs.declared.words.Output.TheVariants.{Report, Journal, Stats}
+use Rattle.hm_run.specs.declared.words.Output.TheVariants.{Report, Journal, Stats, Watch}
+use Rattle.hm_run.specs.LiveSums.{live_sums}
 use Rattle.hm_run.specs.Words.{IfUnasked, asked_in, config_of}
 use Rattle.hm_run.specs.Streams.{Stream, HasFailed, IsSound, IsReadToEnd, IsTakenPast, IsTakenWithin, IsUntaken, IsWritten}
 use Rattle.hm_run.specs.Replayed.{IsReplayed}
@@ -91,17 +93,20 @@ abbrev pub notes_in : ℕ → List RoundView → List RoundNotes
 notes_in number [] = []
 notes_in number (round ∷ rounds) = record { round = number; notes = round.notes } ∷ notes_in (number + 1) rounds
 
--- what is written of it: the report of its notes and the results, the journal of the histories, or what these come to
+-- what is written of it: the report of its notes and the results, the journal of the histories, what these come to, or the
+-- sums of the sizes of live large blocks after each round
 abbrev pub output_text : {P : Type 0} → Options → Output → TraceView → Closed P → List Results → List ℕ
 output_text o Report trace left results = report_text (notes_in 1 trace.rounds) results
 output_text o Journal trace left results = journal_text (config_of o) o.seed left.histories
 output_text o Stats trace left results = table_text (table_of left.histories)
+output_text o Watch trace left results = totals_text (live_sums (config_of o) (scripts_of trace) left.histories)
 
 -- a journal's numbers are in the ranges of their types, so that its text determines it
 abbrev pub OutputFits : {P : Type 0} → Options → Output → Closed P → Type 0
 OutputFits o Report left = ⊤
 OutputFits o Journal left = JournalFits (config_of o) o.seed left.histories
 OutputFits o Stats left = ⊤
+OutputFits o Watch left = ⊤
 
 -- ---- endings
 module _ {P : Type 0} (meaning : pages.Ghosts P) (run : Run P) (sink : Stream) where

@@ -11,7 +11,7 @@ use Rattle.hm_run.specs.declared.words.Asked.{Asked}
 use Rattle.hm_run.specs.declared.words.Command.{Command}
 use Rattle.hm_run.specs.declared.words.Command.TheVariants.{Run, Stress}
 use Rattle.hm_run.specs.declared.words.Output.{Output}
-use Rattle.hm_run.specs.declared.words.Output.TheVariants.{Report, Journal, Stats}
+use Rattle.hm_run.specs.declared.words.Output.TheVariants.{Report, Journal, Stats, Watch}
 use Rattle.hm_run.specs.declared.words.OptionName.{OptionName}
 use Rattle.hm_run.specs.declared.words.OptionName.TheVariants as option_name
 use Rattle.hm_run.specs.declared.words.OptionName.TheVariants.{Seed, ClassRegion, LargeSpace}
@@ -131,7 +131,13 @@ output_in word =
     if is_word word (codes "run") then Some Report
     else if is_word word (codes "journal") then Some Journal
     else if is_word word (codes "stats") then Some Stats
+    else if is_word word (codes "watch") then Some Watch
     else None
+
+-- the rounds are watched for it
+abbrev pub is_watched : Output → Bool
+is_watched Watch = true
+is_watched output = false
 
 -- `stress` and a number, or a word that asks for an output, and then options; other words are not accepted
 abbrev pub asked_in : List (String Global) → Option Asked

@@ -10,6 +10,7 @@ mod rounds;
 mod run;
 mod status;
 mod trace_fault;
+mod watching;
 mod words;
 mod writing;
 

@@ -6,9 +6,11 @@ ghost use Rattle.hm_report.specs.Summary.{summary_text};
 ghost use Rattle.hm_sizes.specs.Configs.{IsValid};
 ghost use Rattle.hm_stats.specs.Tables.{entry_count};
 ghost use Rattle.hm_trace.specs.Stress.{stress};
+ghost use Rattle.hm_trace.specs.Views.{scripts_of};
 ghost use Rattle.hm_run.specs.Endings.{CommandEnds, Ends, RunsTrace, TextEnds, OutputFits, status_of, line_of, status_after, output_text, fault_line};
+ghost use Rattle.hm_run.specs.LiveSums.{live_sums};
 ghost use Rattle.hm_run.specs.Streams.{IsSound, IsTakenWithin, IsWritten, sink_of, source_of};
-ghost use Rattle.hm_run.specs.Words.{IfMade, IfUnasked, asked_in, config_of};
+ghost use Rattle.hm_run.specs.Words.{IfMade, IfUnasked, asked_in, config_of, is_watched};
 ghost use Rattle.hm_run.specs.Limits.{most_taken};
 ghost use Rattle.hm_run.specs.declared.status.Status.TheVariants as statuses;
 ghost use Rattle.hm_run.specs.Statuses.{code_of};
@@ -25,7 +27,7 @@ use hm_base::{List, NoMemory};
 use hm_heap::Closed;
 use hm_journal::write_journal;
 use hm_outside::{Gate, PageMaker, Sink, Source};
-use hm_report::{Results, has_finding, report, summary};
+use hm_report::{Results, has_finding, report, summary, write_totals};
 use hm_stats::{table, write_table};
 use hm_trace::{ReadRefusal, Trace, TraceFault, read_trace, stress_trace};
 use std::alloc::Global;
@@ -106,6 +108,8 @@ fn text_of<R: Threads + Sync, P>(
 ) -> Result<Vec<u8>, NoMemory>
     requires order { ascends ran.now.results.items ≡ true }
     requires few { entry_count ran.now.closed.histories < 2 ^ 63 }
+    requires watched { is_watched output ≡ true
+        → ran.now.totals.items ≡ live_sums (config_of options.now) (scripts_of trace) ran.now.closed.histories }
     ensures text { IfOk result (λ text.
         text.items ≡ output_text options.now output trace ran.now.closed ran.now.results.items) }
     ensures fits { IfOk result (λ _. OutputFits options.now output ran.now.closed) }
@@ -126,6 +130,10 @@ fn text_of<R: Threads + Sync, P>(
             let counted = table(rt, alloc, histories, WORKERS)?;
             write_table(alloc, &counted)
         }
+        Output::Watch => {
+            drop(trace);
+            write_totals(alloc, &ran.totals)
+        }
     }
 }
 
@@ -143,7 +151,11 @@ fn write_results<K: Sink, P>(sink: &mut K, ran: Ran<P>, found: bool, text: &[u8]
     } else {
         Status::Clean
     };
-    let Ran { closed, results } = ran;
+    let Ran {
+        closed,
+        results,
+        ..
+    } = ran;
     Run {
         status: finish(sink, planned, text).code(),
         closed: Some(closed),
@@ -174,7 +186,7 @@ fn run_text<R: Threads + Wait + Sync, K: Sink, M: PageMaker, G: Gate>(
         Err(ReadRefusal::Fault(fault)) => return refuse_text(alloc, sink, &fault),
         Err(ReadRefusal::NoMemory) => return Err(NoMemory),
     };
-    let ran = run_trace(machine, options, &trace)?;
+    let ran = run_trace(machine, options, output.is_watched(), &trace)?;
     let text = text_of(rt, alloc, options, output, trace, &ran)?;
     let found = has_finding(&ran.results);
     Ok(write_results(sink, ran, found, &text))
@@ -219,7 +231,7 @@ fn run_stress<R: Threads + Wait + Sync, K: Sink, M: PageMaker, G: Gate>(
 {
     let alloc = machine.alloc;
     let trace = stress_trace(alloc, number)?;
-    let ran = run_trace(machine, options, &trace)?;
+    let ran = run_trace(machine, options, false, &trace)?;
     drop(trace);
     let summed = summary(alloc, number, &ran.results)?;
     Ok(write_results(sink, ran, summed.found, &summed.text))
@@ -249,8 +261,8 @@ fn carry_out<R: Threads + Wait + Sync, S: Source, K: Sink, M: PageMaker, G: Gate
 }
 
 /// Reads a trace from the source, or makes it from a number, as the words say; runs it, and writes the report of
-/// its notes and results, the journal of its histories, what these come to, or the summary, or one line that says why
-/// it was refused. All memory is taken before the first byte is written. What was closed is handed out, with the
+/// its notes and results, the journal of its histories, what these come to, the sums of the sizes of live large blocks
+/// after each round, or the summary, or one line that says why it was refused. All memory is taken before the first byte is written. What was closed is handed out, with the
 /// results of the steps.
 pub fn replay<R: Threads + Wait + Sync, S: Source, K: Sink, M: PageMaker, G: Gate>(
     rt: &R,

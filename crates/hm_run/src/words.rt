@@ -3,7 +3,7 @@ ghost use Rattle.std.specs.Prelude.{◌≡◌, IfSome};
 ghost use Rattle.std.specs.Option.{option_copied};
 ghost use Rattle.hm_sizes.specs.Configs.{IsValid};
 ghost use Rattle.hm_run.specs.Words.{are_digits, is_numeral, number_in, is_space, is_number, value_of, template_in, is_value, names, behind, is_given, is_option, are_options, template_of, number_of, options_in};
-ghost use Rattle.hm_run.specs.Words.{with_options, stress_in, output_in, asked_in, named, config_of};
+ghost use Rattle.hm_run.specs.Words.{with_options, stress_in, output_in, asked_in, named, config_of, is_watched};
 
 use hm_sizes::{Config, LEAST_SPACE, MOST_CLASS_REGION, MOST_LARGE_SPACE, PAGE};
 
@@ -38,6 +38,8 @@ pub enum Output {
     Journal,
     /// What the histories come to: all entries, those of each thread, and those of each region.
     Stats,
+    /// The sum of the sizes of live large blocks after each round.
+    Watch,
 }
 
 /// What is run.
@@ -69,6 +71,15 @@ pub struct Asked {
     pub command: Command,
     /// The values of the options, also of those that are not given.
     pub options: Options,
+}
+
+impl Output {
+    /// Whether the rounds are watched for it.
+    pub(crate) fn is_watched(self) -> bool
+        ensures { result ≡ is_watched self }
+    {
+        matches!(self, Output::Watch)
+    }
 }
 
 impl Template {
@@ -308,6 +319,7 @@ fn output_in(word: &str) -> Option<Output>
         "run" => Some(Output::Report),
         "journal" => Some(Output::Journal),
         "stats" => Some(Output::Stats),
+        "watch" => Some(Output::Watch),
         _ => None,
     }
 }

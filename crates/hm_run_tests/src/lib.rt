@@ -18,4 +18,6 @@ mod tests;
 #[cfg(test)]
 mod version_two_tests;
 #[cfg(test)]
+mod watch_tests;
+#[cfg(test)]
 mod words_tests;
