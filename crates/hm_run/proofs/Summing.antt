@@ -1,5 +1,5 @@
 -- The sums of sizes are those of the blocks that are live.
-use Rattle.std.proofs.Common.{◌≡◌, ℕ, ◌+◌, ◌<◌, Bool, cond, true, List, [], ◌∷◌, ◌++◌, length, slice_index_or, arith, refl, ap, ◌∙◌, sym, subst}
+use Rattle.std.proofs.Common.{◌≡◌, ℕ, ◌<◌, Bool, cond, true, List, [], ◌∷◌, ◌++◌, length, slice_index_or, arith, refl, ap, ◌∙◌, sym, subst}
 use Rattle.std.specs.List.{sum_by}
 use Rattle.std.proofs.lemmas.Bool.{le-ltb}
 use Rattle.std.proofs.lemmas.List.{get_or-map}
@@ -12,7 +12,6 @@ use Rattle.hm_sizes.specs.declared.config.Config.{Config}
 use Rattle.hm_sizes.specs.Homes.{region_count}
 use Rattle.hm_sizes.specs.Origins.{large_region_number}
 use Rattle.hm_trace.specs.Views.{ScriptView}
-use Rattle.hm_turn.specs.Known.{Known}
 use Rattle.hm_large.specs.Blocks.{Block}
 use Rattle.hm_large.specs.LiveSizes.{LiveSizes}
 use Rattle.hm_large.specs.Rules.{Terms, Allowed}

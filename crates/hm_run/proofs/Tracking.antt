@@ -1,7 +1,7 @@
 -- What a look at the changes of the large region adds to what watches the rounds.
-use Rattle.std.proofs.Common.{◌≡◌, ◌⊎◌, ℕ, ◌<◌, List, [], ◌∷◌, ◌++◌, append_assoc, length, map, drop, fold, slice_index_or, slice_set, Result, Ok, Err, arith, refl, ap, ◌∙◌, sym, subst}
+use Rattle.std.proofs.Common.{◌≡◌, ◌⊎◌, ℕ, ◌<◌, List, [], ◌++◌, append_assoc, length, drop, fold, slice_index_or, slice_set, Result, Ok, Err, arith, refl, ap, ◌∙◌, sym, subst}
 use Rattle.std.specs.Prelude.{OnOk}
-use Rattle.std.proofs.lemmas.List.{append-nil, get_or-map, get_or-set_same, length-set}
+use Rattle.std.proofs.lemmas.List.{get_or-map, get_or-set_same, length-set}
 use Rattle.std.proofs.Math.Seq.{drop-append_seam}
 use mathlib.Core.Logic.{inl, inr}
 use Rattle.hm_base.specs.declared.memory.NoMemory.{NoMemory}

@@ -1,10 +1,8 @@
-use Rattle.std.proofs.Common.{◌≡◌, ℕ, List, [], ◌∷◌, ◌++◌, length, length-append, sym, ◌∙◌, ap, subst, Ok, arith}
-use Rattle.hm_model.specs.Changes.{changes_of, total_of}
-use Rattle.hm_turn.specs.Known.{Known}
+use Rattle.std.proofs.Common.{ℕ, [], ◌∷◌, ◌++◌, length, length-append, ◌∙◌, ap, arith}
 use Rattle.hm_heap.specs.Calls.{large_place}
 use Rattle.hm_heap.specs.Passes.{PassView}
 use Rattle.hm_snapshot.specs.Known.{Published}
-use Rattle.hm_run.specs.Watches.{large_seen, size_sum, Follows}
+use Rattle.hm_run.specs.Watches.{large_seen}
 use Rattle.hm_run.proofs.Tracking.{all_ok, follows_on, has_looked, looked_more, own_sum, seen_before}
 use Rattle.hm_run.proofs.watching.Watch.after_round.Goals as goal
 
