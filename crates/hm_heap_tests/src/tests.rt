@@ -505,7 +505,14 @@ fn changes_of_large_blocks(rt: HostRuntime) -> Result<(), Fail> {
     assert_eq!(rt; seen.upto, 2);
     assert_eq!(rt;
         seen.list.as_slice(),
-        [SizeChange::Put { addr, size: 229_376 }, SizeChange::Gone { addr }].as_slice()
+        [
+            SizeChange::Put {
+                addr,
+                size: 229_376
+            },
+            SizeChange::Gone { addr }
+        ]
+        .as_slice()
     );
     Ok(())
 }

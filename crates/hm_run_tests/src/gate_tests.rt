@@ -77,7 +77,10 @@ fn a_gate_hears_which_region_and_who(rt: HostRuntime) -> Result<(), Fail> {
     let text = text_of(alloc, "malloc a 8\nfree a\nthread 2\nmalloc b 4000\n")?;
     let (status, written) = report_of(&rt, alloc, &text, &mut PlainMaker, &gate)?;
     assert_eq!(rt; status, 0);
-    assert_eq!(rt; written.as_slice(), b"1.1.1 given 8\n1.1.2 freed\n1.2.1 given 4088\n".as_slice());
+    assert_eq!(rt;
+        written.as_slice(),
+        b"1.1.1 given 8\n1.1.2 freed\n1.2.1 given 4088\n".as_slice()
+    );
     assert_eq!(rt; gate.first.load(Ordering::SeqCst), 2);
     assert_eq!(rt; gate.second.load(Ordering::SeqCst), 1);
     assert_eq!(rt; gate.others.load(Ordering::SeqCst), 0);

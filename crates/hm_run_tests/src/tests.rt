@@ -504,7 +504,10 @@ fn threads_of_a_round_run_at_once(rt: HostRuntime) -> Result<(), Fail> {
     let (status, written) = report_of(&rt, alloc, &text, &mut PlainMaker, &gate)?;
     assert_eq!(rt; status, 0);
     assert_eq!(rt; gate.counts(), (2, 0));
-    assert_eq!(rt; written.as_slice(), b"1.1.1 given 8\n1.2.1 given 4088\n".as_slice());
+    assert_eq!(rt;
+        written.as_slice(),
+        b"1.1.1 given 8\n1.2.1 given 4088\n".as_slice()
+    );
     Ok(())
 }
 
