@@ -53,7 +53,7 @@ config_is c h = λ i. record {
   random_slots = flag_is c.random_slots i;
 }
 
-clean_config : (c : Config) → ConfigFits c → Each (High 33) (config_words c)
+pub clean_config : (c : Config) → ConfigFits c → Each (High 33) (config_words c)
 clean_config c h = (
   search rules,
   (

@@ -1,6 +1,11 @@
-mod Each
-mod Exact
-mod Numbers
-mod OneEntry
+pub mod Each
+pub mod EntryBack
+pub mod Exact
+pub mod LineBack
+pub mod Numbers
+pub mod OneEntry
+mod OneLine
+mod ReadBack
 mod Spaced
-mod Splits
+pub mod Splits
+mod WordsFrom

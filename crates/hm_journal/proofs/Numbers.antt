@@ -116,7 +116,7 @@ run_lacks r h =
     let b = lacks 44 48 (byte_word r.0) (omega arith) (high_byte r.0) in
     (b.0, (b.1.0, (refl, lacks 44 48 (decimal r.1) (omega arith) (high_decimal r.1 h.1))))
 
-runs_lack : (rs : List (ℕ × ℕ)) → Each RunFits rs → Each (Lacks 44) (map run_word rs)
+pub runs_lack : (rs : List (ℕ × ℕ)) → Each RunFits rs → Each (Lacks 44) (map run_word rs)
 runs_lack [] h = tt
 runs_lack (r ∷ rs) h = (run_lacks r h.0, runs_lack rs h.1)
 

@@ -49,23 +49,27 @@ joined_lacks c d word (next ∷ words) n h =
     each_append (λ b. eqb b c ≡ false) word (d ∷ join_with_byte d (next ∷ words)) h.0
     (n, joined_lacks c d next words n h.1)
 
-words_lack : (c : ℕ) (words : List (List ℕ)) → c < 33 → Each (High 33) words → Each (Lacks c) words
+pub words_lack : (c : ℕ) (words : List (List ℕ)) → c < 33 → Each (High 33) words → Each (Lacks c) words
 words_lack c words lt h = each_by (High 33) (Lacks c) words (λ w g. lacks c 33 w lt g) h
 
 -- the lines of a text, each as its words
 abbrev words_of : List ℕ → List (List (List ℕ))
 words_of text = map (λ (l : List ℕ). slice_split (λ b. eqb b 32) l) (slice_split (λ b. eqb b 10) text)
 
+-- the first line of a text, and what follows it
+pub first_of_lines : (word : List ℕ) (words : List (List ℕ)) (rest : List ℕ) → Each (High 33) (word ∷ words)
+    → slice_split (λ b. eqb b 10) ((join_with_byte 32 (word ∷ words) ++ 10 ∷ []) ++ rest)
+    ≡ join_with_byte 32 (word ∷ words) ∷ slice_split (λ b. eqb b 10) rest
+first_of_lines word words rest h =
+    let line : List ℕ = join_with_byte 32 (word ∷ words) in
+    ap (slice_split (λ b. eqb b 10)) (append_assoc line (10 ∷ []) rest)
+    ∙ split_at 10 line rest (joined_lacks 10 32 word words refl (words_lack 10 (word ∷ words) (omega arith) h))
+
 words_back : (lines : List (List (List ℕ))) → Each IsLine lines → words_of (lines_text lines) ≡ lines ++ ([] ∷ []) ∷ []
 words_back [] h = refl
 words_back ([] ∷ lines) h = absurd (h.0)
 words_back ((word ∷ words) ∷ lines) h =
-    let line : List ℕ = join_with_byte 32 (word ∷ words) in
-    let first : slice_split (λ b. eqb b 10) ((line ++ 10 ∷ []) ++ lines_text lines)
-    ≡ line ∷ slice_split (λ b. eqb b 10) (lines_text lines) =
-    ap (slice_split (λ b. eqb b 10)) (append_assoc line (10 ∷ []) (lines_text lines))
-    ∙ split_at 10 line (lines_text lines)
-    (joined_lacks 10 32 word words refl (words_lack 10 (word ∷ words) (omega arith) h.0)) in
+    let first = first_of_lines word words (lines_text lines) h.0 in
     ap (map (λ (l : List ℕ). slice_split (λ b. eqb b 32) l)) first
     ∙ (λ i. split_joined 32 word words (words_lack 32 (word ∷ words) (omega arith) h.0) i ∷ words_back lines h.1 i)
 

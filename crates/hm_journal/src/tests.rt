@@ -1,6 +1,9 @@
 //! Journals of single entries: each call and each reply once, runs of bytes, choices, words and faults. The lines
 //! are written out by hand.
-use crate::write_journal;
+use crate::{
+    RegionLine, closed_in, config_in, entry_in, is_end, is_header, region_in, seed_in,
+    write_journal,
+};
 use hm_base::{List, RegionId};
 use hm_heap::History;
 use hm_model::{Call, Choices, Draws, Entry, Reply, Runs, Who};
@@ -248,5 +251,79 @@ fn lines_of_two_regions(rt: HostRuntime) -> Result<(), Fail> {
         write_journal(alloc, &CONFIG, 2, &histories)?.as_slice(),
         text.as_bytes()
     );
+    Ok(())
+}
+
+#[test]
+fn lines_of_entries(rt: HostRuntime) -> Result<(), Fail> {
+    let alloc = rt.alloc();
+    let cases: [(&str, bool); 9] = [
+        (
+            "4294967295 2 3 4 255 30 31 3 20 21 4294967295 11 12 13 14 15 16 17 measure 9 : 8\n",
+            true,
+        ),
+        (
+            "1 2 3 4 5 0 0 0 0 0 0 - - - - - - - fetch 9 3 : 14 41*1,00*2\n",
+            true,
+        ),
+        (
+            "1 2 3 4 5 0 0 0 0 0 0 - - - - - - - fetch 9 3 : 14 41*1,00*1,00*1\n",
+            false,
+        ),
+        (
+            "1 2 3 4 5 0 0 0 0 0 0 - - - - - - - measure 09 : 8\n",
+            false,
+        ),
+        (
+            "1 2 3 4 5 0 0 0 0 0 0 - - - - - - - measure 9  : 8\n",
+            false,
+        ),
+        (
+            "1 2 3 4 256 0 0 0 0 0 0 - - - - - - - measure 9 : 8\n",
+            false,
+        ),
+        ("1 2 3 4 5 0 0 0 0 0 0 - - - - - - - measure 9 : 6\n", false),
+        ("1 2 3 4 5 0 0 0 0 0 0 - - - - - - - measure 9 : 8", false),
+        ("\n", false),
+    ];
+    for (line, is_entry) in cases {
+        let entry = entry_in(alloc, line.as_bytes())?;
+        assert_eq!(rt; entry.is_some(), is_entry, "{line}");
+    }
+    Ok(())
+}
+
+#[test]
+fn other_lines(rt: HostRuntime) -> Result<(), Fail> {
+    let alloc = rt.alloc();
+    let region = RegionLine {
+        region: RegionId(7),
+        first: 5,
+        entries: 0,
+    };
+    assert!(rt; is_header(b"hmjournal 1\n"));
+    assert!(rt; is_end(b"end\n"));
+    assert!(rt; !is_end(b"end"));
+    assert_eq!(rt;
+        config_in(alloc, b"config 3 1048576 2097152 8 0 1 2 1 0\n")?,
+        Some(CONFIG)
+    );
+    assert_eq!(rt;
+        config_in(alloc, b"config 5 1048576 2097152 8 0 1 2 1 0\n")?,
+        None
+    );
+    assert_eq!(rt;
+        config_in(alloc, b"config 3 1048576 2097152 8 0 1 2 1 2\n")?,
+        None
+    );
+    assert_eq!(rt;
+        seed_in(alloc, b"seed 18446744073709551615\n")?,
+        Some(u64::MAX)
+    );
+    assert_eq!(rt; seed_in(alloc, b"seed 18446744073709551616\n")?, None);
+    assert_eq!(rt; region_in(alloc, b"region 7 5 0\n")?, Some(region));
+    assert_eq!(rt; region_in(alloc, b"region 7 5 -0\n")?, None);
+    assert_eq!(rt; closed_in(alloc, b"closed 0\n")?, Some(0));
+    assert_eq!(rt; closed_in(alloc, b"closed 0 \n")?, None);
     Ok(())
 }

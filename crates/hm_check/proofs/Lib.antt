@@ -1,0 +1,6 @@
+mod Chains
+mod Histories
+mod OneSaid
+mod OneVerdict
+mod Spoken
+mod YesIsJournal
