@@ -262,8 +262,8 @@ fn carry_out<R: Threads + Wait + Sync, S: Source, K: Sink, M: PageMaker, G: Gate
 
 /// Reads a trace from the source, or makes it from a number, as the words say; runs it, and writes the report of
 /// its notes and results, the journal of its histories, what these come to, the sums of the sizes of live large blocks
-/// after each round, or the summary, or one line that says why it was refused. All memory is taken before the first byte is written. What was closed is handed out, with the
-/// results of the steps.
+/// after each round, or the summary, or one line that says why it was refused. All memory is taken before the first byte
+/// is written. What was closed is handed out, with the results of the steps.
 pub fn replay<R: Threads + Wait + Sync, S: Source, K: Sink, M: PageMaker, G: Gate>(
     rt: &R,
     alloc: Global,
