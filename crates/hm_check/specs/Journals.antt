@@ -44,5 +44,5 @@ pub record IsJournalOf (bytes : List ℕ) (entries : ℕ) (c : Config) (n : ℕ)
 
 -- the verdict is Yes exactly for these
 abbrev pub YesIsJournal : Type 0
-YesIsJournal = (bytes : List ℕ) (entries : ℕ)
-    → IsVerdict bytes (Yes entries) ↔ ((c : Config) × (n : ℕ) × (hs : List History) × IsJournalOf bytes entries c n hs)
+YesIsJournal = (bytes : List ℕ) (entries : ℕ) → IsVerdict bytes (Yes entries)
+    ↔ ((c : Config) × (n : ℕ) × (hs : List History) × IsJournalOf bytes entries c n hs)
