@@ -1,0 +1,14 @@
+pub mod Lookups
+pub mod Rows
+pub mod KeptSources
+pub mod Addresses
+pub mod Stains
+pub mod Others
+pub mod Chosen
+pub mod Picked
+pub mod Frees
+pub mod Overlays
+pub mod SlabWrites
+pub mod Reaching
+pub mod Settled
+pub mod Founds

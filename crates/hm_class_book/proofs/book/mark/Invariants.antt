@@ -1,0 +1,9 @@
+use Rattle.std.proofs.Common.{◌≡◌, ◌<◌, ◌||◌, ℕ, get_or, false, take}
+use Rattle.hm_model.specs.Maps.{among}
+use Rattle.hm_sizes.specs.Shapes.{place}
+use Rattle.hm_class_book.proofs.book.mark.Given as goal
+
+-- the marks of the addresses so far
+abbrev pub invariant-loop-addr : goal.invariant-loop-addr
+invariant-loop-addr l = (i : ℕ) → i < l.shape.slots
+    → get_or l.marks i false ≡ (get_or l.initial.marks i false || among (place l.shape l.slab i) (take l.addr-index l.addrs))

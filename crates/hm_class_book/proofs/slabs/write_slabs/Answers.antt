@@ -1,0 +1,11 @@
+use Rattle.hm_class_book.proofs.SlabWrites.{next_front, next_rest, next_length}
+use Rattle.hm_class_book.proofs.slabs.write_slabs.Goals as goal
+
+pub loop-entry-preserved : goal.loop-entry-preserved
+loop-entry-preserved c =
+    let i = c.loop-entry.invariant in
+    record {
+      front = next_front c.args.shape.now c.args.addr c.args.written.now c.args.opens.now c.loop-entry.opens c.loop-entry.entry-index c.entry-item.result i.rest i.len c.loop-entry-test.true c.write_slab.new.entry i.front c.write_slab.ensures;
+      rest = next_rest c.args.shape.now c.args.addr c.args.written.now c.args.opens.now c.loop-entry.opens c.loop-entry.entry-index c.entry-item.result i.rest i.len c.loop-entry-test.true c.write_slab.new.entry;
+      len = next_length c.args.shape.now c.args.addr c.args.written.now c.args.opens.now c.loop-entry.opens c.loop-entry.entry-index c.entry-item.result i.rest i.len c.loop-entry-test.true c.write_slab.new.entry;
+    }

@@ -1,0 +1,7 @@
+pub mod Book
+pub mod Sources
+pub mod Picks
+pub mod Kinds
+pub mod Follows
+pub mod Reached
+pub mod Said

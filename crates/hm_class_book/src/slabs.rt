@@ -1,0 +1,30 @@
+//! Writing over the bytes of open slabs.
+ghost use Rattle.std.specs.Prelude.{◌≡◌, ◌+◌, ◌<◌, ◌^◌, length};
+ghost use Rattle.hm_class_rules.specs.Bytes.{overlaid_slabs};
+ghost use Rattle.hm_class_book.specs.Book.{slab_pair, slabs_in, overlaid_slab};
+
+use crate::book::OpenSlab;
+use crate::overlay::overlay;
+use crate::places::slab_start;
+use hm_sizes::Shape;
+
+// Writes over one slab. One that would begin past all addresses has none of the range.
+fn write_slab(entry: &mut (u64, OpenSlab), shape: &Shape, addr: u64, written: &[u8])
+    requires { addr + length written.now < 2 ^ 64 }
+    ensures { slab_pair entry.new ≡ overlaid_slab shape.now addr written.now (slab_pair entry.old) }
+{
+    match slab_start(shape, entry.0) {
+        Some(at) => overlay(&mut entry.1.bytes, at, addr, written),
+        None => {}
+    }
+}
+
+/// Writes bytes from an address on, where there are any.
+pub(crate) fn write_slabs(opens: &mut [(u64, OpenSlab)], shape: &Shape, addr: u64, written: &[u8])
+    requires { addr + length written.now < 2 ^ 64 }
+    ensures { slabs_in opens.new ≡ overlaid_slabs shape.now addr written.now (slabs_in opens.old) }
+{
+    for entry in opens.iter_mut() {
+        write_slab(entry, shape, addr, written);
+    }
+}
