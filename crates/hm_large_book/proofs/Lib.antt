@@ -1,0 +1,14 @@
+pub mod Finding
+pub mod Reaching
+pub mod RunBytes
+pub mod Sizes
+pub mod Changing
+pub mod Releasing
+pub mod Guarding
+pub mod Judging
+pub mod Plain
+pub mod Written
+pub mod Allotting
+pub mod Freeing
+pub mod Calling
+pub mod Taking

@@ -1,0 +1,208 @@
+//! The bytes of live blocks: where a range of addresses lies, whether its bytes are those of some runs, and writing runs
+//! over it. Runs are never expanded.
+ghost use Rattle.std.specs.Prelude.{◌≡◌, ◌↔◌, ◌+◌, ◌<◌, ◌≤◌, ◌^◌, ℕ, IsTrue, IfSome, IfNone, None, Some, length, replicate, take, drop};
+ghost use Rattle.std.specs.Bool.{MatchBool};
+ghost use Rattle.hm_model.specs.Runs.{expand};
+ghost use Rattle.hm_sizes.specs.declared.config.Config.{Config};
+ghost use Rattle.hm_large.specs.Blocks.{first_trap, bytes_read, written_over};
+ghost use Rattle.hm_large.specs.State.{State};
+ghost use Rattle.hm_large.specs.Laws.{IsSound};
+ghost use Rattle.hm_large.specs.Kept.{AreGuarded};
+ghost use Rattle.hm_large.specs.Stored.{IsLeft};
+ghost use Rattle.hm_large_book.specs.Book.{block_in, blocks_in};
+ghost use Rattle.hm_large_book.specs.Bytes.{LiesAt, over_block};
+
+use crate::blocks::{LiveBlock, holder};
+use hm_model::Runs;
+
+// How many bytes a live block has from an address on: 0 where the address is in none.
+fn left_at(live: &[(u64, LiveBlock)], addr: u64) -> u64
+    ensures { (c : Config) (s : State) → IsSound c s → blocks_in live.now ≡ s.live → IsLeft s.live addr result }
+{
+    match holder(live, addr) {
+        Some(index) => {
+            let (start, block) = &live[index];
+            block.bytes.len() as u64 - (addr - *start)
+        }
+        None => 0,
+    }
+}
+
+// The first of so many addresses that is not accessible.
+fn trap_at(live: &[(u64, LiveBlock)], addr: u64, len: u64) -> Option<u64>
+    requires some { 1 ≤ len }
+    requires low { addr < 2 ^ 47 }
+    requires most { len ≤ 2 ^ 30 }
+    ensures { (c : Config) (s : State) → IsSound c s → AreGuarded s.live → blocks_in live.now ≡ s.live
+        → result ≡ first_trap s.live addr len }
+{
+    let left = left_at(live, addr);
+    if left < len { Some(addr + left) } else { None }
+}
+
+/// Whether this is the first of so many addresses that is not accessible.
+pub(crate) fn traps_at(live: &[(u64, LiveBlock)], addr: u64, len: u64, trap: u64) -> bool
+    requires some { 1 ≤ len }
+    requires low { addr < 2 ^ 47 }
+    requires most { len ≤ 2 ^ 30 }
+    ensures { (c : Config) (s : State) → IsSound c s → AreGuarded s.live → blocks_in live.now ≡ s.live
+        → IsTrue result ↔ (first_trap s.live addr len ≡ Some trap) }
+{
+    match trap_at(live, addr, len) {
+        Some(found) => found == trap,
+        None => false,
+    }
+}
+
+/// Which live block has a range of addresses, and how far into it they begin.
+#[derive(Clone, Copy)]
+pub struct Place {
+    pub block: usize,
+    pub offset: usize,
+}
+
+// Where so many addresses lie, if one live block has them all.
+fn find_place(live: &[(u64, LiveBlock)], addr: u64, len: u64) -> Option<Place>
+    requires some { 1 ≤ len }
+    ensures within { IfSome result (λ place. place.block < length live.now) }
+    ensures some { IfSome result (LiesAt live.now addr len) }
+    ensures none { IfNone result ((c : Config) (s : State) → IsSound c s → AreGuarded s.live
+        → blocks_in live.now ≡ s.live → first_trap s.live addr len ≡ None → ⊥) }
+{
+    match holder(live, addr) {
+        Some(index) => {
+            let (start, block) = &live[index];
+            let left = block.bytes.len() as u64 - (addr - *start);
+            if left < len {
+                None
+            } else {
+                Some(Place {
+                    block: index,
+                    offset: (addr - *start) as usize,
+                })
+            }
+        }
+        None => None,
+    }
+}
+
+// Whether all bytes are this one.
+fn are_all(bytes: &[u8], byte: u8) -> bool
+    ensures { IsTrue result ↔ (bytes.now ≡ replicate (length bytes.now) byte) }
+{
+    for other in bytes {
+        if *other != byte {
+            return false;
+        }
+    }
+    true
+}
+
+// Whether these are the bytes of runs, of which there are as many.
+fn are_bytes(bytes: &[u8], pairs: &[(u8, u64)]) -> bool
+    requires same { length (expand pairs.now) ≡ length bytes.now }
+    requires few { length bytes.now ≤ 2 ^ 30 }
+    ensures { IsTrue result ↔ (expand pairs.now ≡ bytes.now) }
+{
+    let mut at = 0;
+    for (byte, len) in pairs {
+        let end = at + *len as usize;
+        if !are_all(&bytes[at..end], *byte) {
+            return false;
+        }
+        at = end;
+    }
+    true
+}
+
+// Writes one byte over all.
+fn fill_with_byte(bytes: &mut [u8], byte: u8)
+    ensures { bytes.new ≡ replicate (length bytes.old) byte }
+{
+    bytes.fill(byte);
+}
+
+// Writes the bytes of runs over all of these, of which there are as many.
+fn write_runs(bytes: &mut [u8], pairs: &[(u8, u64)])
+    requires same { length (expand pairs.now) ≡ length bytes.old }
+    requires few { length bytes.old ≤ 2 ^ 30 }
+    ensures { bytes.new ≡ expand pairs.now }
+{
+    let mut at = 0;
+    for (byte, len) in pairs {
+        let end = at + *len as usize;
+        fill_with_byte(&mut bytes[at..end], *byte);
+        at = end;
+    }
+}
+
+// Whether so many bytes from an offset on are those of runs.
+fn part_is(bytes: &[u8], offset: usize, len: usize, runs: &Runs) -> bool
+    requires fits { offset + len ≤ length bytes.now }
+    requires most { len ≤ 2 ^ 30 }
+    requires low { offset < 2 ^ 62 }
+    ensures { IsTrue result ↔ ((length (expand runs.now) ≡ len) × (expand runs.now ≡ take len (drop offset bytes.now))) }
+{
+    if runs.len() != len as u64 {
+        return false;
+    }
+    are_bytes(&bytes[offset..offset + len], runs.pairs())
+}
+
+/// Whether the bytes of a range are those of runs.
+pub(crate) fn has_bytes(live: &[(u64, LiveBlock)], addr: u64, len: u64, runs: &Runs) -> bool
+    requires some { 1 ≤ len }
+    requires low { addr < 2 ^ 47 }
+    requires most { len ≤ 2 ^ 30 }
+    ensures { (c : Config) (s : State) → IsSound c s → AreGuarded s.live → blocks_in live.now ≡ s.live
+        → IsTrue result ↔ ((length (expand runs.now) ≡ len) × (first_trap s.live addr len ≡ None)
+        × (expand runs.now ≡ bytes_read s.live addr len)) }
+{
+    match find_place(live, addr, len) {
+        Some(place) => part_is(&live[place.block].1.bytes, place.offset, len as usize, runs),
+        None => false,
+    }
+}
+
+// Writes the bytes of runs into a block.
+fn write_block(entry: &mut (u64, LiveBlock), offset: usize, runs: &Runs)
+    requires fits { offset + length (expand runs.now) ≤ length entry.old.1.bytes.items }
+    requires most { length (expand runs.now) ≤ 2 ^ 30 }
+    requires low { offset < 2 ^ 62 }
+    ensures { block_in entry.new ≡ over_block offset (expand runs.now) (block_in entry.old) }
+{
+    let end = offset + runs.len() as usize;
+    write_runs(&mut entry.1.bytes[offset..end], runs.pairs());
+}
+
+// Writes the bytes of runs from an address on, if all the addresses are accessible. Answers whether they are.
+fn write(live: &mut [(u64, LiveBlock)], addr: u64, runs: &Runs) -> bool
+    requires some { 1 ≤ length (expand runs.now) }
+    requires low { addr < 2 ^ 47 }
+    requires most { length (expand runs.now) ≤ 2 ^ 30 }
+    ensures { (c : Config) (s : State) → IsSound c s → AreGuarded s.live → blocks_in live.old ≡ s.live
+        → MatchBool result ((first_trap s.live addr (length (expand runs.now)) ≡ None)
+        × (blocks_in live.new ≡ written_over addr (expand runs.now) s.live))
+        (first_trap s.live addr (length (expand runs.now)) ≡ None → ⊥) }
+{
+    match find_place(live, addr, runs.len()) {
+        Some(place) => {
+            write_block(&mut live[place.block], place.offset, runs);
+            true
+        }
+        None => false,
+    }
+}
+
+/// Writes the bytes of runs from an address on, if all the addresses are accessible. Answers whether they are.
+pub(crate) fn write_live(live: &mut Vec<(u64, LiveBlock)>, addr: u64, runs: &Runs) -> bool
+    requires some { 1 ≤ length (expand runs.now) }
+    requires low { addr < 2 ^ 47 }
+    requires most { length (expand runs.now) ≤ 2 ^ 30 }
+    ensures { (c : Config) (s : State) → IsSound c s → AreGuarded s.live → blocks_in live.old.items ≡ s.live
+        → MatchBool result ((first_trap s.live addr (length (expand runs.now)) ≡ None)
+        × (blocks_in live.new.items ≡ written_over addr (expand runs.now) s.live))
+        (first_trap s.live addr (length (expand runs.now)) ≡ None → ⊥) }
+{
+    write(live, addr, runs)
+}

@@ -1,0 +1,37 @@
+//! What is said of an entry, and what is said of one that changes nothing.
+ghost use Rattle.std.specs.Prelude.{◌≡◌, ◌↔◌, ◌<◌, IsTrue};
+ghost use Rattle.hm_large_book.specs.Judged.{JudgesPlain};
+
+use hm_model::{Choices, Draws, Entry};
+
+/// What is said of an entry, in the state of the entries before it.
+#[derive(Clone, Copy, Debug, PartialEq, Eq, Drop)]
+pub enum Judgement {
+    /// It is allowed there, and its words and choices are those that come next.
+    Taken,
+    /// It is not allowed there.
+    NotLegal,
+    /// It is allowed there, and its words and choices are others.
+    NotDrawn,
+}
+
+/// What is said of an entry that draws no word and chooses nothing, by whether its reply is allowed.
+pub(crate) fn plain(allowed: bool, entry: &Entry) -> Judgement
+    ensures { JudgesPlain allowed entry.now result }
+{
+    if !allowed | (entry.choices != Choices::none()) {
+        return Judgement::NotLegal;
+    }
+    if entry.draws == Draws::none() {
+        Judgement::Taken
+    } else {
+        Judgement::NotDrawn
+    }
+}
+
+/// Whether a page failed while an entry was made.
+pub(crate) fn rose(entry: &Entry) -> bool
+    ensures { IsTrue result ↔ (entry.now.faults_before < entry.now.faults_after) }
+{
+    entry.faults_before < entry.faults_after
+}

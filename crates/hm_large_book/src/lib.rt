@@ -1,0 +1,18 @@
+//! The large region's rules as a program: a book of its state judges one entry after another.
+#![tactic(auto)]
+
+mod allots;
+mod blocks;
+mod book;
+mod bytes;
+mod calls;
+mod changes;
+mod formed;
+mod frees;
+mod judgement;
+mod looks;
+mod places;
+mod writes;
+
+pub use book::LargeBook;
+pub use judgement::Judgement;
