@@ -1,6 +1,6 @@
 -- A text has the verdict Yes exactly where its lines say, one after another, what may stand there, is legal and is drawn.
-use Rattle.std.proofs.Common.{◌≡◌, ◌⊎◌, inl, inr, ⊎_elim, ℕ, zero, suc, ◌+◌, eqb, List, [], ◌∷◌, ◌++◌, append_assoc, refl, sym, ◌∙◌, ap, subst, arith, rules, codes}
-use Rattle.std.specs.List.{join_with_byte, slice_split}
+use Rattle.std.proofs.Common.{◌≡◌, ◌⊎◌, inl, ⊎_elim, ℕ, ◌+◌, List, [], ◌∷◌, ◌++◌, append_assoc, refl, sym, ◌∙◌, ap, subst, rules}
+use Rattle.std.specs.List.{join_with_byte}
 use Rattle.hm_sizes.specs.Configs.{IsValid}
 use Rattle.hm_journal.proofs.EntryBack.{clean_entry_line}
 use Rattle.hm_journal.proofs.LineBack.{clean_closed, clean_config_line, clean_region, clean_seed, first_line}
@@ -10,7 +10,7 @@ use Rattle.hm_check.specs.declared.verdict.JournalFault.TheVariants.{BadText}
 use Rattle.hm_check.specs.declared.verdict.Verdict.{Verdict}
 use Rattle.hm_check.specs.declared.verdict.Verdict.TheVariants.{Yes, No}
 use Rattle.hm_check.specs.Readers.{Stage, AtHeader, AtConfig, AtSeed, AtRegion, AtEntry, Ended, Said, Header, Configured, Seeded, Region, Made, Closed, End, Reader, line_of, read, said_words}
-use Rattle.hm_check.specs.Verdicts.{IsDrawn, IsFault, IsLegal, Judges, MayStand, Passes, SaidFits, Says, last_verdict, lines_in}
+use Rattle.hm_check.specs.Verdicts.{IsDrawn, IsLegal, Judges, MayStand, Passes, SaidFits, last_verdict, lines_in}
 use Rattle.hm_check.proofs.OneSaid.{region_fits}
 use Rattle.hm_check.proofs.OneVerdict.{stays_valid}
 
@@ -101,7 +101,7 @@ clean r (Made e) valid h = clean_entry_line e h.0
 clean r (Closed faults) valid h = clean_closed faults h
 clean r End valid h = search rules
 
-passes_on : (r : Reader) (k : ℕ) (line : List ℕ) (pieces : List (List ℕ)) (v : Verdict) (said : Said)
+pub passes_on : (r : Reader) (k : ℕ) (line : List ℕ) (pieces : List (List ℕ)) (v : Verdict) (said : Said)
     → Passes r (line ++ 10 ∷ []) said → Judges (read r said) (k + 1) pieces v → Judges r k (line ∷ pieces) v
 unfolding Judges
 passes_on r k line [] v said h g = absurd g

@@ -3,4 +3,5 @@ mod Histories
 mod OneSaid
 mod OneVerdict
 mod Spoken
+mod Steps
 mod YesIsJournal

@@ -1,5 +1,5 @@
 -- A line says one thing: what is read of it.
-use Rattle.std.proofs.Common.{◌≡◌, ℕ, ◌<◌, ◌^◌, Bool, true, false, ltb, zero, suc, ◌==◌, List, [], ◌∷◌, drop, get_or, Option, Some, None, refl, sym, ◌∙◌, ap, codes, arith, rules, if◌then◌else◌}
+use Rattle.std.proofs.Common.{◌≡◌, ℕ, ◌<◌, ◌^◌, Bool, true, false, ltb, zero, suc, ◌==◌, List, drop, get_or, Option, Some, None, refl, sym, ◌∙◌, ap, codes, arith, rules, if◌then◌else◌}
 use Rattle.std.proofs.lemmas.Bool.{ltb-true}
 use Rattle.hm_sizes.specs.declared.config.Config.{Config}
 use Rattle.hm_sizes.specs.Configs.{IsValid}
@@ -9,11 +9,10 @@ use Rattle.hm_model.specs.declared.entry.Entry.{Entry}
 use Rattle.hm_model.specs.declared.entry.Reply.{Reply}
 use Rattle.hm_model.specs.declared.entry.Reply.TheVariants.{NotLive}
 use Rattle.hm_journal.specs.Entries.{entry_words}
-use Rattle.hm_journal.specs.Lines.{end_line}
 use Rattle.hm_journal.specs.Ranges.{EntryFits, Fits32}
 use Rattle.hm_journal.specs.Reading.{answer_at, call_at, config_at, entry_of, number_at, reply_at, word_at, words_at}
 use Rattle.hm_journal.specs.Words.{line_text}
-use Rattle.hm_journal.proofs.EntryBack.{IsRead, line_read}
+use Rattle.hm_journal.proofs.EntryBack.{line_read}
 use Rattle.hm_journal.proofs.LineBack.{config_read, number_read, region_read}
 use Rattle.hm_check.specs.Readers.{Stage, AtHeader, AtConfig, AtSeed, AtRegion, AtEntry, Ended, Said, Header, Configured, Seeded, Region, Made, Closed, End, Reader, class_regions, region_at}
 use Rattle.hm_check.specs.Verdicts.{Says}

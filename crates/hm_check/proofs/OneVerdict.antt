@@ -1,5 +1,5 @@
 -- A text has one verdict at most.
-use Rattle.std.proofs.Common.{◌≡◌, ⊎_elim, ℕ, ◌+◌, List, [], ◌∷◌, ◌++◌, sym, ◌∙◌, ap, subst, refl, rules, arith}
+use Rattle.std.proofs.Common.{◌≡◌, ⊎_elim, ℕ, ◌+◌, List, [], ◌∷◌, ◌++◌, sym, ◌∙◌, ap, subst, refl, rules}
 use Rattle.hm_sizes.specs.Configs.{IsValid}
 use Rattle.hm_check.specs.declared.verdict.JournalFault.{JournalFault}
 use Rattle.hm_check.specs.declared.verdict.JournalFault.TheVariants.{BadText, NotLegal, NotDrawn}

@@ -1,17 +1,16 @@
 -- The lines of a journal are said one after another: from its histories to its lines.
-use Rattle.std.proofs.Common.{◌≡◌, ℕ, zero, suc, ◌+◌, ◌<◌, ◌≤◌, true, List, [], ◌∷◌, ◌++◌, map, length, drop, get_or, append_assoc, refl, sym, ◌∙◌, ap, subst, arith}
+use Rattle.std.proofs.Common.{◌≡◌, ℕ, zero, suc, ◌+◌, true, List, [], ◌∷◌, ◌++◌, map, length, drop, get_or, append_assoc, refl, sym, ◌∙◌, ap, subst, arith}
 use Rattle.std.proofs.lemmas.List.{append-nil}
-use Rattle.std.specs.List.{All, AllByRecursion as Each, flat_map, range_with_len}
+use Rattle.std.specs.List.{AllByRecursion as Each, range_with_len}
 use Rattle.std.proofs.lemmas.List.Elements.{recursion_from_All as each}
 use Rattle.hm_sizes.specs.declared.config.Config.{Config}
-use Rattle.hm_sizes.specs.Configs.{IsValid}
 use Rattle.hm_sizes.specs.Origins.{Origin}
 use Rattle.hm_model.specs.declared.entry.Entry.{Entry}
 use Rattle.hm_heap.specs.declared.close.History.{History}
 use Rattle.hm_heap.specs.Lawful.{IsLawful, fault_count, first_address}
 use Rattle.hm_heap.proofs.Fronts.{lawful_front}
 use Rattle.hm_journal.specs.Entries.{entry_words}
-use Rattle.hm_journal.specs.Journals.{histories_lines, history_lines}
+use Rattle.hm_journal.specs.Journals.{histories_lines}
 use Rattle.hm_journal.specs.Lines.{closed_line, end_line, region_line}
 use Rattle.hm_journal.specs.Ranges.{EntryFits, Fits64, HistoryFits}
 use Rattle.hm_journal.specs.Runs.{EntryRuns}

@@ -1,6 +1,6 @@
 -- The verdict is Yes exactly for the journals of legal and drawn histories of all regions.
-use Rattle.std.proofs.Common.{◌≡◌, ℕ, ◌+◌, List, [], ◌∷◌, ◌++◌, map, length, refl, sym, ◌∙◌, ap, subst, arith}
-use Rattle.std.specs.List.{All, AllByRecursion as Each, join_with_byte, range_with_len}
+use Rattle.std.proofs.Common.{◌≡◌, ℕ, ◌+◌, List, [], ◌∷◌, ◌++◌, refl, sym, ◌∙◌, ap, subst, arith}
+use Rattle.std.specs.List.{AllByRecursion as Each}
 use Rattle.std.proofs.lemmas.List.Elements.{All-from_recursion as from, recursion_from_All as each}
 use Rattle.std.proofs.lemmas.List.Splits.{join_with_byte-slice_split}
 use Rattle.hm_sizes.specs.declared.config.Config.{Config}
@@ -14,7 +14,7 @@ use Rattle.hm_journal.proofs.Each.{each_by}
 use Rattle.hm_journal.proofs.LineBack.{valid_fits}
 use Rattle.hm_check.specs.declared.verdict.Verdict.TheVariants.{Yes}
 use Rattle.hm_check.specs.Journals.{IsJournalOf, IsLawfulHistory, YesIsJournal, entry_count}
-use Rattle.hm_check.specs.Readers.{Stage, AtHeader, AtConfig, AtSeed, AtRegion, Ended, Said, Header, Configured, Seeded, Reader, read, region_count, start}
+use Rattle.hm_check.specs.Readers.{AtHeader, AtConfig, AtSeed, AtRegion, Ended, Said, Header, Configured, Seeded, Reader, read, region_count, start}
 use Rattle.hm_check.specs.Verdicts.{IsVerdict, Judges, lines_in}
 use Rattle.hm_check.proofs.Chains.{Chain, IsSaid, after, judged, text_of, what_is_said}
 use Rattle.hm_check.proofs.Histories.{SaysRegions, says_regions, shape}
