@@ -94,8 +94,8 @@ impl Book {
     ) -> Result<bool, NoMemory>
         requires shape { IsShape region.now.shape }
         requires range { AsksRange (Call.Fetch addr len) }
-        ensures { (before now : ℕ) → IfOk result (λ r. IsTrue r ↔ Allows (terms region.now) (state_in self.now) before now
-            choices.now (Call.Fetch addr len) reply.now) }
+        ensures { (before now : ℕ) → IfOk result (λ r. IsTrue r
+            ↔ Allows (terms region.now) (state_in self.now) before now choices.now (Call.Fetch addr len) reply.now) }
     {
         let shape = &region.shape;
         match reply {
@@ -117,8 +117,8 @@ impl Book {
         requires shape { IsShape region.now.shape }
         requires range { AsksRange (Call.Fill addr runs.now) }
         requires trapped { reply.now ≢ Reply.Filled }
-        ensures { (before now : ℕ) → IsTrue result ↔ Allows (terms region.now) (state_in self.now) before now choices.now
-            (Call.Fill addr runs.now) reply.now }
+        ensures { (before now : ℕ) → IsTrue result
+            ↔ Allows (terms region.now) (state_in self.now) before now choices.now (Call.Fill addr runs.now) reply.now }
     {
         match reply {
             Reply::Trap { addr: trap } => {
@@ -139,8 +139,8 @@ impl Book {
     ) -> Result<bool, NoMemory>
         requires shape { IsShape region.now.shape }
         requires range { AsksRange (Call.Fill addr runs.now) }
-        ensures legal { (before now : ℕ) → IfOk result (λ r. IsTrue r ↔ Allows (terms region.now) (state_in self.old) before
-            now choices.now (Call.Fill addr runs.now) Reply.Filled) }
+        ensures legal { (before now : ℕ) → IfOk result (λ r. IsTrue r
+            ↔ Allows (terms region.now) (state_in self.old) before now choices.now (Call.Fill addr runs.now) Reply.Filled) }
         ensures state { IfOk result (λ r. IsTrue r → state_in self.new
             ≡ write region.now.shape addr (expand runs.now) (state_in self.old)) }
     {

@@ -81,7 +81,8 @@ impl Book {
         canary: Option<u64>,
     ) -> Result<(), NoMemory>
         requires shape { IsShape shape.now }
-        requires next { IfSome number (λ n. unopened shape.now (state_in self.old).shut (state_in self.old).next ≡ Some n) }
+        requires next { IfSome number
+            (λ n. unopened shape.now (state_in self.old).shut (state_in self.old).next ≡ Some n) }
         ensures { OnOk result (state_in self.new ≡ opened shape.now number canary (state_in self.old)) }
     {
         match number {
@@ -151,7 +152,8 @@ impl Book {
         requires empty { Holds lists.now.empty.items (is_empty shape.now (state_in self.old)) }
         requires from { from < shape.now.slots }
         ensures { IfOk result (Judges
-            (Picks shape.now (state_in self.old) (with_opened shape.now choices.now (state_in self.old)) choices.now addr)
+            (Picks shape.now (state_in self.old) (with_opened shape.now choices.now (state_in self.old)) choices.now
+            addr)
             (IsFirst shape.now (state_in self.old) choices.now from addr)
             (state_in self.new ≡ with_opened shape.now choices.now (state_in self.old))) }
     {

@@ -335,8 +335,8 @@ impl ClassBook {
         Judgement::Taken
     }
 
-    // Ends an entry in which a slot was picked: it was of this kind before, and is the first available one or not, or may
-    // not be picked.
+    // Ends an entry in which a slot was picked: its slab was of this kind before. The slot is the first available one or
+    // not, or may not be picked.
     fn settle_picked(
         &mut self,
         entry: &Entry,

@@ -134,8 +134,8 @@ impl Book {
     ) -> bool
         requires shape { IsShape region.now.shape }
         requires refused { reply.now ≢ Reply.Freed }
-        ensures { (before now : ℕ) → IsTrue result ↔ Allows (terms region.now) (state_in self.now) before now choices.now
-            (Call.GiveBack addr stated) reply.now }
+        ensures { (before now : ℕ) → IsTrue result
+            ↔ Allows (terms region.now) (state_in self.now) before now choices.now (Call.GiveBack addr stated) reply.now }
     {
         let shape = &region.shape;
         match reply {
@@ -167,8 +167,8 @@ impl Book {
     /// Whether measuring may have a reply.
     pub fn may_measure(&self, region: &Region, choices: &Choices, addr: u64, reply: &Reply) -> bool
         requires { IsShape region.now.shape }
-        ensures { (before now : ℕ) → IsTrue result ↔ Allows (terms region.now) (state_in self.now) before now choices.now
-            (Call.Measure addr) reply.now }
+        ensures { (before now : ℕ) → IsTrue result
+            ↔ Allows (terms region.now) (state_in self.now) before now choices.now (Call.Measure addr) reply.now }
     {
         let shape = &region.shape;
         match reply {
