@@ -1,5 +1,5 @@
 -- What the blocks say after a change.
-use Rattle.std.proofs.Common.{◌≡◌, ⊎_elim, ℕ, zero, suc, ◌+◌, ◌-◌, ◌*◌, ◌<◌, ◌≤◌, ◌↔◌, ◌^◌, ◌==◌, Bool, true, false, cond, not, List, [], ◌∷◌, ◌++◌, map, length, take, drop, get_or, Option, Some, None, option_map, is_some, refl, sym, ◌∙◌, ap, subst, arith}
+use Rattle.std.proofs.Common.{◌≡◌, ℕ, zero, suc, ◌+◌, ◌-◌, ◌*◌, ◌<◌, ◌≤◌, ◌↔◌, ◌^◌, true, false, cond, List, [], ◌∷◌, ◌++◌, map, length, take, drop, get_or, Option, Some, None, option_map, is_some, refl, sym, ◌∙◌, ap, subst, arith}
 use Rattle.std.proofs.lemmas.Option.{none-some, same_Some}
 use Rattle.std.proofs.lemmas.List.{map-set}
 use Rattle.std.proofs.lemmas.List.Edits.{map_over_more}
@@ -7,18 +7,17 @@ use Rattle.std.proofs.Math.ListN.{get_or-map}
 use lib.ListN.{set}
 use Rattle.hm_model.specs.Maps.{at, has, removed}
 use Rattle.hm_quarantine.specs.Delay.{slots_of}
-use Rattle.hm_quarantine.specs.LookingBack.{Free}
 use Rattle.hm_sizes.specs.declared.config.Config.{Config}
 use Rattle.hm_sizes.specs.Configs.{IsValid}
 use Rattle.hm_space.specs.Ranges.{IsInSome}
 use Rattle.hm_space.specs.Space.{FreeSpace, IsFree, IsFreeRange, TakesRange, GivesRange}
 use Rattle.hm_large.specs.Blocks.{Block, Blocks, size_for, new_block, is_quarantined, covers, covered, mark, marked}
-use Rattle.hm_large.specs.State.{State, takes_back, releases, free_of}
-use Rattle.hm_large.specs.Rules.{IsCandidate, ReleasesFrom, taken}
+use Rattle.hm_large.specs.State.{State, takes_back, free_of}
+use Rattle.hm_large.specs.Rules.{IsCandidate, taken}
 use Rattle.hm_large.specs.Kept.{IsOpen, kept_of}
-use Rattle.hm_large.specs.Laws.{IsPlaced, IsSound}
+use Rattle.hm_large.specs.Laws.{IsSound}
 use Rattle.hm_large.specs.Stored.{GoesBack}
-use Rattle.hm_large.proofs.BlockLists.{weight, how_many_removed, at_covered, length_removed, placed_at}
+use Rattle.hm_large.proofs.BlockLists.{how_many_removed, at_covered, length_removed, placed_at}
 use Rattle.hm_large.proofs.Legal.{live_once, held_once}
 use Rattle.hm_large.proofs.Places.{candidate_fit}
 use Rattle.hm_large.proofs.Shown.{open_given}
@@ -26,8 +25,8 @@ use Rattle.hm_large.proofs.Released.{goes_back, open_back}
 use Rattle.hm_large_book.specs.declared.blocks.LiveBlock.{LiveBlock}
 use Rattle.hm_large_book.specs.declared.blocks.BlockBook.{BlockBook}
 use Rattle.hm_large_book.specs.declared.blocks.Extent.{Extent}
-use Rattle.hm_large_book.specs.Book.{block_of, block_in, blocks_in, extent_of, extent_in, extents_of, ShowsBlocks}
-use Rattle.hm_large_book.specs.Changes.{IsShown, HasPlace, IsLive}
+use Rattle.hm_large_book.specs.Book.{block_of, block_in, blocks_in, extent_of, ShowsBlocks}
+use Rattle.hm_large_book.specs.Changes.{HasPlace}
 use Rattle.hm_large_book.proofs.Finding.{removed_pairs, at_pairs, length_pairs}
 
 -- ---- a new block

@@ -1,10 +1,10 @@
 -- What passing over a list of pairs finds at a key.
-use Rattle.std.proofs.Common.{◌≡◌, ℕ, zero, suc, ◌+◌, ◌<◌, ◌≤◌, ◌==◌, Bool, true, false, cond, not, ◌||◌, List, [], ◌∷◌, map, length, take, get_or, Option, Some, None, option_map, refl, sym, ◌∙◌, ap, subst, arith, true≢false}
+use Rattle.std.proofs.Common.{◌≡◌, ℕ, zero, suc, ◌+◌, ◌<◌, ◌≤◌, ◌==◌, Bool, true, false, cond, not, ◌||◌, List, [], ◌∷◌, map, length, take, get_or, Some, None, option_map, refl, sym, ◌∙◌, ap, subst, arith}
 use Rattle.std.specs.Prelude.{slice_get}
 use Rattle.std.specs.List.{list_any}
 use Rattle.std.proofs.lemmas.Option.{none-some, same_Some}
 use Rattle.hm_model.specs.Maps.{at, removed, times, keys}
-use Rattle.hm_model.proofs.Lists.{same_eq, other_eq, eq_same, times_here}
+use Rattle.hm_model.proofs.Lists.{same_eq, other_eq, times_here}
 
 module _ {X : Type 0} where
   pub at_next : (a : ℕ) (l : List (ℕ × X)) (i : ℕ) (d : ℕ × X) → at a (take i l) ≡ None → i < length l → ((get_or l i d).0 == a) ≡ false → at a (take (i + 1) l) ≡ None

@@ -1,9 +1,7 @@
 -- Entries of a block that was taken back.
-use Rattle.std.proofs.Common.{◌≡◌, ℕ, suc, ◌+◌, ◌<◌, ◌≤◌, ◌^◌, Bool, true, false, cond, List, [], ◌∷◌, length, Option, Some, None, is_some, refl, sym, ◌∙◌, ap, subst, arith, true≢false}
-use Rattle.std.specs.Prelude.{nat_lt}
+use Rattle.std.proofs.Common.{◌≡◌, ℕ, suc, ◌+◌, ◌<◌, ◌≤◌, ◌^◌, Bool, true, false, cond, List, ◌∷◌, length, Option, Some, None, is_some, refl, sym, ◌∙◌, ap, subst, arith, true≢false}
 use Rattle.std.specs.Bool.{MatchBool}
 use Rattle.std.proofs.lemmas.Bool.{lt-ltb, le-ltb}
-use Rattle.std.proofs.lemmas.Option.{none-some, same_Some}
 use Rattle.hm_choice.specs.Stream.{Words, next_word, after_word, drawn}
 use Rattle.hm_model.specs.declared.entry.Entry.{Entry}
 use Rattle.hm_model.specs.declared.entry.Draws.{Draws}
@@ -12,7 +10,7 @@ use Rattle.hm_model.specs.declared.entry.Reply.TheVariants.{Freed}
 use Rattle.hm_model.specs.Calls.{no_choices, no_words, one_word}
 use Rattle.hm_model.specs.Maps.{at, has, removed}
 use Rattle.hm_quarantine.specs.Quarantine.{IsArrayPlace, Kept, let_go, kept_with}
-use Rattle.hm_quarantine.specs.LookingBack.{Free, released, ArePlaces, kept_after}
+use Rattle.hm_quarantine.specs.LookingBack.{released, ArePlaces, kept_after}
 use Rattle.hm_quarantine.proofs.Passes.{looks_back, length_array}
 use Rattle.hm_sizes.specs.declared.config.Config.{Config}
 use Rattle.hm_large.specs.Laws.{IsSound}
@@ -28,8 +26,8 @@ use Rattle.hm_large_book.specs.declared.blocks.BlockBook.{BlockBook}
 use Rattle.hm_large_book.specs.declared.blocks.Extent.{Extent}
 use Rattle.hm_large_book.specs.Book.{blocks_in, extent_of, Accepts, ShowsBlocks, Shows, Stands}
 use Rattle.hm_large_book.specs.Changes.{IsShown, IsLive}
-use Rattle.hm_large_book.specs.Freed.{IsFreeJudged, JudgesFree, freed_to}
-use Rattle.hm_large_book.specs.Judged.{terms_of, IsJudged, Judges, moved_to}
+use Rattle.hm_large_book.specs.Freed.{IsFreeJudged, JudgesFree}
+use Rattle.hm_large_book.specs.Judged.{IsJudged, Judges}
 use Rattle.hm_large_book.proofs.Judging.{blocks_words}
 use Rattle.hm_large_book.proofs.Written.{accepts_from}
 

@@ -1,5 +1,5 @@
 -- Each live block of a drawn history has a guard.
-use Rattle.std.proofs.Common.{◌≡◌, ℕ, suc, ◌+◌, ◌≤◌, ◌==◌, Bool, true, false, cond, not, List, [], ◌∷◌, map, Option, Some, None, unwrap_or, refl, ap, subst, arith}
+use Rattle.std.proofs.Common.{◌≡◌, ℕ, ◌==◌, Bool, true, false, cond, not, List, [], ◌∷◌, map, Option, Some, None, unwrap_or, refl, ap, subst, arith}
 use Rattle.hm_model.specs.declared.entry.Entry.{Entry}
 use Rattle.hm_model.specs.declared.entry.Call.{Call}
 use Rattle.hm_model.specs.declared.entry.Call.TheVariants as call

@@ -1,12 +1,11 @@
 -- What is said of an entry, by what is known of its parts.
-use Rattle.std.proofs.Common.{◌≡◌, ℕ, suc, ◌+◌, Bool, true, false, not, Option, Some, None, refl, sym, ◌∙◌, ap, subst, arith}
-use Rattle.std.specs.Prelude.{IsTrue, ◌↔◌}
-use Rattle.hm_choice.specs.Stream.{next_word, after_word}
+use Rattle.std.proofs.Common.{◌≡◌, ℕ, ◌+◌, Bool, sym, ◌∙◌, ap, arith}
+use Rattle.std.specs.Prelude.{IsTrue}
 use Rattle.hm_model.specs.declared.entry.Entry.{Entry}
 use Rattle.hm_model.specs.declared.entry.Draws.{Draws}
 use Rattle.hm_model.specs.declared.entry.Call.{Call}
 use Rattle.hm_model.specs.declared.entry.Reply.{Reply}
-use Rattle.hm_model.specs.Calls.{no_choices, no_words, one_word}
+use Rattle.hm_model.specs.Calls.{no_choices, no_words}
 use Rattle.hm_sizes.specs.declared.config.Config.{Config}
 use Rattle.hm_large.specs.State.{State, moved}
 use Rattle.hm_large.specs.Rules.{Allows}
@@ -15,7 +14,7 @@ use Rattle.hm_large_book.specs.declared.judgement.Judgement.{Judgement}
 use Rattle.hm_large_book.specs.declared.judgement.Judgement.TheVariants.{Taken, NotLegal, NotDrawn}
 use Rattle.hm_large_book.specs.declared.book.LargeBook.{LargeBook}
 use Rattle.hm_large_book.specs.Book.{ShowsBlocks, Shows, Stands}
-use Rattle.hm_large_book.specs.Judged.{terms_of, JudgesPlain, IsJudged, Judges, moved_to}
+use Rattle.hm_large_book.specs.Judged.{terms_of, JudgesPlain, IsJudged, Judges}
 
 -- blocks look at no word and no count
 pub blocks_words : (c : Config) (s : State) (k : _) (words : ℕ) → ShowsBlocks c s k → ShowsBlocks c (record s { words = words }) k

@@ -1,25 +1,22 @@
 -- Entries that choose nothing and draw no word, call by call and reply by reply.
-use Rattle.std.proofs.Common.{◌≡◌, ℕ, ◌+◌, ◌<◌, ◌≤◌, ◌^◌, Bool, true, false, not, ◌&&◌, List, length, Option, Some, None, option_map, is_some, refl, sym, ◌∙◌, ap, subst, true≢false}
+use Rattle.std.proofs.Common.{◌≡◌, ℕ, Bool, true, false, not, List, length, Option, Some, None, option_map, refl, sym, ◌∙◌, ap, subst}
 use Rattle.std.specs.Prelude.{IsTrue, ◌↔◌}
-use Rattle.std.proofs.lemmas.Option.{none-some, same_Some}
 use Rattle.hm_model.specs.declared.entry.Entry.{Entry}
-use Rattle.hm_model.specs.declared.entry.Call.TheVariants.{Allot, GiveBack, Measure, Fetch, Fill}
-use Rattle.hm_model.specs.declared.entry.Reply.TheVariants.{PagesFailed, WrongSize, NotLive, Usable, Bytes, Filled, Trap}
-use Rattle.hm_model.specs.Calls.{no_choices, no_words}
+use Rattle.hm_model.specs.declared.entry.Call.TheVariants.{GiveBack, Measure, Fetch, Fill}
+use Rattle.hm_model.specs.declared.entry.Reply.TheVariants.{WrongSize, NotLive, Usable, Bytes, Trap}
 use Rattle.hm_model.specs.Maps.{at, has}
 use Rattle.hm_model.specs.Runs.{expand}
 use Rattle.hm_sizes.specs.declared.config.Config.{Config}
-use Rattle.hm_large.specs.Blocks.{Block, Blocks, first_trap, bytes_read, marked, written_over}
+use Rattle.hm_large.specs.Blocks.{Block, Blocks, first_trap, bytes_read}
 use Rattle.hm_large.specs.State.{State}
-use Rattle.hm_large.specs.Rules.{wrong_size, Allows}
+use Rattle.hm_large.specs.Rules.{wrong_size}
 use Rattle.hm_large.specs.Kept.{AreGuarded}
 use Rattle.hm_large.specs.Laws.{IsSound}
 use Rattle.hm_large_book.specs.declared.blocks.LiveBlock.{LiveBlock}
-use Rattle.hm_large_book.specs.declared.blocks.Extent.{Extent}
 use Rattle.hm_large_book.specs.declared.judgement.Judgement.{Judgement}
 use Rattle.hm_large_book.specs.declared.book.LargeBook.{LargeBook}
-use Rattle.hm_large_book.specs.Book.{blocks_in, extent_of, Accepts, ShowsBlocks, Shows, Stands}
-use Rattle.hm_large_book.specs.Judged.{terms_of, JudgesPlain, Judges}
+use Rattle.hm_large_book.specs.Book.{blocks_in, Shows, Stands}
+use Rattle.hm_large_book.specs.Judged.{JudgesPlain, Judges}
 use Rattle.hm_large_book.proofs.Judging.{shows_words, plain_judged}
 
 not_yes : (r : Bool) → r ≡ false → not r ≡ true

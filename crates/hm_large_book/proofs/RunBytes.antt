@@ -1,8 +1,8 @@
 -- Bytes beside the runs that stand for them, run by run.
-use Rattle.std.proofs.Common.{◌≡◌, ℕ, zero, suc, ◌+◌, ◌-◌, ◌<◌, ◌≤◌, List, [], ◌∷◌, ◌++◌, length, take, drop, replicate, get_or, refl, sym, ◌∙◌, ap, subst, arith, append_assoc, length-append, length-take, length-drop}
+use Rattle.std.proofs.Common.{◌≡◌, ℕ, ◌+◌, ◌-◌, ◌<◌, ◌≤◌, List, [], ◌∷◌, ◌++◌, length, take, drop, replicate, get_or, refl, sym, ◌∙◌, ap, arith, append_assoc, length-append, length-take, length-drop}
 use Rattle.std.proofs.lemmas.List.{take-append-drop, length-replicate, take_more, replicate_more, get_or-replicate}
 use Rattle.std.proofs.Math.Seq.{take-add, drop-append_seam, take-append_seam}
-use Rattle.hm_model.specs.Runs.{expand, total}
+use Rattle.hm_model.specs.Runs.{expand}
 use Rattle.hm_model.proofs.RunsOf.{length_expand}
 use Rattle.hm_large.proofs.Parts.{expand_front, total_within}
 

@@ -1,9 +1,8 @@
 -- What is known of a live block by how far it reaches.
-use Rattle.std.proofs.Common.{◌≡◌, ℕ, ◌==◌, Bool, true, false, cond, Option, Some, None, option_map, is_some, refl, sym, ◌∙◌, ap, subst, true≢false}
-use Rattle.std.specs.Prelude.{IsTrue, ◌↔◌}
-use Rattle.std.specs.Option.{IfSome, IfNone}
+use Rattle.std.proofs.Common.{◌≡◌, ℕ, ◌==◌, Bool, true, false, Option, Some, None, option_map, is_some, refl, sym, ◌∙◌, ap, true≢false}
+use Rattle.std.specs.Prelude.{◌↔◌}
 use Rattle.std.proofs.lemmas.Option.{none-some, same_Some}
-use Rattle.hm_model.specs.Maps.{at, has}
+use Rattle.hm_model.specs.Maps.{at}
 use Rattle.hm_model.proofs.Lists.{same_eq, eq_same}
 use Rattle.hm_large.specs.Blocks.{Block, Blocks}
 use Rattle.hm_large.specs.Rules.{wrong_size}

@@ -1,10 +1,10 @@
 -- What taking an entry leaves.
-use Rattle.std.proofs.Common.{◌≡◌, ℕ, List, [], ◌∷◌, ◌++◌, refl, sym, ◌∙◌, ap, subst}
+use Rattle.std.proofs.Common.{◌≡◌, ℕ, List, refl, sym, ◌∙◌, subst}
 use Rattle.hm_model.specs.declared.entry.Entry.{Entry}
 use Rattle.hm_model.specs.Machine.{run, run_push, Legal_push}
 use Rattle.hm_sizes.specs.declared.config.Config.{Config}
 use Rattle.hm_sizes.specs.Configs.{IsValid}
-use Rattle.hm_large.specs.State.{State, start, step, moved}
+use Rattle.hm_large.specs.State.{State, start, step}
 use Rattle.hm_large.specs.Rules.{Allowed, state}
 use Rattle.hm_large.specs.Draws.{Drawn}
 use Rattle.hm_large.specs.Laws.{IsSound}
@@ -13,7 +13,7 @@ use Rattle.hm_large.proofs.Legal.{sound}
 use Rattle.hm_large_book.specs.declared.judgement.Judgement.{Judgement}
 use Rattle.hm_large_book.specs.declared.judgement.Judgement.TheVariants.{Taken, NotLegal, NotDrawn}
 use Rattle.hm_large_book.specs.declared.book.LargeBook.{LargeBook}
-use Rattle.hm_large_book.specs.Book.{ShowsBlocks, Shows, Stands}
+use Rattle.hm_large_book.specs.Book.{Shows, Stands}
 use Rattle.hm_large_book.specs.Judged.{terms_of, moved_to, IsJudged, Judges, Holds}
 use Rattle.hm_large_book.specs.Reached.{IsFormed, IsBookOf, IsReached, Says}
 use Rattle.hm_large_book.proofs.Guarding.{guarded}

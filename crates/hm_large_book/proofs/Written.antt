@@ -1,5 +1,5 @@
 -- Entries that change live blocks where they are: writing, and a free at which a page failed.
-use Rattle.std.proofs.Common.{◌≡◌, ℕ, ◌+◌, ◌<◌, ◌≤◌, ◌↔◌, Bool, true, false, ◌&&◌, List, map, length, Option, Some, None, is_some, refl, sym, ◌∙◌, ap, subst, arith, true≢false}
+use Rattle.std.proofs.Common.{◌≡◌, ℕ, ◌<◌, ◌↔◌, Bool, true, false, ◌&&◌, List, map, length, Option, Some, None, is_some, refl, sym, ◌∙◌, ap, subst, arith, true≢false}
 use Rattle.std.specs.Prelude.{IsTrue}
 use Rattle.std.specs.Bool.{MatchBool}
 use Rattle.std.proofs.lemmas.Bool.{and_parts, and_from}
@@ -9,11 +9,11 @@ use Rattle.hm_model.specs.declared.entry.Reply.TheVariants.{PagesFailed, Filled}
 use Rattle.hm_model.specs.Maps.{at, has}
 use Rattle.hm_model.specs.Runs.{expand}
 use Rattle.hm_sizes.specs.declared.config.Config.{Config}
-use Rattle.hm_large.specs.Blocks.{Block, Blocks, covers, covered, first_trap, mark, marked, overlay, written_over}
+use Rattle.hm_large.specs.Blocks.{Block, Blocks, covers, first_trap, mark, marked, overlay, written_over}
 use Rattle.hm_large.specs.State.{State}
 use Rattle.hm_large.specs.Draws.{stream_after}
 use Rattle.hm_model.specs.Calls.{no_choices}
-use Rattle.hm_large.specs.Rules.{wrong_size, taken, in_space}
+use Rattle.hm_large.specs.Rules.{wrong_size}
 use Rattle.hm_large.specs.Kept.{AreGuarded, IsOpen}
 use Rattle.hm_large.specs.Laws.{IsSound}
 use Rattle.hm_large.proofs.BlockLists.{how_many_same, length_same}
@@ -23,7 +23,7 @@ use Rattle.hm_large_book.specs.declared.blocks.BlockBook.{BlockBook}
 use Rattle.hm_large_book.specs.declared.blocks.Extent.{Extent}
 use Rattle.hm_large_book.specs.declared.judgement.Judgement.{Judgement}
 use Rattle.hm_large_book.specs.declared.book.LargeBook.{LargeBook}
-use Rattle.hm_large_book.specs.Book.{blocks_in, extent_of, Accepts, IsAccepted, ShowsBlocks, Shows, Stands}
+use Rattle.hm_large_book.specs.Book.{blocks_in, extent_of, Accepts, IsAccepted, Shows, Stands}
 use Rattle.hm_large_book.specs.Judged.{JudgesPlain, Judges}
 use Rattle.hm_large_book.proofs.Judging.{plain_judged}
 

@@ -1,5 +1,5 @@
 -- What is said of the free of a live block, its size being right.
-use Rattle.std.specs.Prelude.{◌≡◌, ℕ, ◌+◌, Option, Some}
+use Rattle.std.specs.Prelude.{◌≡◌, ℕ, ◌+◌, Some}
 use Rattle.hm_model.specs.declared.entry.Entry.{Entry}
 use Rattle.hm_model.specs.Maps.{at}
 use Rattle.hm_large.specs.Blocks.{Block}

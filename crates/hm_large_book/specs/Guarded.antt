@@ -1,6 +1,6 @@
 -- What is said of an entry of an allotment that is allowed, by the word that comes next.
 use Rattle.std.specs.Prelude.{◌≡◌, ℕ, Some}
-use Rattle.hm_choice.specs.Stream.{Words, next_word, after_word}
+use Rattle.hm_choice.specs.Stream.{Words, next_word}
 use Rattle.hm_model.specs.declared.entry.Entry.{Entry}
 use Rattle.hm_model.specs.Calls.{one_word}
 use Rattle.hm_large.specs.Blocks.{guard_of}

@@ -1,5 +1,5 @@
 -- What is said of an entry.
-use Rattle.std.specs.Prelude.{◌≡◌, ℕ, ◌+◌, Bool, true, IsTrue}
+use Rattle.std.specs.Prelude.{◌≡◌, ◌+◌, Bool, true, IsTrue}
 use Rattle.hm_model.specs.declared.entry.Entry.{Entry}
 use Rattle.hm_model.specs.declared.entry.Call.{Call}
 use Rattle.hm_model.specs.declared.entry.Reply.{Reply}

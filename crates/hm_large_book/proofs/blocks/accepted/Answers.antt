@@ -1,5 +1,4 @@
 use Rattle.std.proofs.Common.{◌≡◌, ℕ, Bool, true, false, Option, Some, None, is_some, sym, ◌∙◌, ap, true≢false}
-use Rattle.hm_model.specs.Maps.{at}
 use Rattle.hm_large_book.specs.Book.{blocks_in}
 use Rattle.hm_large_book.proofs.Sizes.{accepted_some, accepted_other, accepted_none}
 use Rattle.hm_large_book.proofs.blocks.accepted.Goals as goal

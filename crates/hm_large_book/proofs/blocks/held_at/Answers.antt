@@ -1,5 +1,4 @@
 use Rattle.std.proofs.Common.{sym}
-use Rattle.hm_large_book.specs.declared.blocks.Extent.{Extent}
 use Rattle.hm_large_book.proofs.Finding.{passed_at, found_at}
 use Rattle.hm_large_book.proofs.blocks.held_at.Goals as goal
 

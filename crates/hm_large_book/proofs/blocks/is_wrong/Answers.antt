@@ -1,4 +1,4 @@
-use Rattle.std.proofs.Common.{◌≡◌, ℕ, Option, Some, subst, sym}
+use Rattle.std.proofs.Common.{◌≡◌, ℕ, Option, Some, subst}
 use Rattle.std.specs.Prelude.{IsTrue, ◌↔◌}
 use Rattle.hm_model.specs.Maps.{at}
 use Rattle.hm_large_book.specs.Book.{blocks_in}

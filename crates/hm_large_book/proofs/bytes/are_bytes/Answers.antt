@@ -1,4 +1,4 @@
-use Rattle.std.proofs.Common.{◌≡◌, ℕ, ◌+◌, ◌-◌, ◌≤◌, List, length, take, drop, replicate, get_or, true, true≢false, refl, sym, ◌∙◌, ap, subst, arith}
+use Rattle.std.proofs.Common.{◌+◌, ◌≤◌, length, get_or, true≢false, refl, sym, ◌∙◌, arith}
 use Rattle.hm_large_book.proofs.RunBytes.{next_length, next_within, next_alike, part_alike, slice_alike, part_from, part_end}
 use Rattle.hm_large_book.proofs.bytes.are_bytes.Goals as goal
 

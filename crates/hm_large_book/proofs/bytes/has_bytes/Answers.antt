@@ -1,4 +1,4 @@
-use Rattle.std.proofs.Common.{◌≡◌, length, refl, sym, ◌∙◌, ap, true≢false, arith}
+use Rattle.std.proofs.Common.{length, sym, ◌∙◌, ap, true≢false, arith}
 use Rattle.hm_large_book.proofs.Reaching.{range_is, fits_at, read_at}
 use Rattle.hm_large_book.proofs.bytes.has_bytes.Goals as goal
 

@@ -13,6 +13,6 @@ returns c = λ config s sound guarded is.
     let long : length c.write.new.live ≡ c.args.live.now.len = search rules in
     let kept : (with_items c.args.live.now c.write.new.live).items ≡ c.write.new.live = with_items_is c.args.live.now c.write.new.live long in
     let writes : MatchBool c.write.result ((first_trap s.live c.args.addr (length (expand c.args.runs.now)) ≡ None) × (blocks_in c.write.new.live ≡ written_over c.args.addr (expand c.args.runs.now) s.live))
-        (first_trap s.live c.args.addr (length (expand c.args.runs.now)) ≡ None → ⊥) = c.write.ensures config s sound guarded (ap blocks_in c.deref_mut.ensures.value ∙ is) in
+    (first_trap s.live c.args.addr (length (expand c.args.runs.now)) ≡ None → ⊥) = c.write.ensures config s sound guarded (ap blocks_in c.deref_mut.ensures.value ∙ is) in
     subst (λ (l : List (ℕ × LiveBlock)). MatchBool c.write.result ((first_trap s.live c.args.addr (length (expand c.args.runs.now)) ≡ None) × (blocks_in l ≡ written_over c.args.addr (expand c.args.runs.now) s.live))
     (first_trap s.live c.args.addr (length (expand c.args.runs.now)) ≡ None → ⊥)) (sym kept) writes

@@ -1,7 +1,7 @@
 use Rattle.std.proofs.Common.{sym, ap, ◌∙◌}
 use Rattle.hm_large.specs.Blocks.{mark}
 use Rattle.hm_large_book.specs.Book.{block_in}
-use Rattle.hm_large_book.proofs.Changing.{mark_next, mark_all}
+use Rattle.hm_large_book.proofs.Changing.{mark_next}
 use Rattle.hm_large_book.proofs.changes.mark.Goals as goal
 
 pub loop-entry-preserved : goal.loop-entry-preserved

@@ -1,4 +1,4 @@
-use Rattle.std.proofs.Common.{ℕ, ◌∷◌, List, ◌∙◌, ap, refl}
+use Rattle.std.proofs.Common.{◌∷◌, ◌∙◌, ap, refl}
 use Rattle.hm_large_book.specs.declared.blocks.Extent.{Extent}
 use Rattle.hm_large_book.proofs.Changing.{shows_held}
 use Rattle.hm_large_book.proofs.blocks.BlockBook.hold.Goals as goal

@@ -1,8 +1,7 @@
-use Rattle.std.proofs.Common.{◌≡◌, ℕ, ◌+◌, ◌-◌, ◌*◌, ◌∷◌, List, subst, sym, ◌∙◌, ap, refl, false}
+use Rattle.std.proofs.Common.{ℕ, ◌+◌, ◌-◌, ◌*◌, ◌∷◌, List, subst, ◌∙◌, ap, refl, false}
 use Rattle.hm_base.specs.Lists.{zeros}
 use Rattle.hm_space.specs.Space.{TakesRange}
-use Rattle.hm_large.specs.Blocks.{Block}
-use Rattle.hm_large_book.specs.Book.{block_in, blocks_in}
+use Rattle.hm_large_book.specs.Book.{blocks_in}
 use Rattle.hm_large_book.proofs.Changing.{shows_inserted, more_taken}
 use Rattle.hm_large_book.proofs.blocks.BlockBook.insert.Goals as goal
 

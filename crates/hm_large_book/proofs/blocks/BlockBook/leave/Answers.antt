@@ -1,4 +1,4 @@
-use Rattle.std.proofs.Common.{◌≡◌, ℕ, ◌+◌, ◌-◌, ◌*◌, subst, sym, ◌∙◌, ap, arith, refl}
+use Rattle.std.proofs.Common.{ℕ, ◌+◌, ◌-◌, ◌*◌, subst, sym, arith, refl}
 use Rattle.hm_space.specs.Space.{MeetsNoFree, GivesRange}
 use Rattle.hm_large_book.specs.declared.blocks.Extent.{Extent}
 use Rattle.hm_large_book.proofs.Changing.{shows_left}

@@ -1,4 +1,4 @@
-use Rattle.std.proofs.Common.{◌≡◌, ℕ, ◌+◌, ◌-◌, ◌*◌, subst, sym, ◌∙◌, ap, arith, refl}
+use Rattle.std.proofs.Common.{ℕ, ◌-◌, ◌*◌, subst, sym, arith, refl}
 use Rattle.hm_space.specs.Space.{MeetsNoFree, GivesRange}
 use Rattle.hm_large_book.proofs.Releasing.{extent_goes, let_go_some, let_go_none}
 use Rattle.hm_large_book.proofs.blocks.BlockBook.let_go.Goals as goal

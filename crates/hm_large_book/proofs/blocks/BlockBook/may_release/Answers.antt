@@ -1,4 +1,3 @@
-use Rattle.hm_large_book.specs.declared.blocks.Extent.{Extent}
 use Rattle.hm_large_book.proofs.Releasing.{may_leave}
 use Rattle.hm_large_book.proofs.blocks.BlockBook.may_release.Goals as goal
 

@@ -1,7 +1,3 @@
-use Rattle.std.proofs.Common.{◌≡◌, ℕ, Option, Some, None, sym, subst}
-use Rattle.hm_large.specs.Rules.{ReleasesFrom}
-use Rattle.hm_large.specs.State.{releases}
-use Rattle.hm_large_book.specs.Book.{ShowsBlocks}
 use Rattle.hm_large_book.proofs.Releasing.{block_leaves, none_leaves, stays}
 use Rattle.hm_large_book.proofs.blocks.BlockBook.release.Goals as goal
 

@@ -1,7 +1,5 @@
-use Rattle.std.proofs.Common.{refl, subst}
+use Rattle.std.proofs.Common.{refl}
 use Rattle.hm_model.specs.declared.entry.Reply.TheVariants.{Given}
-use Rattle.hm_large.specs.Blocks.{new_block}
-use Rattle.hm_large_book.specs.Book.{ShowsBlocks}
 use Rattle.hm_large_book.proofs.Allotting.{not_legal, allot_judged, given_allows, given_refuses, given_place, given_shows}
 use Rattle.hm_large_book.proofs.book.LargeBook.given.Goals as goal
 
