@@ -17,6 +17,7 @@ mod LineEnds
 mod NameSets
 mod Notes
 mod Numerals
+mod Ordered
 mod Parts
 mod Places
 mod Powers

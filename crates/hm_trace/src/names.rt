@@ -52,8 +52,12 @@ impl Ord for Name {
 
     ghost matches_eq = { Prim.search (comparing, rules) };
 
+    // Names are short, and `partial_cmp` goes byte by byte, where `cmp` of slices first skips groups of equal bytes.
     fn cmp(&self, other: &Name) -> Ordering {
-        self.bytes().cmp(other.bytes())
+        match self.bytes().partial_cmp(other.bytes()) {
+            Some(found) => found,
+            None => Ordering::Equal,
+        }
     }
 }
 
