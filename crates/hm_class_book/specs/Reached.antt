@@ -12,8 +12,8 @@ use Rattle.hm_class_rules.specs.Steps.{moved}
 use Rattle.hm_class_rules.specs.Rules.{Terms, Allowed, IsLegal}
 use Rattle.hm_class_rules.specs.Stepped.{Cells, first_cells, touched, next, cells, IsSteppedEntry, IsStepped}
 use Rattle.hm_class_book.specs.Picks.{IsFirst, Judges}
-use Rattle.hm_class_book.specs.declared.class_book.Judgement.{Judgement}
-use Rattle.hm_class_book.specs.declared.class_book.Judgement.TheVariants.{Taken, NotLegal, NotDrawn}
+use Rattle.hm_model.specs.declared.judgement.Judgement.{Judgement}
+use Rattle.hm_model.specs.declared.judgement.Judgement.TheVariants.{Taken, NotLegal, NotDrawn}
 
 -- a book: its region, and what that keeps after the entries so far
 pub record Said : Type 0 where

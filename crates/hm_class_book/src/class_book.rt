@@ -25,22 +25,10 @@ use crate::places::slab_of;
 use crate::region::Region;
 use hm_base::NoMemory;
 use hm_choice::Stream;
-use hm_model::{Call, Choices, Entry, Reply, Runs};
+use hm_model::{Call, Choices, Entry, Judgement, Reply, Runs};
 use hm_quarantine::Quarantine;
 use hm_sizes::{CLASSES, ClassId, Config, PAGE, Shape, raised, shape_of};
 use std::alloc::Global;
-
-/// What a book says of an entry.
-#[derive(Clone, Copy, Debug, PartialEq, Eq, Drop)]
-pub enum Judgement {
-    /// It is allowed and drawn. The book has taken it.
-    Taken,
-    /// It is not allowed after those before it.
-    NotLegal,
-    /// It is allowed, and not drawn.
-    NotDrawn,
-}
-
 /// The book of a class region whose pages tell their bytes.
 #[derive(Drop)]
 pub struct ClassBook {

@@ -23,4 +23,4 @@ mod sources;
 #[cfg(test)]
 mod tests;
 
-pub use class_book::{ClassBook, Judgement};
+pub use class_book::ClassBook;

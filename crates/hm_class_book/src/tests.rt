@@ -4,9 +4,9 @@ ghost use Rattle.std.specs.Prelude.{◌≡◌, ◌<◌};
 ghost use Rattle.hm_sizes.specs.Classes.{class_count};
 ghost use Rattle.hm_sizes.specs.Configs.{IsValid};
 
-use crate::{ClassBook, Judgement};
+use crate::ClassBook;
 use hm_choice::Stream;
-use hm_model::{Call, Choices, Draws, Entry, Reply, Runs, Who};
+use hm_model::{Call, Choices, Draws, Entry, Judgement, Reply, Runs, Who};
 use hm_sizes::{ClassId, Config};
 use std::alloc::Global;
 use std::test::Fail;

@@ -18,8 +18,8 @@ use Rattle.hm_quarantine.specs.LookingBack.{ArePlaces, kept_after}
 use Rattle.hm_large.specs.State.{State, moved, array_length, ring_length}
 use Rattle.hm_large.specs.Rules.{Allows, chose_guard, IsCandidate, IsLeastCandidate}
 use Rattle.hm_large.specs.Draws.{EntryDraws, stream_after}
-use Rattle.hm_large_book.specs.declared.judgement.Judgement.{Judgement}
-use Rattle.hm_large_book.specs.declared.judgement.Judgement.TheVariants.{Taken, NotLegal, NotDrawn}
+use Rattle.hm_model.specs.declared.judgement.Judgement.{Judgement}
+use Rattle.hm_model.specs.declared.judgement.Judgement.TheVariants.{Taken, NotLegal, NotDrawn}
 use Rattle.hm_large_book.specs.declared.book.LargeBook.{LargeBook}
 use Rattle.hm_large_book.specs.declared.blocks.BlockBook.{BlockBook}
 use Rattle.hm_large_book.specs.Book.{ShowsBlocks, Stands}

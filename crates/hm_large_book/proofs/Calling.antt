@@ -7,7 +7,7 @@ use Rattle.hm_model.specs.declared.entry.Reply.{Reply}
 use Rattle.hm_model.specs.declared.entry.Reply.TheVariants.{Given, NoSpace, PagesFailed, Freed, WrongSize, NotLive, Usable, Bytes, Filled, Trap}
 use Rattle.hm_large.specs.State.{State}
 use Rattle.hm_large.specs.Rules.{Terms, Allows}
-use Rattle.hm_large_book.specs.declared.judgement.Judgement.TheVariants.{NotLegal}
+use Rattle.hm_model.specs.declared.judgement.Judgement.TheVariants.{NotLegal}
 use Rattle.hm_large_book.specs.declared.book.LargeBook.{LargeBook}
 use Rattle.hm_large_book.specs.Judged.{terms_of, Judges}
 

@@ -19,8 +19,8 @@ use Rattle.hm_large.specs.Blocks.{Block, Blocks, is_quarantined}
 use Rattle.hm_large.specs.State.{State, takes_back, releases, free_of, array_length, ring_length}
 use Rattle.hm_large.specs.Rules.{Releases, ReleasesFrom, AllowsFreed, wrong_size}
 use Rattle.hm_large.specs.Draws.{FreeDraws, stream_after, word_after}
-use Rattle.hm_large_book.specs.declared.judgement.Judgement.{Judgement}
-use Rattle.hm_large_book.specs.declared.judgement.Judgement.TheVariants.{Taken, NotLegal, NotDrawn}
+use Rattle.hm_model.specs.declared.judgement.Judgement.{Judgement}
+use Rattle.hm_model.specs.declared.judgement.Judgement.TheVariants.{Taken, NotLegal, NotDrawn}
 use Rattle.hm_large_book.specs.declared.book.LargeBook.{LargeBook}
 use Rattle.hm_large_book.specs.declared.blocks.BlockBook.{BlockBook}
 use Rattle.hm_large_book.specs.declared.blocks.Extent.{Extent}

@@ -10,8 +10,8 @@ use Rattle.hm_sizes.specs.declared.config.Config.{Config}
 use Rattle.hm_large.specs.State.{State, moved}
 use Rattle.hm_large.specs.Rules.{Allows}
 use Rattle.hm_large.specs.Draws.{EntryDraws, stream_after}
-use Rattle.hm_large_book.specs.declared.judgement.Judgement.{Judgement}
-use Rattle.hm_large_book.specs.declared.judgement.Judgement.TheVariants.{Taken, NotLegal, NotDrawn}
+use Rattle.hm_model.specs.declared.judgement.Judgement.{Judgement}
+use Rattle.hm_model.specs.declared.judgement.Judgement.TheVariants.{Taken, NotLegal, NotDrawn}
 use Rattle.hm_large_book.specs.declared.book.LargeBook.{LargeBook}
 use Rattle.hm_large_book.specs.Book.{ShowsBlocks, Shows, Stands}
 use Rattle.hm_large_book.specs.Judged.{terms_of, JudgesPlain, IsJudged, Judges}

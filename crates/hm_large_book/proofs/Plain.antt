@@ -13,7 +13,7 @@ use Rattle.hm_large.specs.Rules.{wrong_size}
 use Rattle.hm_large.specs.Kept.{AreGuarded}
 use Rattle.hm_large.specs.Laws.{IsSound}
 use Rattle.hm_large_book.specs.declared.blocks.LiveBlock.{LiveBlock}
-use Rattle.hm_large_book.specs.declared.judgement.Judgement.{Judgement}
+use Rattle.hm_model.specs.declared.judgement.Judgement.{Judgement}
 use Rattle.hm_large_book.specs.declared.book.LargeBook.{LargeBook}
 use Rattle.hm_large_book.specs.Book.{blocks_in, Shows, Stands}
 use Rattle.hm_large_book.specs.Judged.{JudgesPlain, Judges}

@@ -10,8 +10,8 @@ use Rattle.hm_large.specs.Draws.{Drawn}
 use Rattle.hm_large.specs.Laws.{IsSound}
 use Rattle.hm_large.proofs.Entries.{run_same}
 use Rattle.hm_large.proofs.Legal.{sound}
-use Rattle.hm_large_book.specs.declared.judgement.Judgement.{Judgement}
-use Rattle.hm_large_book.specs.declared.judgement.Judgement.TheVariants.{Taken, NotLegal, NotDrawn}
+use Rattle.hm_model.specs.declared.judgement.Judgement.{Judgement}
+use Rattle.hm_model.specs.declared.judgement.Judgement.TheVariants.{Taken, NotLegal, NotDrawn}
 use Rattle.hm_large_book.specs.declared.book.LargeBook.{LargeBook}
 use Rattle.hm_large_book.specs.Book.{Shows, Stands}
 use Rattle.hm_large_book.specs.Judged.{terms_of, moved_to, IsJudged, Judges, Holds}

@@ -21,7 +21,7 @@ use Rattle.hm_space.specs.Space.{IsFree}
 use Rattle.hm_large_book.specs.declared.blocks.LiveBlock.{LiveBlock}
 use Rattle.hm_large_book.specs.declared.blocks.BlockBook.{BlockBook}
 use Rattle.hm_large_book.specs.declared.blocks.Extent.{Extent}
-use Rattle.hm_large_book.specs.declared.judgement.Judgement.{Judgement}
+use Rattle.hm_model.specs.declared.judgement.Judgement.{Judgement}
 use Rattle.hm_large_book.specs.declared.book.LargeBook.{LargeBook}
 use Rattle.hm_large_book.specs.Book.{blocks_in, extent_of, Accepts, IsAccepted, Shows, Stands}
 use Rattle.hm_large_book.specs.Judged.{JudgesPlain, Judges}

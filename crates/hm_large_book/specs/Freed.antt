@@ -7,8 +7,8 @@ use Rattle.hm_large.specs.State.{State, takes_back, releases}
 use Rattle.hm_large.specs.Rules.{Releases}
 use Rattle.hm_large.specs.Draws.{FreeDraws}
 use Rattle.hm_large_book.specs.declared.blocks.Extent.{Extent}
-use Rattle.hm_large_book.specs.declared.judgement.Judgement.{Judgement}
-use Rattle.hm_large_book.specs.declared.judgement.Judgement.TheVariants.{Taken, NotLegal, NotDrawn}
+use Rattle.hm_model.specs.declared.judgement.Judgement.{Judgement}
+use Rattle.hm_model.specs.declared.judgement.Judgement.TheVariants.{Taken, NotLegal, NotDrawn}
 use Rattle.hm_large_book.specs.declared.book.LargeBook.{LargeBook}
 use Rattle.hm_large_book.specs.Book.{extent_of, Shows, Stands}
 

@@ -4,8 +4,8 @@ use Rattle.hm_choice.specs.Stream.{Words, next_word}
 use Rattle.hm_model.specs.declared.entry.Entry.{Entry}
 use Rattle.hm_model.specs.Calls.{one_word}
 use Rattle.hm_large.specs.Blocks.{guard_of}
-use Rattle.hm_large_book.specs.declared.judgement.Judgement.{Judgement}
-use Rattle.hm_large_book.specs.declared.judgement.Judgement.TheVariants.{Taken, NotLegal, NotDrawn}
+use Rattle.hm_model.specs.declared.judgement.Judgement.{Judgement}
+use Rattle.hm_model.specs.declared.judgement.Judgement.TheVariants.{Taken, NotLegal, NotDrawn}
 
 -- the entry holds the word, and the guard that it draws
 pub record DrawsGuard (words : Words) (e : Entry) (size : ℕ) : Type 0 where

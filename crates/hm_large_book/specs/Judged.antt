@@ -8,8 +8,8 @@ use Rattle.hm_sizes.specs.declared.config.Config.{Config}
 use Rattle.hm_large.specs.State.{State, moved}
 use Rattle.hm_large.specs.Rules.{Terms, Allows}
 use Rattle.hm_large.specs.Draws.{EntryDraws}
-use Rattle.hm_large_book.specs.declared.judgement.Judgement.{Judgement}
-use Rattle.hm_large_book.specs.declared.judgement.Judgement.TheVariants.{Taken, NotLegal, NotDrawn}
+use Rattle.hm_model.specs.declared.judgement.Judgement.{Judgement}
+use Rattle.hm_model.specs.declared.judgement.Judgement.TheVariants.{Taken, NotLegal, NotDrawn}
 use Rattle.hm_large_book.specs.declared.book.LargeBook.{LargeBook}
 use Rattle.hm_large_book.specs.Book.{Shows, Stands}
 

@@ -6,8 +6,8 @@ use Rattle.hm_sizes.specs.Configs.{IsValid}
 use Rattle.hm_sizes.specs.declared.config.Config.{Config}
 use Rattle.hm_large.specs.Rules.{Asks, Allowed, IsLegal, state}
 use Rattle.hm_large.specs.Draws.{Drawn, IsDrawn}
-use Rattle.hm_large_book.specs.declared.judgement.Judgement.{Judgement}
-use Rattle.hm_large_book.specs.declared.judgement.Judgement.TheVariants.{Taken, NotLegal, NotDrawn}
+use Rattle.hm_model.specs.declared.judgement.Judgement.{Judgement}
+use Rattle.hm_model.specs.declared.judgement.Judgement.TheVariants.{Taken, NotLegal, NotDrawn}
 use Rattle.hm_large_book.specs.declared.book.LargeBook.{LargeBook}
 use Rattle.hm_large_book.specs.Book.{Shows}
 use Rattle.hm_large_book.specs.Judged.{terms_of}

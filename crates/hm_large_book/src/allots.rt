@@ -7,11 +7,11 @@ ghost use Rattle.hm_large_book.specs.Judged.{Judges, Holds};
 
 use crate::book::LargeBook;
 use crate::changes::size_of_block;
-use crate::judgement::{Judgement, rose};
+use crate::judgement::rose;
 use crate::places::least_place;
 use hm_base::NoMemory;
 use hm_choice::Stream;
-use hm_model::{Call, Choices, Draws, Entry, Reply};
+use hm_model::{Call, Choices, Draws, Entry, Judgement, Reply};
 use hm_sizes::PAGE;
 
 // Whether an entry chose this guard alone.

@@ -11,10 +11,9 @@ ghost use Rattle.hm_large_book.specs.Reached.{IsFormed, IsBookOf, IsReached, Say
 
 use crate::blocks::BlockBook;
 use crate::formed::is_formed;
-use crate::judgement::Judgement;
 use hm_base::NoMemory;
 use hm_choice::Stream;
-use hm_model::{Call, Entry, Reply};
+use hm_model::{Call, Entry, Judgement, Reply};
 use hm_quarantine::Quarantine;
 use hm_sizes::{Config, LARGE_START};
 use std::alloc::Global;

@@ -5,9 +5,8 @@ ghost use Rattle.hm_model.specs.Runs.{expand};
 ghost use Rattle.hm_large_book.specs.Judged.{Judges, Holds};
 
 use crate::book::LargeBook;
-use crate::judgement::Judgement;
 use hm_base::NoMemory;
-use hm_model::{Call, Entry, Reply, Runs};
+use hm_model::{Call, Entry, Judgement, Reply, Runs};
 
 impl LargeBook {
     pub(crate) fn judge_allot(

@@ -8,9 +8,8 @@ ghost use Rattle.hm_large_book.specs.Judged.{Judges, Holds};
 
 use crate::blocks::{Extent, accepted};
 use crate::book::{ARRAY_LENGTH, LargeBook};
-use crate::judgement::Judgement;
 use hm_base::NoMemory;
-use hm_model::{Call, Choices, Draws, Entry, Reply};
+use hm_model::{Call, Choices, Draws, Entry, Judgement, Reply};
 
 // A freed block below this size stays in quarantine.
 const QUARANTINED_BELOW: u64 = 1 << 25;

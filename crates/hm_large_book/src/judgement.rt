@@ -1,20 +1,8 @@
-//! What is said of an entry, and what is said of one that changes nothing.
+//! What is said of an entry that changes nothing, and whether a page failed.
 ghost use Rattle.std.specs.Prelude.{◌≡◌, ◌↔◌, ◌<◌, IsTrue};
 ghost use Rattle.hm_large_book.specs.Judged.{JudgesPlain};
 
-use hm_model::{Choices, Draws, Entry};
-
-/// What is said of an entry, in the state of the entries before it.
-#[derive(Clone, Copy, Debug, PartialEq, Eq, Drop)]
-pub enum Judgement {
-    /// It is allowed there, and its words and choices are those that come next.
-    Taken,
-    /// It is not allowed there.
-    NotLegal,
-    /// It is allowed there, and its words and choices are others.
-    NotDrawn,
-}
-
+use hm_model::{Choices, Draws, Entry, Judgement};
 /// What is said of an entry that draws no word and chooses nothing, by whether its reply is allowed.
 pub(crate) fn plain(allowed: bool, entry: &Entry) -> Judgement
     ensures { JudgesPlain allowed entry.now result }

@@ -15,4 +15,3 @@ mod places;
 mod writes;
 
 pub use book::LargeBook;
-pub use judgement::Judgement;

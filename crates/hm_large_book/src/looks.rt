@@ -7,8 +7,8 @@ ghost use Rattle.hm_large_book.specs.Judged.{Judges};
 use crate::blocks::{is_live, is_size, is_wrong};
 use crate::book::LargeBook;
 use crate::bytes::{has_bytes, traps_at};
-use crate::judgement::{Judgement, plain};
-use hm_model::{Call, Entry, Reply, Runs};
+use crate::judgement::plain;
+use hm_model::{Call, Entry, Judgement, Reply, Runs};
 
 impl LargeBook {
     /// A measurement of no live block.

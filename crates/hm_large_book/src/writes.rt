@@ -8,8 +8,8 @@ use crate::blocks::is_accepted;
 use crate::book::LargeBook;
 use crate::bytes::write_live;
 use crate::changes::mark_live;
-use crate::judgement::{Judgement, plain, rose};
-use hm_model::{Call, Entry, Reply, Runs};
+use crate::judgement::{plain, rose};
+use hm_model::{Call, Entry, Judgement, Reply, Runs};
 
 impl LargeBook {
     /// A write of these bytes.
