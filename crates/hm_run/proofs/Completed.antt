@@ -22,7 +22,7 @@ use Rattle.hm_run.specs.Endings.{CommandEnds, Ends, EndsAsked, RunsTrace, Source
 use Rattle.hm_run.specs.Streams.{Stream, HasFailed, IsReadToEnd, IsTakenPast, IsWritten}
 use Rattle.hm_run.specs.Limits.{most_bytes}
 
-abbrev EndsWell : ℕ → Type 0
+abbrev pub EndsWell : ℕ → Type 0
 EndsWell status = (status ≡ 0) ⊎ (status ≡ 1) ⊎ (status ≡ 6)
 
 -- what was read to its end is what was left
@@ -47,7 +47,7 @@ finding_or_none : (b : Bool) (status : ℕ) → status ≡ cond b 1 0 → EndsWe
 finding_or_none true status e = inr (inl e)
 finding_or_none false status e = inl e
 
-refused : (refusal : Refusal) (source : Stream) (bytes : List ℕ) → source.before ≡ Some bytes
+pub refused : (refusal : Refusal) (source : Stream) (bytes : List ℕ) → source.before ≡ Some bytes
     → length bytes ≤ most_bytes → (HasFailed source → ⊥) → IsRefused refusal source → ⊥
 refused Usage source bytes before short sound cause = cause
 refused ReadFault source bytes before short sound cause = sound cause.0

@@ -5,6 +5,8 @@ use Rattle.hm_report.specs.declared.results.Results.{Results}
 use Rattle.hm_report.specs.Findings.{has_finding}
 use Rattle.hm_trace.specs.Views.{TraceView}
 use Rattle.hm_heap.specs.declared.close.Closed.{Closed}
+use Rattle.hm_check.specs.declared.verdict.Verdict.{Verdict}
+use Rattle.hm_check.specs.declared.verdict.Verdict.TheVariants.{Yes, No}
 use Rattle.hm_run.specs.declared.refusal.Refusal.{Refusal}
 use Rattle.hm_run.specs.declared.refusal.Refusal.TheVariants.{Usage, ReadFault, TooLong}
 use Rattle.hm_run.specs.declared.run.Run.{Run}
@@ -14,8 +16,9 @@ use Rattle.hm_run.specs.declared.words.Command.TheVariants as command
 use Rattle.hm_run.specs.declared.words.Options.{Options}
 use Rattle.hm_run.specs.declared.words.Output.{Output}
 use Rattle.hm_run.specs.Words.{IfMade, IfUnasked, asked_in}
-use Rattle.hm_run.specs.Endings.{CommandEnds, Ends, EndsAsked, RunsTrace, LacksMemory, TellsRefusal, SourceEnds, TextEnds, IsRefused, status_after}
+use Rattle.hm_run.specs.Endings.{CommandEnds, Ends, EndsAsked, RunsTrace, LacksMemory, TellsRefusal, TellsVerdict, SourceEnds, TextEnds, IsRefused, status_after}
 use Rattle.hm_run.specs.Streams.{Stream, HasFailed, IsSound, IsUntaken, IsWritten}
+use Rattle.hm_run.specs.Verdicts.{status_told}
 
 -- a status that is not 5 is the one planned
 pub planned_is : (status planned s : ℕ) (sink : Stream) (text : List ℕ) → IsWritten status planned sink text → (s ≡ 5 → ⊥)
@@ -27,6 +30,11 @@ planned_is status planned s sink text (inr w) other e = absurd (other (sym e ∙
 pub not_planned : (b : Bool) (n s : ℕ) → n ≡ cond b 1 0 → 1 < s → n ≡ s → ⊥
 not_planned true n s is more e = omega (arith, is, more, e)
 not_planned false n s is more e = omega (arith, is, more, e)
+
+-- what is planned for a verdict is no other status than 0 and 1
+told_not : (v : Verdict) (s : ℕ) → 1 < s → status_told v ≡ s → ⊥
+told_not (Yes entries) s more e = omega (arith, more, e)
+told_not (No line fault) s more e = omega (arith, more, e)
 
 -- 5 comes only where the sink failed, and where its count is not as before
 abbrev ShowsSink : ℕ → Stream → Type 0
@@ -48,6 +56,10 @@ module _ {P : Type 0} (meaning : pages.Ghosts P) (run : Run P) (sink : Stream) w
       not_planned (has_finding ran.results) (status_after ran.results) s refl more
       (planned_is run.status (status_after ran.results) s sink _ ran.written other e)
 
+  pub judged_not : (bytes : List ℕ) (s : ℕ) → TellsVerdict meaning run sink bytes → 1 < s → (s ≡ 5 → ⊥) → run.status ≡ s → ⊥
+  judged_not bytes s tells more other e =
+      told_not tells.verdict s more (planned_is run.status (status_told tells.verdict) s sink _ tells.written other e)
+
   -- ---- the sink
   lacking_shows : LacksMemory meaning run sink → ShowsSink run.status sink
   lacking_shows none = (λ e. absurd (omega (arith, none.status_is, e)), λ unsound. absurd (unsound none.sound))
@@ -62,6 +74,10 @@ module _ {P : Type 0} (meaning : pages.Ghosts P) (run : Run P) (sink : Stream) w
   text_shows o output bytes (inl ran) = ran_shows o _ _ ran.runs
   text_shows o output bytes (inr faulty) = written_shows run.status 3 sink _ faulty.written (λ e. omega (arith, e))
 
+  judged_shows : (bytes : List ℕ) → TellsVerdict meaning run sink bytes → ShowsSink run.status sink
+  judged_shows bytes tells =
+      written_shows run.status (status_told tells.verdict) sink _ tells.written (λ e. told_not tells.verdict 5 (omega arith) e)
+
   told_shows : (refusal : Refusal) → TellsRefusal meaning run sink refusal → ShowsSink run.status sink
   told_shows Usage tells = written_shows run.status 2 sink _ tells.written (λ e. omega (arith, e))
   told_shows ReadFault tells = written_shows run.status 4 sink _ tells.written (λ e. omega (arith, e))
@@ -75,6 +91,7 @@ module _ {P : Type 0} (meaning : pages.Ghosts P) (run : Run P) (sink : Stream) w
 
     command_shows_sink : (o : Options) (wanted : Command) → CommandEnds meaning run sink source o wanted → ShowsSink run.status sink
     command_shows_sink o (command.Run output) ends = source_shows_sink _ (text_shows o output) ends
+    command_shows_sink o command.Check ends = source_shows_sink _ judged_shows ends
     command_shows_sink o (command.Stress number) ran = ran_shows o _ _ ran
 
     asked_shows_sink : (asked : Option Asked) → EndsAsked meaning run sink source asked → ShowsSink run.status sink
@@ -113,6 +130,8 @@ module _ {P : Type 0} (meaning : pages.Ghosts P) (run : Run P) (sink : Stream) w
     command_shows : (o : Options) (wanted : Command) → IfMade wanted (IsUntaken source)
         → CommandEnds meaning run sink source o wanted → ShowsSource run.status source
     command_shows o (command.Run output) untaken ends = source_shows _ (text_not o output) ends
+    command_shows o command.Check untaken ends =
+        source_shows _ (λ bytes tells. judged_not bytes 4 tells (omega arith) (λ five. omega (arith, five))) ends
     command_shows o (command.Stress number) untaken ran =
         sound_shows untaken.1 (ran_not o _ _ 4 ran (omega arith) (λ five. omega (arith, five)))
 

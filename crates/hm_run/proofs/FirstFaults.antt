@@ -13,10 +13,10 @@ use Rattle.hm_run.specs.declared.words.Command.TheVariants as command
 use Rattle.hm_run.specs.declared.words.Options.{Options}
 use Rattle.hm_run.specs.declared.words.Output.{Output}
 use Rattle.hm_run.specs.Words.{AsksRun, asked_in}
-use Rattle.hm_run.specs.Endings.{CommandEnds, Ends, EndsAsked, HasFirstFault, TellsRefusal, SourceEnds, TextEnds, IsRefused, status_of}
+use Rattle.hm_run.specs.Endings.{CommandEnds, Ends, EndsAsked, HasFirstFault, TellsRefusal, TellsVerdict, SourceEnds, TextEnds, IsRefused, status_of}
 use Rattle.hm_run.specs.Streams.{Stream, HasFailed, IsWritten}
 use Rattle.hm_run.proofs.Completed.{Faultless, not_past, read_all}
-use Rattle.hm_run.proofs.Exact.{planned_is, ran_not}
+use Rattle.hm_run.proofs.Exact.{planned_is, ran_not, judged_not}
 use Rattle.hm_run.specs.Limits.{most_bytes}
 
 not_five : (s : ℕ) → s ≤ 4 → s ≡ 5 → ⊥
@@ -44,19 +44,26 @@ module _ {P : Type 0} (meaning : pages.Ghosts P) (run : Run P) (sink : Stream) w
     refused_not TooLong s cause tells most e =
         omega (arith, told_is TooLong s (not_five s (omega (arith, most))) tells e, most)
 
+    source_not : (Ended : List ℕ → Type 0) (s : ℕ) → s ≤ 3 → ((bytes : List ℕ) → Ended bytes → run.status ≡ s → ⊥)
+        → SourceEnds meaning run sink source Ended → run.status ≡ s → ⊥
+    source_not Ended s most other (inl read) e = other read.bytes read.ends e
+    source_not Ended s most other (inr ended) e = refused_not ended.refusal s ended.cause ended.tells most e
+
+    -- a verdict is not told by 2 or 3
+    judged_other : (bytes : List ℕ) (s : ℕ) → 1 < s → s ≤ 3 → TellsVerdict meaning run sink bytes → run.status ≡ s → ⊥
+    judged_other bytes s more most tells e =
+        judged_not meaning run sink bytes s tells more (not_five s (omega (arith, most))) e
+
     -- ---- 2
     text_not_two : (o : Options) (output : Output) (bytes : List ℕ) → TextEnds meaning run sink o output bytes → run.status ≡ 2 → ⊥
     text_not_two o output bytes (inl ran) e = ran_not meaning run sink o _ _ 2 ran.runs (omega arith) (not_five 2 (omega arith)) e
     text_not_two o output bytes (inr faulty) e =
         omega (arith, planned_is run.status 3 2 sink _ faulty.written (not_five 2 (omega arith)) e)
 
-    source_not_two : (Ended : List ℕ → Type 0) → ((bytes : List ℕ) → Ended bytes → run.status ≡ 2 → ⊥)
-        → SourceEnds meaning run sink source Ended → run.status ≡ 2 → ⊥
-    source_not_two Ended other (inl read) e = other read.bytes read.ends e
-    source_not_two Ended other (inr ended) e = refused_not ended.refusal 2 ended.cause ended.tells (omega arith) e
-
     command_not_two : (o : Options) (wanted : Command) → CommandEnds meaning run sink source o wanted → run.status ≡ 2 → ⊥
-    command_not_two o (command.Run output) ends e = source_not_two _ (text_not_two o output) ends e
+    command_not_two o (command.Run output) ends e = source_not _ 2 (omega arith) (text_not_two o output) ends e
+    command_not_two o command.Check ends e = source_not _ 2 (omega arith) (λ bytes. judged_other bytes 2 (omega arith) (omega arith)) ends e
+
     command_not_two o (command.Stress number) ran e = ran_not meaning run sink o _ _ 2 ran (omega arith) (not_five 2 (omega arith)) e
 
     unaccepted_in : (asked : Option Asked) → EndsAsked meaning run sink source asked → run.status ≡ 2 → asked ≡ None
@@ -88,6 +95,8 @@ module _ {P : Type 0} (meaning : pages.Ghosts P) (run : Run P) (sink : Stream) w
         → asked_in words ≡ Some (record { command = wanted; options = o }) → CommandEnds meaning run sink source o wanted
         → run.status ≡ 3 → AsksRun words × HasFirstFault source
     command_only words o (command.Run output) is ends e = ((o, output, is), source_only _ (text_only o output) ends e)
+    command_only words o command.Check is ends e =
+        absurd (source_not _ 3 (omega arith) (λ bytes. judged_other bytes 3 (omega arith) (omega arith)) ends e)
     command_only words o (command.Stress number) is ran e =
         absurd (ran_not meaning run sink o _ _ 3 ran (omega arith) (not_five 3 (omega arith)) e)
 

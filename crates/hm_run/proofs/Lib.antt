@@ -11,4 +11,5 @@ pub mod Tracking
 pub mod Summing
 pub mod Exact
 pub mod FirstFaults
+pub mod Checked
 mod Journals

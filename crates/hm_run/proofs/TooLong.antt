@@ -13,10 +13,11 @@ use Rattle.hm_run.specs.declared.words.Command.{Command}
 use Rattle.hm_run.specs.declared.words.Command.TheVariants as command
 use Rattle.hm_run.specs.declared.words.Options.{Options}
 use Rattle.hm_run.specs.declared.words.Output.{Output}
-use Rattle.hm_run.specs.Words.{AsksRun}
-use Rattle.hm_run.specs.Endings.{CommandEnds, Ends, EndsAsked, RunsTrace, SourceEnds, TextEnds, IsRefused, status_of, status_after}
+use Rattle.hm_run.specs.Words.{AsksSource, asked_in}
+use Rattle.hm_run.specs.Endings.{CommandEnds, Ends, EndsAsked, RunsTrace, SourceEnds, TellsVerdict, TextEnds, IsRefused, status_of, status_after}
 use Rattle.hm_run.specs.Streams.{Stream, HasFailed, IsTakenPast, IsWritten}
 use Rattle.hm_run.proofs.Completed.{read_all}
+use Rattle.hm_run.proofs.Exact.{judged_not}
 use Rattle.hm_run.specs.Limits.{most_bytes}
 
 -- a status that is not 5 is the one planned
@@ -43,6 +44,9 @@ module _ {P : Type 0} (meaning : pages.Ghosts P) (run : Run P) (sink : Stream) w
   text_not o output bytes (inl ran) e = ran_not o _ _ ran.runs e
   text_not o output bytes (inr faulty) e = omega (arith, planned_is run.status 3 sink _ faulty.written e)
 
+  judged_not_seven : (bytes : List ℕ) → TellsVerdict meaning run sink bytes → run.status ≡ 7 → ⊥
+  judged_not_seven bytes tells e = judged_not meaning run sink bytes 7 tells (omega arith) (λ five. omega (arith, five)) e
+
   module _ (source : Stream) where
     source_past : (Ended : List ℕ → Type 0) → ((bytes : List ℕ) → Ended bytes → run.status ≡ 7 → ⊥)
         → SourceEnds meaning run sink source Ended → run.status ≡ 7 → IsTakenPast most_bytes source
@@ -52,6 +56,7 @@ module _ {P : Type 0} (meaning : pages.Ghosts P) (run : Run P) (sink : Stream) w
 
     command_past : (o : Options) (command : Command) → CommandEnds meaning run sink source o command → run.status ≡ 7 → IsTakenPast most_bytes source
     command_past o (command.Run output) ends e = source_past _ (text_not o output) ends e
+    command_past o command.Check ends e = source_past _ judged_not_seven ends e
     command_past o (command.Stress number) ran e = absurd (ran_not o _ _ ran e)
 
     pub only_past : (asked : Option Asked) → EndsAsked meaning run sink source asked → run.status ≡ 7 → IsTakenPast most_bytes source
@@ -72,9 +77,17 @@ module _ {P : Type 0} (meaning : pages.Ghosts P) (run : Run P) (sink : Stream) w
       source_long Ended (inl read) = absurd (omega (arith, ap (λ (l : List ℕ). length l) (read_all source bytes read.bytes before read.read), read.within, long))
       source_long Ended (inr ended) = refused_long ended.refusal _ ended.cause ended.tells.written
 
-      pub long_refused : (words : List (String Global)) → Ends meaning words run source sink → AsksRun words → (run.status ≡ 7) ⊎ (run.status ≡ 6)
-      long_refused words ends asks = by_end (subst (λ (o : Option Asked). EndsAsked meaning run sink source o) asks.2 ends.1)
+      asked_long : (words : List (String Global)) (asked : Asked)
+          → (CommandEnds meaning run sink source asked.options asked.command → run.status ≡ 7)
+          → Ends meaning words run source sink → asked_in words ≡ Some asked → (run.status ≡ 7) ⊎ (run.status ≡ 6)
+      asked_long words asked told ends asks = by_end (subst (λ (o : Option Asked). EndsAsked meaning run sink source o) asks ends.1)
         where
-          by_end : EndsAsked meaning run sink source (Some (record { command = command.Run asks.1; options = asks.0 })) → (run.status ≡ 7) ⊎ (run.status ≡ 6)
-          by_end (inl done) = inl (source_long _ done)
+          by_end : EndsAsked meaning run sink source (Some asked) → (run.status ≡ 7) ⊎ (run.status ≡ 6)
+          by_end (inl done) = inl (told done)
           by_end (inr none) = inr none.0.status_is
+
+      pub long_refused : (words : List (String Global)) → Ends meaning words run source sink → AsksSource words → (run.status ≡ 7) ⊎ (run.status ≡ 6)
+      long_refused words ends (inl asks) =
+          asked_long words (record { command = command.Run asks.1; options = asks.0 }) (λ done. source_long _ done) ends asks.2
+      long_refused words ends (inr asks) =
+          asked_long words (record { command = command.Check; options = asks.0 }) (λ done. source_long _ done) ends asks.1

@@ -18,6 +18,8 @@ use Rattle.hm_trace.specs.Stress.{stress}
 use Rattle.hm_trace.specs.Traces.{IsTrace}
 use Rattle.hm_trace.specs.Views.{RoundView, TraceView, scripts_of}
 use Rattle.hm_heap.specs.declared.close.Closed.{Closed}
+use Rattle.hm_check.specs.declared.verdict.Verdict.{Verdict}
+use Rattle.hm_check.specs.Verdicts.{IsVerdict}
 use Rattle.hm_journal.specs.Journals.{journal_text}
 use Rattle.hm_journal.specs.Ranges.{JournalFits}
 use Rattle.hm_run.specs.declared.refusal.Refusal.{Refusal}
@@ -35,6 +37,7 @@ use Rattle.hm_run.specs.LiveSums.{live_sums}
 use Rattle.hm_run.specs.Words.{IfUnasked, asked_in, config_of}
 use Rattle.hm_run.specs.Streams.{Stream, HasFailed, IsSound, IsReadToEnd, IsTakenPast, IsTakenWithin, IsUntaken, IsWritten}
 use Rattle.hm_run.specs.Replayed.{IsReplayed}
+use Rattle.hm_run.specs.Verdicts.{check_text, status_told}
 use Rattle.hm_run.specs.Limits.{most_bytes}
 use Rattle.hm_run.specs.declared.status.Status.TheVariants as statuses
 use Rattle.hm_run.specs.Statuses.{code_of}
@@ -149,6 +152,14 @@ module _ {P : Type 0} (meaning : pages.Ghosts P) (run : Run P) (sink : Stream) w
   abbrev pub TextEnds : Options → Output → List ℕ → Type 0
   TextEnds o output bytes = RunsText o output bytes ⊎ IsFaulty bytes
 
+  -- the line of the bytes' verdict was written, or a front of it where the sink failed
+  pub record TellsVerdict (bytes : List ℕ) : Type 0 where
+    pub verdict : Verdict
+    pub verdict_is : IsVerdict bytes verdict
+    pub not_closed : run.closed ≡ None
+    pub no_results : run.results ≡ None
+    pub written : IsWritten run.status (status_told verdict) sink (check_text verdict)
+
   -- a line that says why a run is refused was written, or a front of it where the sink failed
   pub record TellsRefusal (refusal : Refusal) : Type 0 where
     pub not_closed : run.closed ≡ None
@@ -176,9 +187,11 @@ module _ {P : Type 0} (meaning : pages.Ghosts P) (run : Run P) (sink : Stream) w
     SourceEnds Ended = SourceRead Ended ⊎ SourceRefused
 
     -- ---- by the command
-    -- what is asked for was written of the source's trace, or the summary of the run of the trace that a number makes
+    -- what is asked for was written of the source's trace; or the verdict on the source's journal; or the summary of the
+    -- run of the trace that a number makes
     abbrev pub CommandEnds : Options → Command → Type 0
     CommandEnds o (command.Run output) = SourceEnds (TextEnds o output)
+    CommandEnds o command.Check = SourceEnds TellsVerdict
     CommandEnds o (command.Stress number) = RunsTrace o (stress number) (λ left. summary_text number)
 
     -- ---- by the words

@@ -1,5 +1,5 @@
 -- The words after the program's name: a command and its options.
-use Rattle.std.specs.Prelude.{◌≡◌, ℕ, ◌%◌, ◌^◌, Bool, true, false, not, ◌&&◌, ◌||◌, ◌==◌, nat_lt, nat_le, if◌then◌else◌, List, [], ◌∷◌, length, codes, string_bytes, String, Option, Some, None, is_some, unwrap_or, option_and_then, ⊤}
+use Rattle.std.specs.Prelude.{◌≡◌, ◌⊎◌, ℕ, ◌%◌, ◌^◌, Bool, true, false, not, ◌&&◌, ◌||◌, ◌==◌, nat_lt, nat_le, if◌then◌else◌, List, [], ◌∷◌, length, codes, string_bytes, String, Option, Some, None, is_some, unwrap_or, option_and_then, ⊤}
 use Rattle.std.specs.Char.{is_ascii_digit}
 use Rattle.std.specs.List.{list_all}
 use Rattle.std.specs.Str.Parse.{digits_value}
@@ -9,7 +9,7 @@ use Rattle.hm_sizes.specs.Configs.{standard, light}
 use Rattle.hm_trace.specs.Names.{is_word}
 use Rattle.hm_run.specs.declared.words.Asked.{Asked}
 use Rattle.hm_run.specs.declared.words.Command.{Command}
-use Rattle.hm_run.specs.declared.words.Command.TheVariants.{Run, Stress}
+use Rattle.hm_run.specs.declared.words.Command.TheVariants.{Run, Check, Stress}
 use Rattle.hm_run.specs.declared.words.Output.{Output}
 use Rattle.hm_run.specs.declared.words.Output.TheVariants.{Report, Journal, Stats, Watch}
 use Rattle.hm_run.specs.declared.words.OptionName.{OptionName}
@@ -125,6 +125,11 @@ stress_in [] = None
 stress_in (word ∷ words) =
     option_and_then (λ number. with_options (Stress number) words) (number_in (string_bytes word))
 
+-- behind `check`: nothing
+abbrev pub check_in : List (String Global) → Option Asked
+check_in [] = with_options Check []
+check_in (word ∷ words) = None
+
 -- what is written of a source's trace, as the first word asks
 abbrev pub output_in : List ℕ → Option Output
 output_in word =
@@ -139,23 +144,32 @@ abbrev pub is_watched : Output → Bool
 is_watched Watch = true
 is_watched output = false
 
--- `stress` and a number, or a word that asks for an output, and then options; other words are not accepted
+-- `stress` and a number, or a word that asks for an output, and then options; or `check` alone. Other words are not
+-- accepted
 abbrev pub asked_in : List (String Global) → Option Asked
 asked_in [] = None
 asked_in (word ∷ words) =
     if is_word (string_bytes word) (codes "stress") then stress_in words
+    else if is_word (string_bytes word) (codes "check") then check_in words
     else option_and_then (λ output. with_options (Run output) words) (output_in (string_bytes word))
 
--- they ask for the run of a source; or of the trace that a number makes
+-- they ask for the run of a source; for the check of one; or for the run of the trace that a number makes
 abbrev pub AsksRun : List (String Global) → Type 0
 AsksRun words =
     (options : Options) × (output : Output)
     × (asked_in words ≡ Some (record { command = Run output; options = options }))
 
+abbrev pub AsksCheck : List (String Global) → Type 0
+AsksCheck words = (options : Options) × (asked_in words ≡ Some (record { command = Check; options = options }))
+
 abbrev pub AsksStress : List (String Global) → Type 0
 AsksStress words =
     (options : Options) × (number : ℕ)
     × (asked_in words ≡ Some (record { command = Stress number; options = options }))
+
+-- they ask for something of a source: its run, or its check
+abbrev pub AsksSource : List (String Global) → Type 0
+AsksSource words = AsksRun words ⊎ AsksCheck words
 
 -- they ask for the journal of a source's trace, with these options
 abbrev pub AsksJournal : List (String Global) → Options → Type 0
@@ -164,6 +178,7 @@ AsksJournal words options = asked_in words ≡ Some (record { command = Run Jour
 -- what holds where a command asks for the trace that a number makes
 abbrev pub IfMade : Command → Type 0 → Type 0
 IfMade (Run output) claim = ⊤
+IfMade Check claim = ⊤
 IfMade (Stress number) claim = claim
 
 -- what holds where no source is asked for: the words are not accepted, or ask for the trace that a number makes

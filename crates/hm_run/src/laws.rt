@@ -1,6 +1,7 @@
 //! Laws of how runs end, and of the histories that they hand out. Each function does nothing of its own: its
 //! contract is the law.
 ghost use Rattle.std.specs.Prelude.{◌≡◌, ◌<◌, ◌≤◌, ◌⊎◌, ℕ, List, None, Some, String, length};
+ghost use Rattle.hm_outside.specs.Streams.{Put};
 ghost use Rattle.std.specs.declared.alloc.Global.{Global};
 ghost use Rattle.hm_trace.specs.declared.fault.TraceFault.{TraceFault};
 ghost use Rattle.hm_trace.specs.Faults.{text_fault};
@@ -8,17 +9,22 @@ ghost use Rattle.hm_trace.specs.Spelling.{spelling};
 ghost use Rattle.hm_trace.specs.Traces.{IsTrace};
 ghost use Rattle.hm_trace.specs.Views.{TraceView};
 ghost use Rattle.hm_heap.specs.declared.close.Closed.{Closed};
+ghost use Rattle.hm_check.specs.declared.verdict.Verdict.{Verdict};
+ghost use Rattle.hm_check.specs.Verdicts.{IsVerdict};
+ghost use Rattle.hm_run.specs.Checks.{HasJournal, HasNoJournal};
 ghost use Rattle.hm_run.specs.declared.run.Run.{Run};
 ghost use Rattle.hm_run.specs.declared.words.Options.{Options};
 ghost use Rattle.hm_run.specs.Endings.{Ends, HasFirstFault};
 ghost use Rattle.hm_run.specs.Laws.{LiveBlocksApart, RegionsApart, SlotsComeLate, BlocksComeLate, SlotsAreZero, SlotsAreWritten};
 ghost use Rattle.hm_run.specs.Laws.{BlocksAreZero, OverwrittenStay, ClassRefusals, LargeRefusals, JournalsTell};
 ghost use Rattle.hm_run.specs.Streams.{Stream, HasFailed, IsSound, IsTakenPast};
-ghost use Rattle.hm_run.specs.Words.{AsksRun, AsksStress, asked_in};
+ghost use Rattle.hm_run.specs.Verdicts.{check_text, status_told};
+ghost use Rattle.hm_run.specs.Words.{AsksRun, AsksCheck, AsksSource, AsksStress, asked_in};
 ghost use Rattle.hm_run.specs.Limits.{most_bytes};
 ghost use Rattle.hm_run.specs.declared.status.Status.TheVariants.{Clean, Finding, Usage, NoTrace, ReadFault, WriteFault, NoMemory, TooLong};
 ghost use Rattle.hm_run.specs.Statuses.{code_of};
 
+use hm_check::{one_verdict, yes_is_journal};
 use hm_class_rules::condemned_slots;
 use hm_heap::{apart_blocks, delayed_blocks, zeroed_blocks};
 use hm_journal::journals_differ;
@@ -42,14 +48,43 @@ pub fn runs_are_complete<P: Pages>()
     spellings_are_short();
 }
 
+/// Where the words ask for a source to be checked, it tells and has at most 67,108,864 bytes, and neither it nor the sink
+/// fails, a run ends with 0 or 1, or for want of memory with 6. Where the bytes have this verdict, its line is what was
+/// written, and the status is its own, or 6.
+pub fn checks_are_complete<P: Pages>()
+    ensures ends { (words : List (String Global)) (run : Run P) (source sink : Stream) (bytes : List ℕ)
+        → Ends P.Pages words run source sink → AsksCheck words
+        → source.before ≡ Some bytes → length bytes ≤ most_bytes → (HasFailed source → ⊥) → (HasFailed sink → ⊥)
+        → (run.status ≡ code_of Clean) ⊎ (run.status ≡ code_of Finding) ⊎ (run.status ≡ code_of NoMemory) }
+    ensures told { (words : List (String Global)) (run : Run P) (source sink : Stream) (bytes : List ℕ) (v : Verdict)
+        → Ends P.Pages words run source sink → AsksCheck words
+        → source.before ≡ Some bytes → length bytes ≤ most_bytes → (HasFailed source → ⊥) → (HasFailed sink → ⊥)
+        → IsVerdict bytes v
+        → ((run.status ≡ status_told v) × Put sink.before sink.after (check_text v)) ⊎ (run.status ≡ code_of NoMemory) }
+{
+    one_verdict();
+}
+
+/// Where the words ask for a source to be checked, a run ends with 0 only where it was read to its end and its bytes are
+/// the journal of legal and drawn histories, and with 1 only where it was read to its end and they are none.
+pub fn checks_are_exact<P: Pages>()
+    ensures yes { (words : List (String Global)) (run : Run P) (source sink : Stream)
+        → Ends P.Pages words run source sink → AsksCheck words → run.status ≡ code_of Clean → HasJournal source }
+    ensures no { (words : List (String Global)) (run : Run P) (source sink : Stream)
+        → Ends P.Pages words run source sink → AsksCheck words → run.status ≡ code_of Finding → HasNoJournal source }
+{
+    yes_is_journal();
+    one_verdict();
+}
+
 /// A run ends with 7 only where more than 67,108,864 bytes were taken, where the source tells. And where the words ask
-/// for a source to be run, it tells and has more, and neither it nor the sink fails, a run ends with 7, or for want of
-/// memory with 6.
+/// for a source to be run or checked, it tells and has more, and neither it nor the sink fails, a run ends with 7, or for
+/// want of memory with 6.
 pub fn too_long_is_exact<P: Pages>()
     ensures only { (words : List (String Global)) (run : Run P) (source sink : Stream)
         → Ends P.Pages words run source sink → run.status ≡ code_of TooLong → IsTakenPast most_bytes source }
     ensures long { (words : List (String Global)) (run : Run P) (source sink : Stream) (bytes : List ℕ)
-        → Ends P.Pages words run source sink → AsksRun words
+        → Ends P.Pages words run source sink → AsksSource words
         → source.before ≡ Some bytes → most_bytes < length bytes → (HasFailed source → ⊥) → (HasFailed sink → ⊥)
         → (run.status ≡ code_of TooLong) ⊎ (run.status ≡ code_of NoMemory) }
 {}

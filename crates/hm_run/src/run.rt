@@ -7,7 +7,7 @@ ghost use Rattle.hm_sizes.specs.Configs.{IsValid};
 ghost use Rattle.hm_stats.specs.Tables.{entry_count};
 ghost use Rattle.hm_trace.specs.Stress.{stress};
 ghost use Rattle.hm_trace.specs.Views.{scripts_of};
-ghost use Rattle.hm_run.specs.Endings.{CommandEnds, Ends, RunsTrace, TextEnds, OutputFits, status_of, line_of, status_after, output_text, fault_line};
+ghost use Rattle.hm_run.specs.Endings.{CommandEnds, Ends, RunsTrace, TextEnds, SourceEnds, TellsVerdict, OutputFits, status_of, line_of, status_after, output_text, fault_line};
 ghost use Rattle.hm_run.specs.LiveSums.{live_sums};
 ghost use Rattle.hm_run.specs.Streams.{IsSound, IsTakenWithin, IsWritten, sink_of, source_of};
 ghost use Rattle.hm_run.specs.Words.{IfMade, IfUnasked, asked_in, config_of, is_watched};
@@ -21,12 +21,14 @@ use crate::refusal::Refusal;
 use crate::rounds::{Machine, Ran, run_trace};
 use crate::status::Status;
 use crate::trace_fault::line_of_fault;
+use crate::verdict_line::{line_of_verdict, status_of_verdict};
 use crate::words::{Asked, Command, Options, Output, read_words};
 use crate::writing::finish;
 use hm_base::{List, NoMemory};
+use hm_check::check_journal;
 use hm_heap::Closed;
 use hm_journal::write_journal;
-use hm_outside::{Gate, PageMaker, Sink, Source};
+use hm_outside::{Gate, PageMaker, Pages, Sink, Source};
 use hm_report::{Results, has_finding, report, summary, write_totals};
 use hm_stats::{table, write_table};
 use hm_trace::{ReadRefusal, Trace, TraceFault, read_trace, stress_trace};
@@ -216,6 +218,48 @@ fn run_source<R: Threads + Wait + Sync, S: Source, K: Sink, M: PageMaker, G: Gat
     }
 }
 
+// Writes the verdict on a text that was read. Its memory goes back before the line is made.
+fn judge_text<K: Sink, P: Pages>(
+    alloc: Global,
+    bytes: Vec<u8>,
+    sink: &mut K,
+) -> Result<Run<P>, NoMemory>
+    ensures ends { IfOk result (λ run. TellsVerdict P.Pages run (sink_of K.Sink sink.old sink.new) bytes.items) }
+    ensures status { IfOk result (λ run. run.status ≢ code_of statuses.NoMemory) }
+    ensures memory { OnErr result (sink.new ≡ sink.old) }
+{
+    let verdict = check_journal(alloc, &bytes)?;
+    drop(bytes);
+    let line = line_of_verdict(alloc, verdict)?;
+    Ok(Run {
+        status: finish(sink, status_of_verdict(verdict), line.as_bytes()).code(),
+        closed: None,
+        results: None,
+    })
+}
+
+// Checks the journal that the source holds.
+fn check_source<S: Source, K: Sink, P: Pages>(
+    alloc: Global,
+    source: &mut S,
+    sink: &mut K,
+) -> Result<Run<P>, NoMemory>
+    ensures bound { IsTakenWithin most_taken (source_of S.Source source.old source.new) }
+    ensures sound { OnErr result (IsSound (source_of S.Source source.old source.new)) }
+    ensures ends { IfOk result (λ run. SourceEnds P.Pages run (sink_of K.Sink sink.old sink.new)
+        (source_of S.Source source.old source.new)
+        (TellsVerdict P.Pages run (sink_of K.Sink sink.old sink.new))) }
+    ensures status { IfOk result (λ run. run.status ≢ code_of statuses.NoMemory) }
+    ensures memory { OnErr result (sink.new ≡ sink.old) }
+{
+    match read_all(alloc, source) {
+        Ok(bytes) => judge_text(alloc, bytes, sink),
+        Err(ReadStop::NoMemory) => Err(NoMemory),
+        Err(ReadStop::Fault) => Ok(refuse(sink, Refusal::ReadFault)),
+        Err(ReadStop::TooLong) => Ok(refuse(sink, Refusal::TooLong)),
+    }
+}
+
 // Runs the trace that a number makes. Its memory goes back before the results are counted.
 fn run_stress<R: Threads + Wait + Sync, K: Sink, M: PageMaker, G: Gate>(
     machine: Machine<'_, R, M, G>,
@@ -256,14 +300,16 @@ fn carry_out<R: Threads + Wait + Sync, S: Source, K: Sink, M: PageMaker, G: Gate
     let options = &asked.options;
     match asked.command {
         Command::Run { output } => run_source(machine, options, output, source, sink),
+        Command::Check => check_source(machine.alloc, source, sink),
         Command::Stress { number } => run_stress(machine, options, number, sink),
     }
 }
 
 /// Reads a trace from the source, or makes it from a number, as the words say; runs it, and writes the report of
 /// its notes and results, the journal of its histories, what these come to, the sums of the sizes of live large blocks
-/// after each round, or the summary, or one line that says why it was refused. All memory is taken before the first byte
-/// is written. What was closed is handed out, with the results of the steps.
+/// after each round, or the summary; or reads a journal, and writes the verdict on it; or one line that says why it was
+/// refused. All memory is taken before the first byte is written. What was closed is handed out, with the results of the
+/// steps.
 pub fn replay<R: Threads + Wait + Sync, S: Source, K: Sink, M: PageMaker, G: Gate>(
     rt: &R,
     alloc: Global,

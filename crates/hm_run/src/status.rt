@@ -4,9 +4,9 @@ ghost use Rattle.std.specs.Prelude.{◌≡◌};
 /// How a run ends.
 #[derive(Clone, Copy, Debug, PartialEq, Eq)]
 pub enum Status {
-    /// The trace was run, and no answer is a finding.
+    /// The trace was run, and no answer is a finding; or the text is a journal of legal and drawn histories.
     Clean,
-    /// The trace was run, and an answer is a finding.
+    /// The trace was run, and an answer is a finding; or the text is no such journal.
     Finding,
     /// The words after the program's name are not accepted.
     Usage,

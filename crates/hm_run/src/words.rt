@@ -3,7 +3,7 @@ ghost use Rattle.std.specs.Prelude.{◌≡◌, IfSome};
 ghost use Rattle.std.specs.Option.{option_copied};
 ghost use Rattle.hm_sizes.specs.Configs.{IsValid};
 ghost use Rattle.hm_run.specs.Words.{are_digits, is_numeral, number_in, is_space, is_number, value_of, template_in, is_value, names, behind, is_given, is_option, are_options, template_of, number_of, options_in};
-ghost use Rattle.hm_run.specs.Words.{with_options, stress_in, output_in, asked_in, named, config_of, is_watched};
+ghost use Rattle.hm_run.specs.Words.{with_options, stress_in, check_in, output_in, asked_in, named, config_of, is_watched};
 
 use hm_sizes::{Config, LEAST_SPACE, MOST_CLASS_REGION, MOST_LARGE_SPACE, PAGE};
 
@@ -42,11 +42,13 @@ pub enum Output {
     Watch,
 }
 
-/// What is run.
+/// What is done.
 #[derive(Clone, Copy, Debug, PartialEq, Eq, Drop)]
 pub enum Command {
     /// A trace from the source, of which `output` is written.
     Run { output: Output },
+    /// A journal from the source, of which the verdict is written.
+    Check,
     /// The trace that the number makes.
     Stress { number: u64 },
 }
@@ -67,7 +69,7 @@ pub struct Options {
 /// What the words ask for.
 #[derive(Clone, Copy, Debug, PartialEq, Eq, Drop)]
 pub struct Asked {
-    /// What is run.
+    /// What is done.
     pub command: Command,
     /// The values of the options, also of those that are not given.
     pub options: Options,
@@ -311,6 +313,18 @@ fn stress_in(words: &[String]) -> Option<Asked>
     }
 }
 
+// The words behind `check`: none.
+fn check_in(words: &[String]) -> Option<Asked>
+    ensures exact { result ≡ check_in words.now }
+    ensures valid { IfSome result (λ asked. IsValid (config_of asked.options)) }
+{
+    if words.is_empty() {
+        with_options(Command::Check, words)
+    } else {
+        None
+    }
+}
+
 // What is written of a source's trace, as the first word asks.
 fn output_in(word: &str) -> Option<Output>
     ensures { result ≡ output_in word.now }
@@ -333,6 +347,8 @@ pub fn read_words(words: &[String]) -> Option<Asked>
         [word, options @ ..] => {
             if word.as_bytes() == b"stress".as_slice() {
                 stress_in(options)
+            } else if word.as_bytes() == b"check".as_slice() {
+                check_in(options)
             } else {
                 let output = output_in(word)?;
                 with_options(Command::Run { output }, options)

@@ -4,6 +4,10 @@
 #[cfg(test)]
 mod ample_tests;
 #[cfg(test)]
+mod check_table_tests;
+#[cfg(test)]
+mod check_tests;
+#[cfg(test)]
 mod gate_tests;
 #[cfg(test)]
 mod hostile_tests;

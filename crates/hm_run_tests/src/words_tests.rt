@@ -9,8 +9,9 @@ use std::sync::Wait;
 use std::test::Fail;
 use std::thread::Threads;
 
-/// Words, and the status that the run of an empty trace ends with: 0 where they are accepted, else 2.
-const WORDS: [(&str, u8); 44] = [
+/// Words, and the status that they end with over an empty trace: 2 where they are not accepted; else 0, or 1 for `check`,
+/// as it is no journal.
+const WORDS: [(&str, u8); 47] = [
     ("run --seed 7", 0),
     ("run --seed 0007 --large-space 1048576", 0),
     (
@@ -49,6 +50,9 @@ const WORDS: [(&str, u8); 44] = [
     ("stats --seed 7 --large-space 1048576", 0),
     ("stats --config light", 0),
     ("stats 7", 2),
+    ("check", 1),
+    ("check --seed 7", 2),
+    ("check run", 2),
     ("stress", 2),
     ("stress --seed 7", 2),
     ("stress --config light", 2),
