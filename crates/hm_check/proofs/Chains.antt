@@ -1,5 +1,5 @@
 -- A text has the verdict Yes exactly where its lines say, one after another, what may stand there, is legal and is drawn.
-use Rattle.std.proofs.Common.{◌≡◌, ◌⊎◌, inl, ⊎_elim, ℕ, ◌+◌, List, [], ◌∷◌, ◌++◌, append_assoc, refl, sym, ◌∙◌, ap, subst, rules}
+use Rattle.std.proofs.Common.{◌≡◌, inl, ⊎_elim, ℕ, ◌+◌, List, [], ◌∷◌, ◌++◌, append_assoc, refl, sym, ◌∙◌, ap, subst, rules}
 use Rattle.std.specs.List.{join_with_byte}
 use Rattle.hm_sizes.specs.Configs.{IsValid}
 use Rattle.hm_journal.proofs.EntryBack.{clean_entry_line}

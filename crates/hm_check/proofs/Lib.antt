@@ -1,5 +1,8 @@
+mod Books
 mod Chains
 mod Histories
+mod Kept
+mod LineEnds
 mod OneSaid
 mod OneVerdict
 mod Spoken

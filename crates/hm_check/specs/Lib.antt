@@ -1,3 +1,5 @@
 pub mod Readers
 pub mod Verdicts
 pub mod Journals
+pub mod RegionBooks
+pub mod Progress
