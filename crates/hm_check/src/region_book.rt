@@ -15,7 +15,7 @@ use crate::verdict::JournalFault;
 use hm_base::{NoMemory, RegionId};
 use hm_class_book::ClassBook;
 use hm_large_book::LargeBook;
-use hm_model::Entry;
+use hm_model::{Entry, Judgement};
 use hm_sizes::{ClassId, Config};
 use std::alloc::Global;
 
@@ -53,9 +53,9 @@ fn take_class(book: &mut ClassBook, entry: &Entry) -> Result<Option<JournalFault
         → IfOk result (IsJudged c seed region past entry.now (RegionBook.Class book.new)) }
 {
     match book.take(entry)? {
-        hm_class_book::Judgement::Taken => Ok(None),
-        hm_class_book::Judgement::NotLegal => Ok(Some(JournalFault::NotLegal)),
-        hm_class_book::Judgement::NotDrawn => Ok(Some(JournalFault::NotDrawn)),
+        Judgement::Taken => Ok(None),
+        Judgement::NotLegal => Ok(Some(JournalFault::NotLegal)),
+        Judgement::NotDrawn => Ok(Some(JournalFault::NotDrawn)),
     }
 }
 
@@ -65,9 +65,9 @@ fn take_large(book: &mut LargeBook, entry: &Entry) -> Result<Option<JournalFault
         → IfOk result (IsJudged c seed large_region_number past entry.now (RegionBook.Large book.new)) }
 {
     match book.take(entry)? {
-        hm_large_book::Judgement::Taken => Ok(None),
-        hm_large_book::Judgement::NotLegal => Ok(Some(JournalFault::NotLegal)),
-        hm_large_book::Judgement::NotDrawn => Ok(Some(JournalFault::NotDrawn)),
+        Judgement::Taken => Ok(None),
+        Judgement::NotLegal => Ok(Some(JournalFault::NotLegal)),
+        Judgement::NotDrawn => Ok(Some(JournalFault::NotDrawn)),
     }
 }
 

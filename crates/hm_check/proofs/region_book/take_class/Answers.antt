@@ -1,5 +1,5 @@
 use Rattle.std.proofs.Common.{subst}
-use Rattle.hm_class_book.specs.declared.class_book.Judgement.{Judgement}
+use Rattle.hm_model.specs.declared.judgement.Judgement.{Judgement}
 use Rattle.hm_class_book.specs.Reached.{IsJudged}
 use Rattle.hm_class_book.specs.Said.{said}
 use Rattle.hm_check.proofs.Books.{refused_class, taken_class, undrawn_class}

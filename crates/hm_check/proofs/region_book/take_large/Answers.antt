@@ -1,5 +1,5 @@
 use Rattle.std.proofs.Common.{subst}
-use Rattle.hm_large_book.specs.declared.judgement.Judgement.{Judgement}
+use Rattle.hm_model.specs.declared.judgement.Judgement.{Judgement}
 use Rattle.hm_large_book.specs.Reached.{Says}
 use Rattle.hm_check.proofs.Books.{refused_large, undrawn_large}
 use Rattle.hm_check.proofs.region_book.take_large.Goals as goal
