@@ -133,7 +133,7 @@ module _ (p : Progress) (past : List Entry) (line : List ℕ) (k : Knows p past)
 
   pub closed_passes : (faults : ℕ) → p.next ≡ next.Entries 0 → Fits64 faults → line ≡ line_text (closed_line faults)
       → faults ≡ fault_count (told_origin p.config p.seed (region_of p)) past
-      → Comes (reader_of p past) line (record p { next = next.Region; regions = p.regions + 1 }) None
+      → Comes (reader_of p past) line (record p { next = next.Region; regions = p.regions + 1; book = None }) None
   closed_passes faults at fits is last = (
     Closed faults,
     past,

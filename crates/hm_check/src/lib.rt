@@ -11,3 +11,6 @@ mod verdict;
 pub use checking::check_journal;
 pub use laws::{one_verdict, yes_is_journal};
 pub use verdict::{JournalFault, Verdict};
+
+#[cfg(test)]
+mod tests;

@@ -180,7 +180,7 @@ impl Progress {
             return Ok(Some(JournalFault::BadText));
         };
         let Some(book) = &mut self.book else {
-            return Ok(Some(JournalFault::BadText));
+            unreachable!();
         };
         let fault = book.take(&entry)?;
         self.next = Next::Entries { left: left - 1 };
@@ -198,13 +198,14 @@ impl Progress {
             return Ok(Some(JournalFault::BadText));
         };
         let Some(book) = &self.book else {
-            return Ok(Some(JournalFault::BadText));
+            unreachable!();
         };
         if faults != book.faults() {
             return Ok(Some(JournalFault::NotLegal));
         }
         self.next = Next::Region;
         self.regions += 1;
+        self.book = None;
         Ok(None)
     }
 
