@@ -3,7 +3,6 @@ use Rattle.std.proofs.Common.{◌≡◌, ℕ, ◌<◌, true, List, [], ◌∷◌
 use Rattle.std.proofs.lemmas.Bool.{cond_below}
 use Rattle.hm_model.specs.declared.entry.Entry.{Entry}
 use Rattle.hm_sizes.specs.declared.config.Config.{Config}
-use Rattle.hm_sizes.specs.Homes.{large_start}
 use Rattle.hm_sizes.specs.Origins.{large_region_number}
 use Rattle.hm_class_rules.specs.Drawn.{IsDrawn}
 use Rattle.hm_class_rules.specs.Rules.{Allowed, IsLegal, state}
@@ -13,7 +12,7 @@ use Rattle.hm_class_rules.proofs.Alike.{drawn_is_stepped}
 use Rattle.hm_class_rules.proofs.Legal.{one_more, one_less}
 use Rattle.hm_class_rules.proofs.NextEntry.{lists_are_kept, next_cells, one_less_stepped, one_more_stepped}
 use Rattle.hm_class_book.specs.declared.class_book.ClassBook.{ClassBook}
-use Rattle.hm_class_book.specs.Reached.{IsReached, Said, Takes}
+use Rattle.hm_class_book.specs.Reached.{Said, Takes}
 use Rattle.hm_class_book.specs.Said.{said}
 use Rattle.hm_large.specs.Draws as large_draws
 use Rattle.hm_large.specs.Rules as large
@@ -24,7 +23,7 @@ use Rattle.hm_large_book.specs.declared.book.LargeBook.{LargeBook}
 use Rattle.hm_large_book.specs.Judged.{terms_of}
 use Rattle.hm_large_book.specs.Reached.{IsBookOf}
 use Rattle.hm_model.specs.Machine.{Legal_split}
-use Rattle.hm_heap.specs.Lawful.{arena_of, fault_count, first_address}
+use Rattle.hm_heap.specs.Lawful.{arena_of, fault_count}
 use Rattle.hm_check.specs.RegionBooks.{IsClassBook, told_origin, terms_at}
 use Rattle.hm_check.specs.Verdicts.{IsDrawnHistory, IsLegalHistory}
 
@@ -38,14 +37,12 @@ says_after c seed region past = record {
 }
 
 -- ---- a class region
-module _ (c : Config) (seed region : ℕ) (past : List Entry) (old : ClassBook) (h : IsClassBook c seed region past old) where
-  pub reached_of : IsReached (said old)
-  reached_of = subst (λ (s : Said). IsReached s) (sym h.says)
-      (record { parks = h.parks; shape = h.shape; past = past; legal = h.legal; stepped = h.stepped; cells_are = refl })
-
+module _ (c : Config) (seed region : ℕ) (past : List Entry) (old : ClassBook)
+    (h : IsClassBook c seed region past old) where
   -- the state that the book keeps is that of the history
   state_is : (cells seed (arena_of region) (terms_at c seed region) past).state ≡ state (terms_at c seed region) past
-  state_is = (lists_are_kept seed (arena_of region) (terms_at c seed region) past h.parks h.shape h.legal h.stepped).state_is
+  state_is =
+      (lists_are_kept seed (arena_of region) (terms_at c seed region) past h.parks h.shape h.legal h.stepped).state_is
 
   not_large : region ≡ large_region_number → ⊥
   not_large is = omega (arith, is, h.small)
@@ -68,12 +65,14 @@ module _ (c : Config) (seed region : ℕ) (past : List Entry) (old : ClassBook) 
         × IsDrawnHistory (told_origin c seed region) (past ++ e ∷ [])
         × IsClassBook c seed region (past ++ e ∷ []) new
     taken_class new takes =
-        let k : Takes (says_after c seed region past) (said new) e = subst (λ (s : Said). Takes s (said new) e) h.says takes in
+        let k : Takes (says_after c seed region past) (said new) e =
+        subst (λ (s : Said). Takes s (said new) e) h.says takes in
         let legal : IsLegal (terms_at c seed region) (past ++ e ∷ []) = more_legal k.allowed in
         let stepped : IsStepped seed (arena_of region) (terms_at c seed region) (past ++ e ∷ []) =
         one_more_stepped seed (arena_of region) (terms_at c seed region) past e h.stepped k.drawn in
         let drawn : IsDrawn seed (arena_of region) (terms_at c seed region) (past ++ e ∷ []) =
-        (drawn_is_stepped seed (arena_of region) (terms_at c seed region) (past ++ e ∷ []) h.parks h.shape legal).1 stepped in (
+        (drawn_is_stepped seed (arena_of region) (terms_at c seed region) (past ++ e ∷ []) h.parks h.shape legal).1
+        stepped in (
           legal_class (past ++ e ∷ []) legal,
           drawn_class (past ++ e ∷ []) drawn,
           record {
@@ -90,7 +89,8 @@ module _ (c : Config) (seed region : ℕ) (past : List Entry) (old : ClassBook) 
     pub refused_class : (Allowed (said old).terms (said old).cells.state e → ⊥)
         → IsLegalHistory (told_origin c seed region) (past ++ e ∷ []) → ⊥
     refused_class refused legal =
-        let k : Allowed (terms_at c seed region) (cells seed (arena_of region) (terms_at c seed region) past).state e → ⊥ =
+        let k : Allowed (terms_at c seed region)
+        (cells seed (arena_of region) (terms_at c seed region) past).state e → ⊥ =
         subst (λ (s : Said). Allowed s.terms s.cells.state e → ⊥) h.says refused in
         k (subst (λ (s : State). Allowed (terms_at c seed region) s e) (sym state_is)
         (one_less (terms_at c seed region) past e (legal.class h.small)).1)
@@ -101,18 +101,15 @@ module _ (c : Config) (seed region : ℕ) (past : List Entry) (old : ClassBook) 
         × (IsDrawnHistory (told_origin c seed region) (past ++ e ∷ []) → ⊥)
     undrawn_class undrawn =
         let k : Allowed (terms_at c seed region) (cells seed (arena_of region) (terms_at c seed region) past).state e
-        × (IsSteppedEntry (terms_at c seed region) (cells seed (arena_of region) (terms_at c seed region) past) e → ⊥) =
+        × (IsSteppedEntry (terms_at c seed region)
+        (cells seed (arena_of region) (terms_at c seed region) past) e → ⊥) =
         subst (λ (s : Said). Allowed s.terms s.cells.state e × (IsSteppedEntry s.terms s.cells e → ⊥)) h.says undrawn in
         let legal : IsLegal (terms_at c seed region) (past ++ e ∷ []) = more_legal k.0 in (
           legal_class (past ++ e ∷ []) legal,
           λ drawn. k.1 (one_less_stepped seed (arena_of region) (terms_at c seed region) past e
-              ((drawn_is_stepped seed (arena_of region) (terms_at c seed region) (past ++ e ∷ []) h.parks h.shape legal).0
-              (drawn.class h.small))).1,
+              ((drawn_is_stepped seed (arena_of region) (terms_at c seed region) (past ++ e ∷ []) h.parks h.shape
+              legal).0 (drawn.class h.small))).1,
         )
-
-  pub first_class : (said old).terms.shape.first ≡ first_address (told_origin c seed region)
-  first_class = ap (λ (s : Said). s.terms.shape.first) h.says
-      ∙ cond_below region large_region_number (terms_at c seed region).shape.first large_start h.small
 
   pub faults_class : (said old).cells.state.faults ≡ fault_count (told_origin c seed region) past
   faults_class = ap (λ (s : Said). s.cells.state.faults) h.says
@@ -128,14 +125,6 @@ module _ (c : Config) (seed : ℕ) (past : List Entry) where
   legal_large : (es : List Entry) → large.IsLegal (terms_of c) es
       → IsLegalHistory (told_origin c seed large_region_number) es
   legal_large es legal = record { class = λ small. absurd (large_small small); large = λ is. legal }
-
-  pub taken_large : (e : Entry) (new : LargeBook) → IsBookOf c seed (past ++ e ∷ []) new
-      → IsLegalHistory (told_origin c seed large_region_number) (past ++ e ∷ [])
-      × IsDrawnHistory (told_origin c seed large_region_number) (past ++ e ∷ [])
-  taken_large e new is = (
-    legal_large (past ++ e ∷ []) is.legal,
-    record { class = λ small. absurd (large_small small); large = λ same. is.drawn },
-  )
 
   pub refused_large : (e : Entry) → (large.Allowed (terms_of c) (large.state (terms_of c) past) e → ⊥)
       → IsLegalHistory (told_origin c seed large_region_number) (past ++ e ∷ []) → ⊥

@@ -43,10 +43,6 @@ some_book p left b at is k = record {
   is = (book_of p k.0 left b at is k.1).1;
 }
 
-pub no_book : (p : Progress) (past : List Entry) (left : ℕ) → p.next ≡ next.Entries left → p.book ≡ None → Knows p past → ⊥
-no_book p past left at is k = subst (λ (o : Option RegionBook). IsOpen p past (next.Entries left) o) is
-    (subst (λ (n : Next). IsOpen p past n p.book) at k.open_book)
-
 -- ---- lines that pass
 module _ (p : Progress) (past : List Entry) (line : List ℕ) (k : Knows p past) where
   pub header_passes : p.next ≡ next.Header → line ≡ line_text header_line
@@ -80,8 +76,8 @@ module _ (p : Progress) (past : List Entry) (line : List ℕ) (k : Knows p past)
   )
 
   -- the line of a region
-  region_says : (first count : ℕ) → p.next ≡ next.Region → p.regions < region_count p.config → Fits64 first → Fits64 count
-      → line ≡ line_text (region_line (region_of p) first count)
+  region_says : (first count : ℕ) → p.next ≡ next.Region → p.regions < region_count p.config
+      → Fits64 first → Fits64 count → line ≡ line_text (region_line (region_of p) first count)
       → Says (reader_of p past) line (Region first count)
   region_says first count at more small few is =
       record { stands = (ap stage_of at, more); fits = (small, few); is = is }

@@ -8,7 +8,7 @@ use crate::verdict::Verdict;
 use hm_base::NoMemory;
 use std::alloc::Global;
 
-/// Whether a text is a journal of legal and drawn histories of all regions; else its first line at fault, and why.
+/// Whether a text is a journal of legal and drawn histories of all regions, or which line is at fault first and why.
 pub fn check_journal(alloc: Global, bytes: &[u8]) -> Result<Verdict, NoMemory>
     ensures { IfOk result (IsVerdict bytes.now) }
 {

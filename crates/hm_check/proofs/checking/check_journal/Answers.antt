@@ -8,8 +8,9 @@ pub returns-in-Some-2 : goal.returns-in-Some-2
 returns-in-Some-2 c =
     let i = c.lines.invariant in
     let r = reader_of c.lines.progress i.past in
-    i.verdict _ (first_at_fault r c.lines.number c.lines.rest.now c.in-Some.line.now c.in-Some.after.now c.in-Some-2.fault
-    c.in-Some.ensures.cut (subst (λ (o : Option JournalFault). Comes r c.in-Some.line.now c.line.new.self o) c.in-Some-2.is
+    i.verdict _ (first_at_fault r c.lines.number c.lines.rest.now c.in-Some.line.now c.in-Some.after.now
+    c.in-Some-2.fault c.in-Some.ensures.cut
+    (subst (λ (o : Option JournalFault). Comes r c.in-Some.line.now c.line.new.self o) c.in-Some-2.is
     (c.in_ok-fault.ensures i.past i.known)))
 
 pub lines-preserved : goal.lines-preserved

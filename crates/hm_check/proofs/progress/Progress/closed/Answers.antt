@@ -1,4 +1,4 @@
-use Rattle.std.proofs.Common.{rules, ◌∙◌, arith}
+use Rattle.std.proofs.Common.{rules, arith}
 use Rattle.hm_journal.specs.Ranges.{Fits64}
 use Rattle.hm_check.specs.Progress.{region_of}
 use Rattle.hm_check.proofs.Kept.{book_of, closed_passes, closed_wrong}
@@ -21,4 +21,5 @@ returns c = λ past k.
     let fits : Fits64 c.in-Some.faults = search rules in
     let known = c.faults.ensures p.config p.seed (region_of p) past
     (book_of p past 0 c.in-Some-book.book c.requires.stage c.in-Some-book.is k).1 in
-    closed_passes p past c.args.line.now k c.in-Some.faults c.requires.stage fits found (c.if-faults.false ∙ known)
+    closed_passes p past c.args.line.now k c.in-Some.faults c.requires.stage fits found
+    (omega (arith, known, c.if-faults.false))

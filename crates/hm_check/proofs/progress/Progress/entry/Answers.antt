@@ -3,7 +3,8 @@ use Rattle.hm_check.proofs.Kept.{book_of, made_comes, some_book}
 use Rattle.hm_check.proofs.progress.Progress.entry.Goals as goal
 
 pub take-requires : goal.take-requires
-take-requires c = some_book c.args.self.now c.args.left c.in-Some-book.book c.requires.stage c.in-Some-book.is c.requires.ready
+take-requires c =
+    some_book c.args.self.now c.args.left c.in-Some-book.book c.requires.stage c.in-Some-book.is c.requires.ready
 
 pub returns : goal.returns
 returns c = λ past k.

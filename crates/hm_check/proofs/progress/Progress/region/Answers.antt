@@ -1,4 +1,4 @@
-use Rattle.std.proofs.Common.{◌≡◌, ℕ, [], ap, subst, sym, ◌∙◌, rules}
+use Rattle.std.proofs.Common.{◌≡◌, ℕ, [], ap, subst, sym, ◌∙◌, rules, arith}
 use Rattle.std.proofs.lemmas.Bool.{eqb-false, eqb-true, not-false, not-true}
 use Rattle.std.proofs.lemmas.Option.{same_Some}
 use Rattle.hm_journal.specs.declared.lines.RegionLine.{RegionLine}
@@ -30,11 +30,15 @@ returns-then-said-first c = λ past k.
     let small : Fits64 r.first = search rules in
     let few : Fits64 r.entries = search rules in
     let same : r.region.0 ≡ region_of p =
-    eqb-true r.region.0 c.region_number-region.result.0 (not-false _ (sym c.if-ne.ensures)) ∙ c.region_number-region.ensures in
+    eqb-true r.region.0 c.region_number-region.result.0 (not-false _ (sym c.if-ne.ensures))
+    ∙ c.region_number-region.ensures in
+    let book : IsBook p.config p.seed (region_of p) [] c.in_ok-book.book =
+    subst (λ (n : ℕ). IsBook p.config p.seed n [] c.in_ok-book.book) c.region_number-region.ensures
+    c.in_ok-book.ensures in
+    let known = c.first.ensures p.config p.seed (region_of p) [] book in
     region_undrawn p past c.args.line.now k r.first r.entries c.requires.stage c.requires.more small few
     (found ∙ ap (λ (n : ℕ). line_text (region_line n r.first r.entries)) same)
-    (λ drawn. c.if-said-first.true (drawn ∙ sym (c.first.ensures p.config p.seed (region_of p) []
-    (subst (λ (n : ℕ). IsBook p.config p.seed n [] c.in_ok-book.book) c.region_number-region.ensures c.in_ok-book.ensures))))
+    (λ drawn. omega (arith, drawn, known, c.if-said-first.true))
 
 pub returns : goal.returns
 returns c = λ past k.
@@ -45,9 +49,13 @@ returns c = λ past k.
     let small : Fits64 r.first = search rules in
     let few : Fits64 r.entries = search rules in
     let same : r.region.0 ≡ region_of p =
-    eqb-true r.region.0 c.region_number-region.result.0 (not-false _ (sym c.if-ne.ensures)) ∙ c.region_number-region.ensures in
+    eqb-true r.region.0 c.region_number-region.result.0 (not-false _ (sym c.if-ne.ensures))
+    ∙ c.region_number-region.ensures in
     let book : IsBook p.config p.seed (region_of p) [] c.in_ok-book.book =
-    subst (λ (n : ℕ). IsBook p.config p.seed n [] c.in_ok-book.book) c.region_number-region.ensures c.in_ok-book.ensures in
-    region_passes p past c.args.line.now k r.first r.entries c.in_ok-book.book c.requires.stage c.requires.more small few
+    subst (λ (n : ℕ). IsBook p.config p.seed n [] c.in_ok-book.book) c.region_number-region.ensures
+    c.in_ok-book.ensures in
+    let known = c.first.ensures p.config p.seed (region_of p) [] book in
+    region_passes p past c.args.line.now k r.first r.entries c.in_ok-book.book c.requires.stage c.requires.more small
+    few
     (found ∙ ap (λ (n : ℕ). line_text (region_line n r.first r.entries)) same)
-    (c.if-said-first.false ∙ c.first.ensures p.config p.seed (region_of p) [] book) book
+    (omega (arith, known, c.if-said-first.false)) book
