@@ -21,7 +21,7 @@ use Rattle.hm_run.proofs.Completed.{EndsWell, read_all, refused}
 use Rattle.hm_run.proofs.Exact.{planned_is}
 
 module _ {P : Type 0} (meaning : pages.Ghosts P) (run : Run P) (source sink : Stream) where
-  Checked : Type 0
+  abbrev Checked : Type 0
   Checked = SourceEnds meaning run sink source (TellsVerdict meaning run sink)
 
   -- a check ends by its source, or for want of memory
@@ -36,7 +36,7 @@ module _ {P : Type 0} (meaning : pages.Ghosts P) (run : Run P) (source sink : St
   module _ (bytes : List ℕ) (before : source.before ≡ Some bytes) (short : length bytes ≤ most_bytes)
       (whole : HasFailed source → ⊥) (sound : HasFailed sink → ⊥) where
     -- what was planned was written
-    Wrote : Verdict → Type 0
+    abbrev Wrote : Verdict → Type 0
     Wrote v = (run.status ≡ status_told v) × Put sink.before sink.after (check_text v)
 
     wrote : (v : Verdict) → IsWritten run.status (status_told v) sink (check_text v) → Wrote v
@@ -71,7 +71,7 @@ module _ {P : Type 0} (meaning : pages.Ghosts P) (run : Run P) (source sink : St
 
   -- ---- what 0 and 1 say
   -- the source was read to its end, and the verdict on its bytes is told by this status
-  ReadAs : ℕ → Type 0
+  abbrev ReadAs : ℕ → Type 0
   ReadAs s = (bytes : List ℕ) × IsReadToEnd source bytes × (v : Verdict) × IsVerdict bytes v × (status_told v ≡ s)
 
   -- a refusal is told by neither
@@ -85,9 +85,13 @@ module _ {P : Type 0} (meaning : pages.Ghosts P) (run : Run P) (source sink : St
 
   read_as : (s : ℕ) → s ≤ 1 → Checked → run.status ≡ s → ReadAs s
   read_as s small (inl read) e =
-      let tells = read.ends in
-      (read.bytes, read.read, tells.verdict, tells.verdict_is,
-        planned_is run.status (status_told tells.verdict) s sink _ tells.written (not_five s small) e)
+      let tells = read.ends in (
+        read.bytes,
+        read.read,
+        tells.verdict,
+        tells.verdict_is,
+        planned_is run.status (status_told tells.verdict) s sink _ tells.written (not_five s small) e,
+      )
   read_as s small (inr ended) e =
       absurd (refusal_not ended.refusal s small (planned_is run.status (status_of ended.refusal) s sink _ ended.tells.written (not_five s small) e))
 
@@ -100,24 +104,24 @@ module _ {P : Type 0} (meaning : pages.Ghosts P) (run : Run P) (source sink : St
       by_end (inr none) = absurd (omega (arith, none, e, small))
 
   journal_in : YesIsJournal → (bytes : List ℕ) (v : Verdict) → IsVerdict bytes v → status_told v ≡ 0 → IsJournal bytes
-  journal_in yes bytes (Yes entries) is e =
-      let of = (yes bytes entries).0 is in
+  journal_in exact bytes (Yes entries) is e =
+      let of = (exact bytes entries).0 is in
       record { entries = entries; config = of.0; number = of.1; histories = of.2; journal = of.3 }
-  journal_in yes bytes (No line fault) is e = absurd (omega (arith, e))
+  journal_in exact bytes (No line fault) is e = absurd (omega (arith, e))
 
   none_in : YesIsJournal → OneVerdict → (bytes : List ℕ) (v : Verdict) → IsVerdict bytes v → status_told v ≡ 1 → IsJournal bytes → ⊥
-  none_in yes one bytes v is e of =
-      let told = (yes bytes of.entries).1 (of.config, of.number, of.histories, of.journal) in
+  none_in exact one bytes v is e of =
+      let told = (exact bytes of.entries).1 (of.config, of.number, of.histories, of.journal) in
       omega (arith, ap status_told (one bytes v (Yes of.entries) is told), e)
 
   pub check_yes : YesIsJournal → (words : List (String Global)) → Ends meaning words run source sink → AsksCheck words
       → run.status ≡ 0 → HasJournal source
-  check_yes yes words ends asks e =
+  check_yes exact words ends asks e =
       let read = check_read 0 (omega arith) words ends asks e in
-      record { bytes = read.0; read = read.1; journal = journal_in yes read.0 read.2 read.3 read.4 }
+      record { bytes = read.0; read = read.1; journal = journal_in exact read.0 read.2 read.3 read.4 }
 
   pub check_no : YesIsJournal → OneVerdict → (words : List (String Global)) → Ends meaning words run source sink → AsksCheck words
       → run.status ≡ 1 → HasNoJournal source
-  check_no yes one words ends asks e =
+  check_no exact one words ends asks e =
       let read = check_read 1 (omega arith) words ends asks e in
-      record { bytes = read.0; read = read.1; none = none_in yes one read.0 read.2 read.3 read.4 }
+      record { bytes = read.0; read = read.1; none = none_in exact one read.0 read.2 read.3 read.4 }

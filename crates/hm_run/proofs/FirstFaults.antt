@@ -1,5 +1,5 @@
 -- Statuses 2 and 3 come exactly where the words are not accepted, and where the text has a first fault.
-use Rattle.std.proofs.Common.{◌≡◌, ◌⊎◌, ℕ, ◌≤◌, inl, inr, List, length, Option, Some, None, String, Global, refl, sym, ◌∙◌, ap, subst, arith}
+use Rattle.std.proofs.Common.{◌≡◌, ◌⊎◌, ℕ, ◌<◌, ◌≤◌, inl, inr, List, length, Option, Some, None, String, Global, refl, sym, ◌∙◌, ap, subst, arith}
 use Rattle.std.proofs.lemmas.Option.{none-some}
 use Rattle.hm_outside.specs.declared.pages.Pages as pages
 use Rattle.hm_trace.specs.declared.fault.TraceFault.{TraceFault}
@@ -63,7 +63,6 @@ module _ {P : Type 0} (meaning : pages.Ghosts P) (run : Run P) (sink : Stream) w
     command_not_two : (o : Options) (wanted : Command) → CommandEnds meaning run sink source o wanted → run.status ≡ 2 → ⊥
     command_not_two o (command.Run output) ends e = source_not _ 2 (omega arith) (text_not_two o output) ends e
     command_not_two o command.Check ends e = source_not _ 2 (omega arith) (λ bytes. judged_other bytes 2 (omega arith) (omega arith)) ends e
-
     command_not_two o (command.Stress number) ran e = ran_not meaning run sink o _ _ 2 ran (omega arith) (not_five 2 (omega arith)) e
 
     unaccepted_in : (asked : Option Asked) → EndsAsked meaning run sink source asked → run.status ≡ 2 → asked ≡ None

@@ -16,8 +16,9 @@ mod words;
 mod writing;
 
 pub use laws::{
-    checks_are_complete, checks_are_exact, faults_show, freed_blocks_come_late, given_blocks_are_zero, journals_tell, live_blocks_apart,
-    no_trace_is_exact, refusals_have_causes, runs_are_complete, too_long_is_exact, usage_is_exact,
+    checks_are_complete, checks_are_exact, faults_show, freed_blocks_come_late,
+    given_blocks_are_zero, journals_tell, live_blocks_apart, no_trace_is_exact,
+    refusals_have_causes, runs_are_complete, too_long_is_exact, usage_is_exact,
 };
 pub use run::{Run, replay};
 pub use status::Status;

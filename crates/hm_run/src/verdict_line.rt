@@ -1,20 +1,20 @@
 //! The line that tells the verdict on a journal, and the status that goes with it.
 ghost use Rattle.std.specs.Prelude.{◌≡◌, ◌++◌, OnOk, IfOk, string_bytes};
 ghost use Rattle.hm_run.specs.Statuses.{code_of};
-ghost use Rattle.hm_run.specs.Verdicts.{fault_word, yes_text, no_text, check_text, status_told};
+ghost use Rattle.hm_run.specs.Verdicts.{fault_word, yes_text, no_start, place_text, no_text, check_text, status_told};
 
 use crate::status::Status;
 use hm_check::{JournalFault, Verdict};
 use std::alloc::{AllocError, Global};
 use std::fmt::Write;
 
-fn word_of(fault: JournalFault) -> &'static str
-    ensures { result.now ≡ fault_word fault }
+fn push_fault(out: &mut String, fault: JournalFault) -> Result<(), AllocError>
+    ensures { OnOk result (string_bytes out.new ≡ string_bytes out.old ++ fault_word fault) }
 {
     match fault {
-        JournalFault::BadText => "BadText",
-        JournalFault::NotLegal => "NotLegal",
-        JournalFault::NotDrawn => "NotDrawn",
+        JournalFault::BadText => out.push_str("BadText"),
+        JournalFault::NotLegal => out.push_str("NotLegal"),
+        JournalFault::NotDrawn => out.push_str("NotDrawn"),
     }
 }
 
@@ -24,11 +24,26 @@ fn push_yes(out: &mut String, entries: u64) -> Result<(), AllocError>
     write!(out, "check: yes {entries} entries\n")
 }
 
+#[tactic(auto, unfolding(crate::specs::Verdicts::no_start))]
+fn push_start(out: &mut String) -> Result<(), AllocError>
+    ensures { OnOk result (string_bytes out.new ≡ string_bytes out.old ++ no_start) }
+{
+    out.push_str("check: no line ")
+}
+
+fn push_place(out: &mut String, line: u64, fault: JournalFault) -> Result<(), AllocError>
+    ensures { OnOk result (string_bytes out.new ≡ string_bytes out.old ++ place_text line fault) }
+{
+    write!(out, "{line} ")?;
+    push_fault(out, fault)?;
+    out.push_str("\n")
+}
+
 fn push_no(out: &mut String, line: u64, fault: JournalFault) -> Result<(), AllocError>
     ensures { OnOk result (string_bytes out.new ≡ string_bytes out.old ++ no_text line fault) }
 {
-    let word = word_of(fault);
-    write!(out, "check: no line {line} {word}\n")
+    push_start(out)?;
+    push_place(out, line, fault)
 }
 
 /// The line of a verdict, with its line feed.

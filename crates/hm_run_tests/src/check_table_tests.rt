@@ -124,7 +124,10 @@ fn check_changes<R: Threads + Wait + Sync + Abort>(
     let journal = journal_of(rt, alloc, "journal", text.as_bytes())?;
     for change in changes {
         let (line, word, to, _) = *change;
-        assert!(rt; is_told(rt, alloc, &journal, *change)?, "line {line}, word {word}: {to}");
+        assert!(rt;
+            is_told(rt, alloc, &journal, *change)?,
+            "line {line}, word {word}: {to}"
+        );
     }
     Ok(())
 }

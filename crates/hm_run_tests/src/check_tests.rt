@@ -89,7 +89,12 @@ fn checks_of_journals(rt: HostRuntime) -> Result<(), Fail> {
     let none = journal_of(&rt, alloc, "journal", b"hmtrace 1\nend\n")?;
     assert!(rt; says(&rt, alloc, &none, "check: yes 0 entries\n")?);
     let text = text_of(alloc, "malloc x 100\nfree x\nmalloc y 200000\nfree y\n")?;
-    let light = journal_of(&rt, alloc, "journal --config light --seed 7", text.as_bytes())?;
+    let light = journal_of(
+        &rt,
+        alloc,
+        "journal --config light --seed 7",
+        text.as_bytes(),
+    )?;
     assert!(rt; says(&rt, alloc, &light, "check: yes 4 entries\n")?);
     Ok(())
 }
