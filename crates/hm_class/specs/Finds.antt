@@ -15,6 +15,7 @@ use Rattle.hm_class.specs.declared.outcome.Canary.{Canary}
 use Rattle.hm_class.specs.declared.outcome.Event.{Event}
 use Rattle.hm_class.specs.declared.outcome.Outcome.{Outcome}
 use Rattle.hm_class.specs.declared.outcome.Outcome.TheVariants as outcome
+use Rattle.hm_class.specs.declared.store.Store.{Store}
 use Rattle.hm_class.specs.Slabs.{Slabs, SameLists, taken_of, list_of, opened_lists}
 use Rattle.hm_class.specs.declared.slabs.Slot.{Slot}
 use Rattle.hm_class.specs.declared.slabs.Source.TheVariants as from
@@ -81,14 +82,16 @@ start_stream c stream = if c.random_slots then after_word stream else stream
 abbrev pub slot_in : ℕ → ℕ → Slot
 slot_in n i = record { slab = n; index = i }
 
--- ---- what was and what is: the slabs, the pages and the stream, each before and after
-module _ {P : Type 0} (meaning : pages.Ghosts P) (old new : Slabs) (before now : P) (stream stream' : Words) where
-  -- the slabs, the runs and the stream are as before
+-- ---- what was and what is: the store and the pages, each before and after
+module _ {P : Type 0} (meaning : pages.Ghosts P) (old new : Store) (before now : P) where
+  -- the store but for room and the runs are as before, and the pages tell as before
   pub record KeepsRuns : Type 0 where
-    pub slabs : new.slabs ≡ old.slabs
-    pub lists : SameLists old new
+    pub slabs : new.slabs.slabs ≡ old.slabs.slabs
+    pub lists : SameLists old.slabs new.slabs
+    pub stream_same : new.stream ≡ old.stream
+    pub quarantine_same : new.quarantine ≡ old.quarantine
+    pub told_same : meaning.told now ≡ meaning.told before
     pub runs_same : IsTrue (meaning.told before) → meaning.runs now ≡ meaning.runs before
-    pub stream_same : stream' ≡ stream
 
   -- so is the count of faults
   abbrev pub Stays : Type 0
@@ -97,20 +100,22 @@ module _ {P : Type 0} (meaning : pages.Ghosts P) (old new : Slabs) (before now :
   module _ (p : Shape) where
     -- slab n was opened with this canary
     pub record Opens (n : ℕ) (canary : Option Canary) : Type 0 where
-      pub slabs : new.slabs ≡ with_open (taken_of old) n (unwrap_or (canary_value canary) 0)
-      pub lists : new.lists ≡ opened_lists n old.lists
-      pub parking : new.parking ≡ old.parking
-      pub numbers : new.numbers ≡ old.numbers
+      pub slabs : new.slabs.slabs ≡ with_open (taken_of old.slabs) n (unwrap_or (canary_value canary) 0)
+      pub lists : new.slabs.lists ≡ opened_lists n old.slabs.lists
+      pub parking : new.slabs.parking ≡ old.slabs.parking
+      pub numbers : new.slabs.numbers ≡ old.slabs.numbers
+      pub quarantine_same : new.quarantine ≡ old.quarantine
+      pub told_same : meaning.told now ≡ meaning.told before
       pub made : IsTrue (meaning.told before) → meaning.runs now ≡ made_runs p n (meaning.runs before)
-      pub canary_is : canary ≡ drawn_canary p stream
-      pub stream_is : stream' ≡ canary_stream p stream
+      pub canary_is : canary ≡ drawn_canary p old.stream
+      pub stream_is : new.stream ≡ canary_stream p old.stream
       pub later : meaning.faults before ≤ meaning.faults now
 
     abbrev pub Finds : NextSlab → Type 0
-    Finds (next.Open n) = Sources old (from.Open n) × Stays
-    Finds (next.New n canary) = Sources old (from.New n) × Opens n canary
-    Finds next.Exhausted = Sources old from.Exhausted × Stays
-    Finds next.PagesFailed = (n : ℕ) × Sources old (from.New n) × KeepsRuns × (has_bytes p ≡ true)
+    Finds (next.Open n) = Sources old.slabs (from.Open n) × Stays
+    Finds (next.New n canary) = Sources old.slabs (from.New n) × Opens n canary
+    Finds next.Exhausted = Sources old.slabs from.Exhausted × Stays
+    Finds next.PagesFailed = (n : ℕ) × Sources old.slabs (from.New n) × KeepsRuns × (has_bytes p ≡ true)
         × (meaning.faults before < meaning.faults now)
 
   module _ (c : Config) (p : Shape) where
@@ -118,18 +123,19 @@ module _ {P : Type 0} (meaning : pages.Ghosts P) (old new : Slabs) (before now :
     -- its kind
     pub record Serve (n : ℕ) (o : Outcome) : Type 0 where
       pub index : ℕ
-      pub first : first_at old.slabs n (start_from c p stream) ≡ Some index
-      pub gives : Gives meaning c p old new before now (slot_in n index) o
-      pub lists : new.lists ≡ placed (list_of (kind_at new.slabs n)) n old.lists
-      pub parking : new.parking ≡ old.parking
-      pub numbers : new.numbers ≡ old.numbers
-      pub stream_is : stream' ≡ start_stream c stream
+      pub first : first_at old.slabs.slabs n (start_from c p old.stream) ≡ Some index
+      pub gives : Gives meaning c p old.slabs new.slabs before now (slot_in n index) o
+      pub lists : new.slabs.lists ≡ placed (list_of (kind_at new.slabs.slabs n)) n old.slabs.lists
+      pub parking : new.slabs.parking ≡ old.slabs.parking
+      pub numbers : new.slabs.numbers ≡ old.slabs.numbers
+      pub stream_is : new.stream ≡ start_stream c old.stream
+      pub quarantine_same : new.quarantine ≡ old.quarantine
 
     -- where there is no slab all stays
     abbrev pub Serves : NextSlab → Event → Type 0
     Serves (next.Open n) e = Serve n e.outcome × (e.choices ≡ no_choices)
-        × (e.draws ≡ start_draws None (start_word c stream))
+        × (e.draws ≡ start_draws None (start_word c old.stream))
     Serves (next.New n canary) e = Serve n e.outcome × (e.choices ≡ chose_opened n canary)
-        × (e.draws ≡ start_draws canary (start_word c stream))
-    Serves next.Exhausted e = (e ≡ plain outcome.Exhausted) × KeepsRuns
-    Serves next.PagesFailed e = (e ≡ plain outcome.PagesFailed) × KeepsRuns
+        × (e.draws ≡ start_draws canary (start_word c old.stream))
+    Serves next.Exhausted e = (e ≡ plain outcome.Exhausted) × Stays
+    Serves next.PagesFailed e = (e ≡ plain outcome.PagesFailed) × Stays

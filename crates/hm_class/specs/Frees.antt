@@ -3,6 +3,7 @@ use Rattle.std.specs.Prelude.{◌≡◌, ℕ, ◌+◌, ◌*◌, ◌<◌, ◌≤�
 use Rattle.std.specs.FinMap as map
 use Rattle.hm_choice.specs.Stream.{Words, next_word, after_word, drawn}
 use Rattle.hm_outside.specs.declared.pages.Pages as pages
+use Rattle.hm_quarantine.specs.Quarantine.{let_go, kept_with}
 use Rattle.hm_base.specs.Lists.{zeros}
 use Rattle.hm_outside.specs.PageRuns.{PageRuns, IsHeld, IsRun, Writes}
 use Rattle.hm_sizes.specs.declared.shape.Shape.{Shape}
@@ -12,6 +13,9 @@ use Rattle.hm_slab_lists.specs.Lists.{placed}
 use Rattle.hm_class.specs.declared.outcome.Emptied.{Emptied}
 use Rattle.hm_class.specs.declared.outcome.Emptied.TheVariants.{Kept, Retired, Purged}
 use Rattle.hm_slab_meta.specs.Uses.{Free, Held}
+use Rattle.hm_class.specs.declared.slabs.Slot.{Slot}
+use Rattle.hm_class.specs.declared.store.Store.{Store}
+use Rattle.hm_class.specs.SlotBytes.{KeepsPages}
 use Rattle.hm_class.specs.Slabs.{Slabs, SameLists, Parks, list_of}
 use Rattle.hm_class.specs.Uses.{Uses, use_at, open_at, kind_at, with_use}
 
@@ -48,6 +52,7 @@ freed_uses p b uses = with_use uses (slab_of p b) (slot_of p b) Free
 module _ {P : Type 0} (meaning : pages.Ghosts P) where
   -- the usable bytes of the slot at a were made zero
   pub record Clears (p : Shape) (before now : P) (a : ℕ) : Type 0 where
+    pub pages : KeepsPages meaning before now
     pub none : has_bytes p ≡ false → IsTrue (meaning.told before) → meaning.runs now ≡ meaning.runs before
     pub some : has_bytes p ≡ true → IsTrue (meaning.told before) → IsHeld (meaning.runs before) a (usable p)
         → Writes (meaning.runs before) a (usable p) (zeros (usable p)) (meaning.runs now)
@@ -65,44 +70,58 @@ module _ {P : Type 0} (meaning : pages.Ghosts P) where
   abbrev pub Drops : Shape → ℕ → P → P → Bool → Type 0
   Drops p n before now true =
       (IsTrue (meaning.told before) → meaning.runs now ≡ dropped_runs p n (meaning.runs before))
-      × (meaning.faults before ≤ meaning.faults now)
+      × (meaning.faults before ≤ meaning.faults now) × (meaning.told now ≡ meaning.told before)
   Drops p n before now false =
       (has_bytes p ≡ true)
       × (IsTrue (meaning.told before)
       → meaning.runs now ≡ map.insert (meaning.runs before) (slab_at p n) (zeros p.slab))
-      × (meaning.faults before < meaning.faults now)
+      × (meaning.faults before < meaning.faults now) × (meaning.told now ≡ meaning.told before)
 
--- ---- what was and what is: the slabs, the pages and the stream, each before and after
-module _ {P : Type 0} (meaning : pages.Ghosts P) (old new : Slabs) (before now : P) (stream stream' : Words) where
-  -- the pages, the stream and the parking places are as before
+-- ---- what was and what is: the store and the pages, each before and after
+module _ {P : Type 0} (meaning : pages.Ghosts P) (old new : Store) (before now : P) where
+  -- the slot s at a goes into quarantine: what leaves that, and the word that names an index of its array
+  pub record Holds (p : Shape) (a : ℕ) (s : Slot) (result : Option ℕ × Option ℕ) : Type 0 where
+    pub cleared : Clears meaning p before now a
+    pub slabs : new.slabs.slabs ≡ with_use old.slabs.slabs s.slab s.index Held
+    pub lists : SameLists old.slabs new.slabs
+    pub released : result.0 ≡ let_go old.quarantine a (place_of_word p (next_word old.stream))
+    pub word : result.1 ≡ array_word p (next_word old.stream)
+    pub quarantine_is : new.quarantine ≡ kept_with old.quarantine a (place_of_word p (next_word old.stream))
+    pub stream_is : new.stream ≡ array_stream p old.stream
+
+  -- the pages, the stream, the quarantine and the parking places are as before
   pub record KeepsPlaces : Type 0 where
+    pub told_same : meaning.told now ≡ meaning.told before
     pub runs_same : IsTrue (meaning.told before) → meaning.runs now ≡ meaning.runs before
     pub count_same : meaning.faults now ≡ meaning.faults before
-    pub stream_is : stream' ≡ stream
-    pub parking_is : new.parking ≡ old.parking
+    pub stream_is : new.stream ≡ old.stream
+    pub quarantine_same : new.quarantine ≡ old.quarantine
+    pub parking_is : new.slabs.parking ≡ old.slabs.parking
 
   -- slab n joins the slabs of its kind
   pub record JoinsSlab (n : ℕ) : Type 0 where
-    pub joins : Joins n old.slabs old new
+    pub joins : Joins n old.slabs.slabs old.slabs new.slabs
     pub places : KeepsPlaces
 
   module _ (p : Shape) (n : ℕ) where
     -- slab n was retired
     pub record RetiresSlab (slab word : ℕ) (unparked : Option ℕ) : Type 0 where
       pub slab_is : slab ≡ n
-      pub parks : Parks n (drawn (length old.parking) word) old new
+      pub parks : Parks n (drawn (length old.slabs.parking) word) old.slabs new.slabs
       pub dropped : Drops meaning p n before now true
-      pub word_is : word ≡ next_word stream
-      pub stream_is : stream' ≡ after_word stream
-      pub unparked_is : unparked ≡ slice_index_or old.parking (drawn (length old.parking) word) None
+      pub word_is : word ≡ next_word old.stream
+      pub stream_is : new.stream ≡ after_word old.stream
+      pub quarantine_same : new.quarantine ≡ old.quarantine
+      pub unparked_is : unparked ≡ slice_index_or old.slabs.parking (drawn (length old.slabs.parking) word) None
 
     -- it was purged, and joins the empty ones
     pub record PurgesSlab (slab : ℕ) : Type 0 where
       pub slab_is : slab ≡ n
-      pub joins : Joins n old.slabs old new
+      pub joins : Joins n old.slabs.slabs old.slabs new.slabs
       pub dropped : Drops meaning p n before now false
-      pub stream_is : stream' ≡ stream
-      pub parking_is : new.parking ≡ old.parking
+      pub stream_is : new.stream ≡ old.stream
+      pub quarantine_same : new.quarantine ≡ old.quarantine
+      pub parking_is : new.slabs.parking ≡ old.slabs.parking
 
     abbrev pub Retires : Emptied → Type 0
     Retires Kept = ⊥
@@ -111,22 +130,21 @@ module _ {P : Type 0} (meaning : pages.Ghosts P) (old new : Slabs) (before now :
 
     -- slab n, of which a slot was released, is retired or purged where it is one too many, and else joins
     abbrev pub Empties : Emptied → Type 0
-    Empties Kept = (is_surplus p old.slabs (length old.lists.empty) n ≡ false) × JoinsSlab n
-    Empties (Retired slab word unparked) = (is_surplus p old.slabs (length old.lists.empty) n ≡ true)
+    Empties Kept = (is_surplus p old.slabs.slabs (length old.slabs.lists.empty) n ≡ false) × JoinsSlab n
+    Empties (Retired slab word unparked) = (is_surplus p old.slabs.slabs (length old.slabs.lists.empty) n ≡ true)
         × RetiresSlab slab word unparked
-    Empties (Purged slab) = (is_surplus p old.slabs (length old.lists.empty) n ≡ true) × PurgesSlab slab
+    Empties (Purged slab) = (is_surplus p old.slabs.slabs (length old.slabs.lists.empty) n ≡ true) × PurgesSlab slab
 
-module _ {P : Type 0} (meaning : pages.Ghosts P) (old new : Slabs) (before now : P) (stream stream' : Words)
-    (p : Shape) where
+module _ {P : Type 0} (meaning : pages.Ghosts P) (old new : Store) (before now : P) (p : Shape) where
   -- slot b was released: `mid` are the slabs after that
   pub record Releases (b : ℕ) (e : Emptied) : Type 0 where
     pub mid : Slabs
-    pub slabs : mid.slabs ≡ freed_uses p b old.slabs
-    pub lists : SameLists old mid
-    pub empties : Empties meaning mid new before now stream stream' p (slab_of p b) e
+    pub slabs : mid.slabs ≡ freed_uses p b old.slabs.slabs
+    pub lists : SameLists old.slabs mid
+    pub empties : Empties meaning (record old { slabs = mid }) new before now p (slab_of p b) e
 
   -- what left the quarantine, if anything did, is released
   abbrev pub Settles : Option ℕ → Emptied → Type 0
-  Settles None e = (e ≡ Kept) × (new.slabs ≡ old.slabs) × SameLists old new
-      × KeepsPlaces meaning old new before now stream stream'
+  Settles None e = (e ≡ Kept) × (new.slabs.slabs ≡ old.slabs.slabs) × SameLists old.slabs new.slabs
+      × KeepsPlaces meaning old new before now
   Settles (Some b) e = Releases b e

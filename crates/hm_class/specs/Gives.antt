@@ -12,6 +12,7 @@ use Rattle.hm_class.specs.declared.outcome.Outcome.{Outcome}
 use Rattle.hm_class.specs.declared.outcome.Outcome.TheVariants as outcome
 use Rattle.hm_slab_meta.specs.Uses.{Live, Condemned, was_given}
 use Rattle.hm_class.specs.Slabs.{Slabs}
+use Rattle.hm_class.specs.SlotBytes.{KeepsPages}
 use Rattle.hm_class.specs.declared.slabs.Slot.{Slot}
 use Rattle.hm_class.specs.Uses.{passes_at, canary_at, with_use}
 
@@ -26,6 +27,7 @@ module _ {P : Type 0} (meaning : pages.Ghosts P) where
 
   -- the canary was set behind them
   pub record Seals (p : Shape) (before now : P) (a canary : ℕ) : Type 0 where
+    pub pages : KeepsPages meaning before now
     pub none : has_bytes p ≡ false → IsTrue (meaning.told before) → meaning.runs now ≡ meaning.runs before
     pub some : has_bytes p ≡ true → IsTrue (meaning.told before) → IsHeld (meaning.runs before) (a + usable p) 8
         → Writes (meaning.runs before) (a + usable p) 8 (to_le_bytes w64 canary) (meaning.runs now)
@@ -45,6 +47,7 @@ module _ {P : Type 0} (meaning : pages.Ghosts P) (c : Config) (p : Shape) (old n
     pub record CondemnsSlot (a at found : ℕ) : Type 0 where
       pub addr_is : a ≡ place p s.slab s.index
       pub stained : Stains meaning c p before a (Some (at, found))
+      pub pages : KeepsPages meaning before now
       pub slabs : new.slabs ≡ with_use old.slabs s.slab s.index (Condemned (passes_at was_given old.slabs s.slab s.index))
       pub same : IsTrue (meaning.told before) → meaning.runs now ≡ meaning.runs before
 

@@ -16,8 +16,8 @@ loop-at-preserved g c =
     let later : c.loop-at.at ≤ c.min-next.result = omega (arith, c.min-next.ensures, c.slab_end.ensures.later, c.loop-at-test.true) in record {
       later = omega (arith, c.loop-at.invariant.later, later);
       within = within;
-      told = c.put_byte.ensures.told ∙ c.loop-at.invariant.told;
-      count = c.put_byte.ensures.count ∙ c.loop-at.invariant.count;
+      told = c.put_byte.ensures.pages.told ∙ c.loop-at.invariant.told;
+      count = c.put_byte.ensures.pages.count ∙ c.loop-at.invariant.count;
       written = λ told s h have.
           (let piece = piece_here p s c.loop-at.at c.min-next.result end c.requires.shape (have c.loop-at.at c.loop-at.invariant.later c.loop-at-test.true) c.loop-at-test.true is in
           piece_written p s (g.P.Pages.runs c.loop-at.pages) (g.P.Pages.runs c.put_byte.new.pages) c.args.addr c.loop-at.at c.min-next.result c.args.byte c.requires.shape c.loop-at.invariant.later later piece
