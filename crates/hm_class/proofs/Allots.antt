@@ -138,7 +138,7 @@ module _ (told : Bool) (runs : PageRuns) (faults : ℕ) (region : Identity) (es 
   runs_as : (x : P) → (IsTrue (meaning.told begun) → meaning.runs x ≡ meaning.runs begun) → IsTrue told → meaning.runs x ≡ runs
   runs_as x e y = e (told_begun ∙ y) ∙ runs_begun
 
-  pub kept_allotted : (n : NextSlab) (e : Event) → Finds meaning store store₁ begun mid region.shape n → Serves meaning store₁ store' mid now region.config region.shape n e → Ends e
+  pub kept_allotted : (n : NextSlab) (e : Event) → Finds meaning store store₁ begun mid region.shape n → Serves meaning store₁ store' mid now region n e → Ends e
   kept_allotted next.Exhausted e f v =
       let q = f.1.0 in
       let w = v.1.0 in
@@ -188,7 +188,7 @@ module _ (told : Bool) (runs : PageRuns) (faults : ℕ) (region : Identity) (es 
       let items : store₁.slabs.slabs ≡ uses₁ = then_items told runs faults region es store kept n cv f.0.1 store₁.slabs q.slabs in
       let shut : List ℕ = store.slabs.lists.retired in
       let loose = loose_now told runs faults region es store kept n fresh.off in
-      let there : is_some (slab_in (taken_uses store.slabs.numbers shut store.slabs.slabs) n) ≡ true = (can_open told runs faults region es store kept n f.0.1).there in
+      let there : is_some (slab_in (taken_uses store.slabs.numbers shut store.slabs.slabs) n) ≡ true = (can_open told runs faults region es store kept meaning begun told_begun runs_begun n f.0.1).there in
       let shows₁ : Shows region.shape uses₁ s₁ = opened_shows told runs faults region es store kept n cv f.0.1 in
       subst (λ (x : Choices). Ends (record { outcome = e.outcome; choices = x; draws = e.draws })) (sym v.1)
       (subst (λ (x : Draws). Ends (record { outcome = e.outcome; choices = chose_opened n canary; draws = x })) (sym v.2)

@@ -61,7 +61,7 @@ module _ (told : Bool) (runs : PageRuns) (faults : ℕ) (region : Identity) (es 
     (stepped : (a : ℕ) → slab_of region.shape a ≡ n → first_free region.shape (opened region.shape choices.opened choices.canary (state (terms_in told region) es)) n (start_from region.config region.shape store₁.stream) ≡ Some a → (r : Reply) → event_of (Allot asked 1) r ≡ Picked a
     → IsSteppedEntry (terms_in told region) (cells_of (state (terms_in told region) es) store) (entry_of who (Allot asked 1) r choices draws f f'))
   where
-    pub kept_serve : (o : Outcome) → Serve meaning store₁ store' mid now region.config region.shape n o
+    pub kept_serve : (o : Outcome) → Serve meaning store₁ store' mid now region n o
         → IsKept told (meaning.runs now) f' region (es ++ entry_of who (Allot asked 1) (reply_of o) choices draws f f' ∷ []) store'
     kept_serve o v =
         let then : State = opened region.shape choices.opened choices.canary (state (terms_in told region) es) in
@@ -87,7 +87,7 @@ module _ (told : Bool) (runs : PageRuns) (faults : ℕ) (region : Identity) (es 
         tell asks is later lt serves.is_slab u was free on shows slabs live_all (ap (λ (l : Lists). l.retired) v.lists ∙ m.retired ∙ shut)
         (ap (λ (l : Lists). l.partial) v.lists ∙ m.partial ∙ partial after) (ap (λ (l : Lists). l.empty) v.lists ∙ m.empty ∙ empty after)
         (subst (λ (l : Lists). AreFull store'.slabs.slabs l.full) (sym v.lists) (placed_full store₁.slabs.slabs store'.slabs.slabs store₁.slabs.lists n before after stands full
-        (given_open meaning region.config region.shape n i store₁.slabs store'.slabs mid now o v.gives on₁) refl (given_beside meaning region.config region.shape n i store₁.slabs store'.slabs mid now o v.gives on₁)))
+        (given_open meaning region n i store₁.slabs store'.slabs mid now o v.gives on₁) refl (given_beside meaning region n i store₁.slabs store'.slabs mid now o v.gives on₁)))
         (v.numbers ∙ numbers)
         was_kind are (taken ∙ sym v.stream_is) (v.quarantine_same ∙ quarantine) (v.parking ∙ places)
         (record {

@@ -1,5 +1,5 @@
 -- A block was taken back: what is kept follows.
-use Rattle.std.proofs.Common.{◌≡◌, ℕ, zero, suc, ◌<◌, ◌≤◌, Bool, true, false, IsTrue, IfSome, cond, not, ◌||◌, ◌&&◌, List, [], ◌∷◌, slice_get, slice_set, Option, Some, None, sym, ◌∙◌, ap, subst, refl, arith, true≢false}
+use Rattle.std.proofs.Common.{◌≡◌, ℕ, zero, suc, ◌<◌, ◌≤◌, Bool, true, false, IsTrue, IfSome, cond, not, ◌||◌, ◌&&◌, List, [], ◌∷◌, length, slice_get, slice_set, Option, Some, None, sym, ◌∙◌, ap, subst, refl, arith, true≢false}
 use Rattle.std.specs.List.{list_any}
 use Rattle.std.specs.Option.{option_map_or}
 use Rattle.std.proofs.lemmas.List.{length-replicate}
@@ -35,7 +35,7 @@ use Rattle.hm_class.proofs.Permitted.{usable_held, live_open}
 use Rattle.hm_class.proofs.Places.{slab_of_place, slot_of_place}
 use Rattle.hm_class.proofs.Shown.{kind_is, available_test}
 use Rattle.hm_class.proofs.Used.{found, each_slab}
-use Rattle.hm_class.proofs.Entries.{sound_now, allows_now}
+use Rattle.hm_class.proofs.Entries.{sound_now, allows_now, kept_now}
 
 -- ---- a slot that is held is occupied, as it was
 module _ (test : SlotUse → Bool) where
@@ -143,21 +143,25 @@ module _ (told : Bool) (runs : PageRuns) (faults : ℕ) (region : Identity) (es 
             ∙ held_use k₁.slabs r.slab r.slot (sym (held_shows.held r.slab r.slot r.is_place.slot) ∙ ap (λ (q : ℕ). among q taken.held) (sym r.is_place.is) ∙ at_b);
       }
 
-  pub can_release : (b : ℕ) (told_half : meaning.told half ≡ told) → among b taken.held ≡ true → CanRelease meaning region.shape k₁ half b
-  can_release b told_half at_b =
+  pub can_release : (b : ℕ) (told_half : meaning.told half ≡ told) → k₁.parking ≡ store.slabs.parking → among b taken.held ≡ true → CanRelease meaning region k₁ half b
+  can_release b told_half parking at_b =
       let r = is_released b at_b in
       record {
         from = r.from;
-        below = r.below;
-        on = sym (held_shows.opens (slab_of region.shape b)) ∙ r.open_slab;
         held = r.used;
-        run = λ own y. slab_run region.shape taken.opens (slab_of region.shape b) (meaning.runs half) own r.open_slab (held_slabs (sym told_half ∙ y));
+        slab = record {
+          below = r.below;
+          on = sym (held_shows.opens (slab_of region.shape b)) ∙ r.open_slab;
+          run = λ own y. slab_run region.shape taken.opens (slab_of region.shape b) (meaning.runs half) own r.open_slab (held_slabs (sym told_half ∙ y));
+          parking = ap (λ (l : List (Option ℕ)). length l) parking ∙ (kept_now told runs faults region es store kept).parking_length;
+        };
       }
 
   at_released : (o : Option ℕ) (b : ℕ) → Releases region.shape taken o → o ≡ Some b → among b taken.held ≡ true
   at_released None b r e = absurd (none-some b e)
   at_released (Some x) b r e = ap (λ (q : ℕ). among q taken.held) (sym (same_Some x b e)) ∙ r.0
 
-  pub release_ready : (o : Option ℕ) → o ≡ let_go store.quarantine a (place_of_word region.shape (next_word store.stream)) → meaning.told half ≡ told → IfSome o (λ b. CanRelease meaning region.shape k₁ half b)
-  release_ready None e told_half = tt
-  release_ready (Some b) e told_half = can_release b told_half (at_released (let_go store.quarantine a (place_of_word region.shape (next_word store.stream))) b release_now (sym e))
+  pub release_ready : (o : Option ℕ) → o ≡ let_go store.quarantine a (place_of_word region.shape (next_word store.stream)) → meaning.told half ≡ told → k₁.parking ≡ store.slabs.parking
+      → IfSome o (CanRelease meaning region k₁ half)
+  release_ready None e told_half parking = tt
+  release_ready (Some b) e told_half parking = can_release b told_half parking (at_released (let_go store.quarantine a (place_of_word region.shape (next_word store.stream))) b release_now (sym e))

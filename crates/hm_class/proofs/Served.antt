@@ -1,5 +1,5 @@
 -- Allotting: what was found can be served, and what is kept follows.
-use Rattle.std.proofs.Common.{◌≡◌, ℕ, ◌<◌, Bool, true, false, IsTrue, IfSome, List, length, slice_get, Option, Some, is_some, unwrap_or, sym, ◌∙◌, ap, subst, refl, arith}
+use Rattle.std.proofs.Common.{◌≡◌, ℕ, ◌<◌, ◌^◌, Bool, true, false, IfSome, List, length, slice_get, Option, Some, is_some, unwrap_or, sym, ◌∙◌, ap, subst, refl, arith}
 use Rattle.std.specs.Option.{option_and_then, option_map_or}
 use Rattle.hm_outside.specs.declared.pages.Pages as pages
 use Rattle.hm_outside.specs.PageRuns.{PageRuns, MeetsNone}
@@ -15,7 +15,7 @@ use Rattle.hm_class.specs.declared.next_slab.NextSlab.TheVariants as next
 use Rattle.hm_class.specs.declared.identity.Identity.{Identity}
 use Rattle.hm_class.specs.declared.store.Store.{Store}
 use Rattle.hm_class.specs.Slabs.{Slabs}
-use Rattle.hm_class.specs.Uses.{Numbers, open_at, numbers_of, Uses, SlabUse, occupied, slab_in, taken_uses, with_open, opened_slab}
+use Rattle.hm_class.specs.Uses.{Numbers, open_at, numbers_of, Uses, SlabUse, occupied, slab_in, taken_uses, with_open, opened_slab, live_count}
 use Rattle.hm_class.specs.Finds.{Finds, CanOpen, CanPick, CanServe}
 use Rattle.hm_class.specs.Outcomes.{canary_value}
 use Rattle.hm_class.specs.Sources.{new_of, front_of}
@@ -29,8 +29,8 @@ use Rattle.hm_class.proofs.Used.{some_slab, slab_changed}
 use Rattle.hm_class.proofs.Entries.{sound_now, allows_now}
 
 -- a slab that serves can be picked from
-can_pick : (p : Shape) (k : Slabs) (all : Uses) (s : State) (n : ℕ) → k.slabs ≡ all → n < p.limit → Shows p all s → IsServing all n → CanPick p k n
-can_pick p k all s n items below h serves =
+can_pick : (p : Shape) (k : Slabs) (all : Uses) (s : State) (n : ℕ) → k.slabs ≡ all → n < p.limit → Shows p all s → IsServing all n → live_count k.slabs < 2 ^ 63 → CanPick p k n
+can_pick p k all s n items below h serves few =
     let whole : length serves.slab.slots ≡ p.slots = h.slots n serves.slab serves.is_slab in
     let is : slab_in k.slabs n ≡ Some serves.slab = ap (λ (u : Uses). slab_in u n) items ∙ serves.is_slab in
     record {
@@ -38,6 +38,7 @@ can_pick p k all s n items below h serves =
       on = ap (λ (u : Uses). open_at u n) items ∙ ap (λ (o : Option SlabUse). option_map_or (λ (b : SlabUse). b.opened) o false) serves.is_slab ∙ serves.on;
       whole = subst (λ (o : Option SlabUse). IfSome o (λ (b : SlabUse). length b.slots ≡ p.slots)) (sym is) whole;
       first = λ i lt. has_first p k.slabs n i serves.slab is whole lt serves.has;
+      few = few;
     }
 
 -- the slab that is opened next
@@ -54,15 +55,13 @@ module _ (told : Bool) (runs : PageRuns) (faults : ℕ) (region : Identity) (es 
   is_new n e = new_slab_is region.shape store.slabs.slabs now_is n (sound_now told runs faults region es store kept) kept.follows.shows
       (ap (λ (l : List ℕ). unopened region.shape l now_is.next) (sym kept.follows.shut) ∙ ap (λ (m : ℕ). unopened region.shape store.slabs.lists.retired m) kept.follows.shows.next ∙ unopened_is region.shape store.slabs (Some n) kept.follows.numbers e)
 
-  pub can_open : (n : ℕ) → new_of store.slabs ≡ Some n → CanOpen region.shape store.slabs n
-  can_open n e = let r = is_new n e in record {
+  pub can_open : {P : Type 0} (meaning : pages.Ghosts P) (begun : P) → meaning.told begun ≡ told → meaning.runs begun ≡ runs → (n : ℕ) → new_of store.slabs ≡ Some n → CanOpen meaning region.shape store.slabs begun n
+  can_open meaning begun told_is runs_is n e = let r = is_new n e in record {
     below = r.below;
     there = ap (λ (q : Numbers). is_some (slab_in (taken_uses q store.slabs.lists.retired store.slabs.slabs) n)) kept.follows.numbers
         ∙ ap (λ (l : List ℕ). is_some (slab_in (taken_uses (numbers_of region.shape) l store.slabs.slabs) n)) kept.follows.shut ∙ r.there;
+    apart = λ y. subst (λ (x : PageRuns). MeetsNone x (slab_at region.shape n) region.shape.slab) (sym runs_is) (meets_none region.shape now_is.opens n runs region.served.shape r.off (kept.slabs (sym told_is ∙ y)));
   }
-
-  pub new_apart : IsTrue told → (n : ℕ) → new_of store.slabs ≡ Some n → MeetsNone runs (slab_at region.shape n) region.shape.slab
-  new_apart y n e = meets_none region.shape now_is.opens n runs region.served.shape (is_new n e).off (kept.slabs y)
 
   -- ---- the open slab that serves
   pub serving : (n : ℕ) → front_of store.slabs ≡ Some n → IsServing store.slabs.slabs n
@@ -114,12 +113,12 @@ module _ (told : Bool) (runs : PageRuns) (faults : ℕ) (region : Identity) (es 
     opened_open = opened_shows.opens n ∙ ap (λ (o : Option SlabUse). option_map_or (λ (b : SlabUse). b.opened) o false) opened_is
 
   -- what was found can be served
-  pub can_serve : {P : Type 0} (meaning : pages.Ghosts P) (begun mid : P) (store₁ : Store) (n : NextSlab) → Finds meaning store store₁ begun mid region.shape n → CanServe region.shape store₁.slabs n
-  can_serve meaning begun mid store₁ (next.Open n) f =
+  pub can_serve : {P : Type 0} (meaning : pages.Ghosts P) (begun mid : P) (store₁ : Store) (n : NextSlab) → Finds meaning store store₁ begun mid region.shape n → live_count store₁.slabs.slabs < 2 ^ 63 → CanServe region.shape store₁.slabs n
+  can_serve meaning begun mid store₁ (next.Open n) f few =
       can_pick region.shape store₁.slabs store.slabs.slabs now_is n f.1.0.slabs
-      (open_place region.shape now_is n 0 (sound_now told runs faults region es store kept) (serving_open n f.0) (omega (arith, region.served.shape.slots_some))).below kept.follows.shows (serving n f.0)
-  can_serve meaning begun mid store₁ (next.New n canary) f =
+      (open_place region.shape now_is n 0 (sound_now told runs faults region es store kept) (serving_open n f.0) (omega (arith, region.served.shape.slots_some))).below kept.follows.shows (serving n f.0) few
+  can_serve meaning begun mid store₁ (next.New n canary) f few =
       can_pick region.shape store₁.slabs (then_uses n (canary_value canary) f.0.1) (then n (canary_value canary) f.0.1) n
-      (then_items n (canary_value canary) f.0.1 store₁.slabs f.1.slabs) (is_new n f.0.1).below (opened_shows n (canary_value canary) f.0.1) (opened_serves n (canary_value canary) f.0.1)
-  can_serve meaning begun mid store₁ next.Exhausted f = tt
-  can_serve meaning begun mid store₁ next.PagesFailed f = tt
+      (then_items n (canary_value canary) f.0.1 store₁.slabs f.1.slabs) (is_new n f.0.1).below (opened_shows n (canary_value canary) f.0.1) (opened_serves n (canary_value canary) f.0.1) few
+  can_serve meaning begun mid store₁ next.Exhausted f few = tt
+  can_serve meaning begun mid store₁ next.PagesFailed f few = tt

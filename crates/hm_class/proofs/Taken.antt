@@ -125,7 +125,7 @@ module _ (told : Bool) (runs : PageRuns) (faults : ℕ) (region : Identity) (es 
     abbrev then : State
     then = opened region.shape choices.opened choices.canary (state (terms_in told region) es)
 
-    pub kept_gives : (o : Outcome) → Gives meaning region.config region.shape store₁.slabs store'.slabs mid now (slot_in n i) o
+    pub kept_gives : (o : Outcome) → Gives meaning region store₁.slabs store'.slabs mid now (slot_in n i) o
         → IsKept told (meaning.runs now) f' region (es ++ entry_of who (Allot asked 1) (reply_of o) choices draws f f' ∷ []) store'
     kept_gives (outcome.Given a size) g =
         let t : Terms = terms_in told region in

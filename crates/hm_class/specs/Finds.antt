@@ -1,14 +1,15 @@
 -- What finding a slab for the next block changes, and what picking and giving a slot of it does.
-use Rattle.std.specs.Prelude.{◌≡◌, ℕ, ◌<◌, ◌≤◌, true, false, IsTrue, if◌then◌else◌, Option, Some, None, is_some, length, option_map, unwrap_or, IfSome, ⊤}
+use Rattle.std.specs.Prelude.{◌≡◌, ℕ, ◌<◌, ◌≤◌, ◌^◌, true, false, IsTrue, if◌then◌else◌, Option, Some, None, is_some, length, option_map, unwrap_or, IfSome, ⊤}
 use Rattle.std.specs.FinMap as map
 use Rattle.hm_choice.specs.Stream.{Words, next_word, after_word, canary_of, drawn}
 use Rattle.hm_outside.specs.declared.pages.Pages as pages
 use Rattle.hm_base.specs.Lists.{zeros}
-use Rattle.hm_outside.specs.PageRuns.{PageRuns}
+use Rattle.hm_outside.specs.PageRuns.{PageRuns, MeetsNone}
 use Rattle.hm_sizes.specs.declared.config.Config.{Config}
 use Rattle.hm_sizes.specs.declared.shape.Shape.{Shape}
 use Rattle.hm_sizes.specs.Shapes.{slab_at, has_bytes}
 use Rattle.hm_slab_lists.specs.Lists.{placed}
+use Rattle.hm_class.specs.declared.identity.Identity.{Identity}
 use Rattle.hm_class.specs.declared.next_slab.NextSlab.{NextSlab}
 use Rattle.hm_class.specs.declared.next_slab.NextSlab.TheVariants as next
 use Rattle.hm_class.specs.declared.outcome.Canary.{Canary}
@@ -23,7 +24,7 @@ use Rattle.hm_model.specs.Calls.{no_choices}
 use Rattle.hm_class.specs.Gives.{Gives}
 use Rattle.hm_class.specs.Outcomes.{plain, canary_value, chose_opened, start_draws}
 use Rattle.hm_class.specs.Sources.{Sources}
-use Rattle.hm_class.specs.Uses.{Uses, SlabUse, slab_in, open_at, use_at, occupied, kind_at, first_at, with_open}
+use Rattle.hm_class.specs.Uses.{Uses, SlabUse, slab_in, open_at, use_at, occupied, kind_at, first_at, with_open, live_count}
 
 -- ---- opening
 -- the runs once slab n was made accessible
@@ -43,9 +44,10 @@ abbrev pub canary_stream : Shape → Words → Words
 canary_stream p stream = if has_bytes p then after_word (after_word stream) else stream
 
 -- slab n can be opened
-pub record CanOpen (p : Shape) (k : Slabs) (n : ℕ) : Type 0 where
+pub record CanOpen {P : Type 0} (meaning : pages.Ghosts P) (p : Shape) (k : Slabs) (pages : P) (n : ℕ) : Type 0 where
   pub below : n < p.limit
   pub there : is_some (slab_in (taken_of k) n) ≡ true
+  pub apart : IsTrue (meaning.told pages) → MeetsNone (meaning.runs pages) (slab_at p n) p.slab
 
 -- ---- picking
 -- from slot i on slab n has an available slot
@@ -61,6 +63,7 @@ pub record CanPick (p : Shape) (k : Slabs) (n : ℕ) : Type 0 where
   pub on : open_at k.slabs n ≡ true
   pub whole : IfSome (slab_in k.slabs n) (λ (b : SlabUse). length b.slots ≡ p.slots)
   pub first : (i : ℕ) → i < p.slots → HasFirst p k.slabs n i
+  pub few : live_count k.slabs < 2 ^ 63
 
 abbrev pub CanServe : Shape → Slabs → NextSlab → Type 0
 CanServe p k (next.Open n) = CanPick p k n
@@ -118,24 +121,24 @@ module _ {P : Type 0} (meaning : pages.Ghosts P) (old new : Store) (before now :
     Finds next.PagesFailed = (n : ℕ) × Sources old.slabs (from.New n) × KeepsRuns × (has_bytes p ≡ true)
         × (meaning.faults before < meaning.faults now)
 
-  module _ (c : Config) (p : Shape) where
-    -- the first available slot of slab n from the start was picked, and given or condemned; the slab went to the list of
-    -- its kind
+  module _ (region : Identity) where
+    -- the first available slot of slab n from the start was picked, and given or condemned; the slab went to the
+    -- list of its kind
     pub record Serve (n : ℕ) (o : Outcome) : Type 0 where
       pub index : ℕ
-      pub first : first_at old.slabs.slabs n (start_from c p old.stream) ≡ Some index
-      pub gives : Gives meaning c p old.slabs new.slabs before now (slot_in n index) o
+      pub first : first_at old.slabs.slabs n (start_from region.config region.shape old.stream) ≡ Some index
+      pub gives : Gives meaning region old.slabs new.slabs before now (slot_in n index) o
       pub lists : new.slabs.lists ≡ placed (list_of (kind_at new.slabs.slabs n)) n old.slabs.lists
       pub parking : new.slabs.parking ≡ old.slabs.parking
       pub numbers : new.slabs.numbers ≡ old.slabs.numbers
-      pub stream_is : new.stream ≡ start_stream c old.stream
+      pub stream_is : new.stream ≡ start_stream region.config old.stream
       pub quarantine_same : new.quarantine ≡ old.quarantine
 
     -- where there is no slab all stays
     abbrev pub Serves : NextSlab → Event → Type 0
     Serves (next.Open n) e = Serve n e.outcome × (e.choices ≡ no_choices)
-        × (e.draws ≡ start_draws None (start_word c old.stream))
+        × (e.draws ≡ start_draws None (start_word region.config old.stream))
     Serves (next.New n canary) e = Serve n e.outcome × (e.choices ≡ chose_opened n canary)
-        × (e.draws ≡ start_draws canary (start_word c old.stream))
+        × (e.draws ≡ start_draws canary (start_word region.config old.stream))
     Serves next.Exhausted e = (e ≡ plain outcome.Exhausted) × Stays
     Serves next.PagesFailed e = (e ≡ plain outcome.PagesFailed) × Stays

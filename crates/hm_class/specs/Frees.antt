@@ -10,9 +10,10 @@ use Rattle.hm_sizes.specs.declared.shape.Shape.{Shape}
 use Rattle.hm_sizes.specs.Shapes.{slab_at, slab_of, slot_of, has_bytes, usable}
 use Rattle.hm_class_rules.specs.Kinds.{Empty, same_kind}
 use Rattle.hm_slab_lists.specs.Lists.{placed}
+use Rattle.hm_class.specs.declared.identity.Identity.{Identity}
 use Rattle.hm_class.specs.declared.outcome.Emptied.{Emptied}
 use Rattle.hm_class.specs.declared.outcome.Emptied.TheVariants.{Kept, Retired, Purged}
-use Rattle.hm_slab_meta.specs.Uses.{Free, Held}
+use Rattle.hm_slab_meta.specs.Uses.{Free, Held, Live}
 use Rattle.hm_class.specs.declared.slabs.Slot.{Slot}
 use Rattle.hm_class.specs.declared.store.Store.{Store}
 use Rattle.hm_class.specs.SlotBytes.{KeepsPages}
@@ -49,6 +50,12 @@ dropped_runs p n runs = if has_bytes p then map.remove runs (slab_at p n) else r
 abbrev pub freed_uses : Shape → ℕ → Uses → Uses
 freed_uses p b uses = with_use uses (slab_of p b) (slot_of p b) Free
 
+-- ---- holding
+-- slot s can go into quarantine
+pub record CanHold (p : Shape) (store : Store) (s : Slot) : Type 0 where
+  pub array : length store.quarantine.array ≡ p.array
+  pub live : use_at store.slabs.slabs s.slab s.index ≡ Some Live
+
 module _ {P : Type 0} (meaning : pages.Ghosts P) where
   -- the usable bytes of the slot at a were made zero
   pub record Clears (p : Shape) (before now : P) (a : ℕ) : Type 0 where
@@ -57,14 +64,19 @@ module _ {P : Type 0} (meaning : pages.Ghosts P) where
     pub some : has_bytes p ≡ true → IsTrue (meaning.told before) → IsHeld (meaning.runs before) a (usable p)
         → Writes (meaning.runs before) a (usable p) (zeros (usable p)) (meaning.runs now)
 
+  -- slab n can be retired
+  pub record CanRetire (region : Identity) (k : Slabs) (pages : P) (n : ℕ) : Type 0 where
+    pub below : n < region.shape.limit
+    pub on : open_at k.slabs n ≡ true
+    pub run : has_bytes region.shape ≡ true → IsTrue (meaning.told pages)
+        → IsRun (meaning.runs pages) (slab_at region.shape n) region.shape.slab
+    pub parking : length k.parking ≡ region.config.park_length
+
   -- the slot at a can be released
-  pub record CanRelease (p : Shape) (k : Slabs) (pages : P) (a : ℕ) : Type 0 where
-    pub from : p.first ≤ a
-    pub below : slab_of p a < p.limit
-    pub on : open_at k.slabs (slab_of p a) ≡ true
-    pub held : use_at k.slabs (slab_of p a) (slot_of p a) ≡ Some Held
-    pub run : has_bytes p ≡ true → IsTrue (meaning.told pages)
-        → IsRun (meaning.runs pages) (slab_at p (slab_of p a)) p.slab
+  pub record CanRelease (region : Identity) (k : Slabs) (pages : P) (a : ℕ) : Type 0 where
+    pub from : region.shape.first ≤ a
+    pub held : use_at k.slabs (slab_of region.shape a) (slot_of region.shape a) ≡ Some Held
+    pub slab : CanRetire region k pages (slab_of region.shape a)
 
   -- the pages of slab n went, where it has any; or their bytes were made zero
   abbrev pub Drops : Shape → ℕ → P → P → Bool → Type 0

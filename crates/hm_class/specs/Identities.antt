@@ -7,7 +7,7 @@ use Rattle.hm_sizes.specs.declared.shape.Shape.{Shape}
 use Rattle.hm_sizes.specs.Shapes.{IsShape}
 use Rattle.hm_class_rules.specs.Draws.{drawn_shape}
 
--- the configuration is valid, the arena and the class are among its own, and the region begins where its first word says
+-- the configuration is valid, the arena and the class are its own, and the region begins where its first word says
 pub record IsServed (c : Config) (number arena : ℕ) (p : Shape) : Type 0 where
   pub valid : IsValid c
   pub arena_below : arena < c.arenas

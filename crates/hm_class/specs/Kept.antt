@@ -72,4 +72,5 @@ pub record IsKept (told : Bool) (runs : PageRuns) (faults : ℕ) (region : Ident
   pub count : faults ≡ (state (terms_in told region) es).faults
   pub follows : Follows region.shape (state (terms_in told region) es) store.slabs
   pub slabs : IsTrue told → HoldsSlabs region.shape (state (terms_in told region) es).opens runs
-  pub lists : cells region.number region.arena (terms_in told region) es ≡ cells_of (state (terms_in told region) es) store
+  pub lists : cells region.number region.arena (terms_in told region) es
+      ≡ cells_of (state (terms_in told region) es) store

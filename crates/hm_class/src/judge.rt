@@ -1,12 +1,13 @@
 //! What is said of a block that is given back, before anything is changed.
 ghost use Rattle.std.specs.Prelude.{◌≡◌};
 ghost use Rattle.hm_model.specs.Replies.{IsMeasureReply};
-ghost use Rattle.hm_sizes.specs.Shapes.{IsShape, usable};
+ghost use Rattle.hm_sizes.specs.Shapes.{usable};
 ghost use Rattle.hm_class_rules.specs.Rules.{wrong_size};
 ghost use Rattle.hm_class.specs.Judgements.{refused_outcome, Judgements, RefusesWith, Measures};
 ghost use Rattle.hm_class.specs.Outcomes.{reply_of};
 ghost use Rattle.hm_class.specs.Sources.{AreWhole};
 
+use crate::identity::Identity;
 use crate::outcome::Outcome;
 use crate::slabs::{Refusal, Slabs, Slot, Verdict};
 use crate::slot_bytes::other_canary;
@@ -50,25 +51,24 @@ fn wrong_size(shape: &Shape, stated: Option<u64>) -> Option<(u64, u64)>
 pub fn judge<P: Pages>(
     slabs: &Slabs,
     pages: &P,
-    shape: &Shape,
+    identity: &Identity,
     addr: u64,
     stated: Option<u64>,
 ) -> Judgement
-    requires shape { IsShape shape.now }
-    requires whole { AreWhole shape.now slabs.now.slabs }
-    ensures judged { Judgements P.Pages shape.now slabs.now pages.now addr stated result }
+    requires whole { AreWhole identity.now.shape slabs.now.slabs }
+    ensures judged { Judgements P.Pages identity.now.shape slabs.now pages.now addr stated result }
     ensures replies { RefusesWith result }
 {
-    let slot = match slabs.judge(shape, addr) {
+    let slot = match slabs.judge(identity, addr) {
         Verdict::Refused(refusal) => return Judgement::Refused(refusal.outcome()),
         Verdict::Live(slot) => slot,
     };
-    if let Some((block, stated)) = wrong_size(shape, stated) {
+    if let Some((block, stated)) = wrong_size(&identity.shape, stated) {
         return Judgement::Refused(Outcome::WrongSize { block, stated });
     }
-    if shape.has_bytes() {
+    if identity.shape.has_bytes() {
         let kept = slabs.canary_of(slot.slab);
-        if let Some(found) = other_canary(pages, addr + shape.usable(), kept) {
+        if let Some(found) = other_canary(pages, addr + identity.shape.usable(), kept) {
             return Judgement::Refused(Outcome::Canary { kept, found });
         }
     }
@@ -76,14 +76,13 @@ pub fn judge<P: Pages>(
 }
 
 /// The usable size of the live block at an address, or why none is live there.
-pub fn measure(slabs: &Slabs, shape: &Shape, addr: u64) -> Outcome
-    requires shape { IsShape shape.now }
-    requires whole { AreWhole shape.now slabs.now.slabs }
-    ensures measured { Measures shape.now slabs.now addr result }
-    ensures replies { IsMeasureReply (usable shape.now) (reply_of result) }
+pub fn measure(slabs: &Slabs, identity: &Identity, addr: u64) -> Outcome
+    requires whole { AreWhole identity.now.shape slabs.now.slabs }
+    ensures measured { Measures identity.now.shape slabs.now addr result }
+    ensures replies { IsMeasureReply (usable identity.now.shape) (reply_of result) }
 {
-    match slabs.judge(shape, addr) {
+    match slabs.judge(identity, addr) {
         Verdict::Refused(refusal) => refusal.outcome(),
-        Verdict::Live(_) => Outcome::Usable(shape.usable()),
+        Verdict::Live(_) => Outcome::Usable(identity.shape.usable()),
     }
 }

@@ -1,7 +1,7 @@
 //! The slabs of a region by number, the lists in which they stand, and how many of their slots are live; and
 //! what stands at an address.
 ghost use Rattle.std.specs.Prelude.{◌≡◌, ℕ, ◌+◌, ◌<◌, ◌≤◌, ◌^◌, Some, None, true, is_some, length, slice_index_or, IfOk, IsOk, OnOk, OnErr};
-ghost use Rattle.hm_sizes.specs.Shapes.{IsShape, place, slab_of, slot_of};
+ghost use Rattle.hm_sizes.specs.Shapes.{place, slab_of, slot_of};
 ghost use Rattle.hm_class_rules.specs.Kinds.{Empty, same_kind};
 ghost use Rattle.hm_slab_lists.specs.Lists.{placed};
 ghost use Rattle.hm_slab_meta.specs.Uses.{Live, Held, Free, was_given};
@@ -9,8 +9,9 @@ ghost use Rattle.hm_class.specs.Slabs.{HasRoom, no_slabs, with_spare, taken_of, 
 ghost use Rattle.hm_class.specs.Sources.{IsAvailable, IsWithin, AreWhole, Sources, Judges};
 ghost use Rattle.hm_class.specs.Uses.{numbers_of, slab_in, open_at, kind_at, use_at, passes_at, lives, canary_at, first_at, with_use, with_condemned, with_open, with_canary_at, live_count};
 
+use crate::identity::Identity;
 use hm_base::NoMemory;
-use hm_sizes::{Shape, place_of};
+use hm_sizes::place_of;
 use hm_slab_lists::{Place, SlabLists};
 use hm_slab_meta::SlotState;
 use std::alloc::Global;
@@ -69,43 +70,40 @@ impl Model for Slabs {
 }
 
 /// The address of a slot.
-pub fn address_of(shape: &Shape, slot: Slot) -> u64
-    requires shape { IsShape shape.now }
-    requires slab { slot.slab < shape.now.limit }
-    requires index { slot.index < shape.now.slots }
-    ensures { result ≡ place shape.now slot.slab slot.index }
+pub fn address_of(identity: &Identity, slot: Slot) -> u64
+    requires slab { slot.slab < identity.now.shape.limit }
+    requires index { slot.index < identity.now.shape.slots }
+    ensures { result ≡ place identity.now.shape slot.slab slot.index }
 {
-    shape.first + slot.slab * shape.slab + u64::from(slot.index) * shape.slot
+    identity.shape.first
+        + slot.slab * identity.shape.slab
+        + u64::from(slot.index) * identity.shape.slot
 }
 
 /// The slot at an address.
-pub fn slot_at(shape: &Shape, addr: u64) -> Slot
-    requires shape { IsShape shape.now }
-    requires from { shape.now.first ≤ addr }
-    ensures slab { result.slab ≡ slab_of shape.now addr }
-    ensures index { result.index ≡ slot_of shape.now addr }
+pub fn slot_at(identity: &Identity, addr: u64) -> Slot
+    requires from { identity.now.shape.first ≤ addr }
+    ensures slab { result.slab ≡ slab_of identity.now.shape addr }
+    ensures index { result.index ≡ slot_of identity.now.shape addr }
 {
-    let offset = addr - shape.first;
+    let offset = addr - identity.shape.first;
     Slot {
-        slab: offset / shape.slab,
-        index: (offset % shape.slab / shape.slot) as u32,
+        slab: offset / identity.shape.slab,
+        index: (offset % identity.shape.slab / identity.shape.slot) as u32,
     }
 }
 
 impl Slabs {
     /// No slab, and an empty parking array.
-    pub fn build(alloc: Global, shape: &Shape, park_length: u32) -> Result<Slabs, NoMemory>
-        requires shape { IsShape shape.now }
-        requires park_some { 1 ≤ park_length }
-        requires park_most { park_length ≤ 32 }
-        ensures { IfOk result (λ k. k ≡ no_slabs (numbers_of shape.now) park_length) }
+    pub fn build(alloc: Global, identity: &Identity) -> Result<Slabs, NoMemory>
+        ensures { IfOk result (λ k. k ≡ no_slabs (numbers_of identity.now.shape) identity.now.config.park_length) }
     {
         let lists = SlabLists::build(
             alloc,
-            shape.limit,
-            shape.guard_interval,
-            park_length,
-            shape.slots,
+            identity.shape.limit,
+            identity.shape.guard_interval,
+            identity.config.park_length,
+            identity.shape.slots,
         )?;
         Ok(Slabs { lists, live: 0 })
     }
@@ -195,12 +193,11 @@ impl Slabs {
     }
 
     /// What is said of a block that is given back.
-    pub fn judge(&self, shape: &Shape, addr: u64) -> Verdict
-        requires shape { IsShape shape.now }
-        requires whole { AreWhole shape.now self.now.slabs }
-        ensures { Judges shape.now self.now.slabs addr result }
+    pub fn judge(&self, identity: &Identity, addr: u64) -> Verdict
+        requires whole { AreWhole identity.now.shape self.now.slabs }
+        ensures { Judges identity.now.shape self.now.slabs addr result }
     {
-        let Some((slab, index)) = place_of(shape, addr) else {
+        let Some((slab, index)) = place_of(&identity.shape, addr) else {
             return Verdict::Refused(Refusal::NoSlot);
         };
         let slot = Slot { slab, index };

@@ -9,12 +9,12 @@ use Rattle.hm_class.proofs.Built.{kept_built}
 use Rattle.hm_class.proofs.Entries.{region_of}
 use Rattle.hm_class.proofs.heap.ClassHeap.build.Goals as goal
 
-pub invariant_of-result-2 : goal.invariant_of-result-2
-invariant_of-result-2 g c = (
+pub invariant_of-result : goal.invariant_of-result
+invariant_of-result g c = (
   kept_built (g.P.Pages.told c.args.pages) (g.P.Pages.runs c.args.pages) (g.P.Pages.faults c.args.pages) _ c.new.result.items _ c.requires.nothing c.requires.count c.new.ensures.items c.in_ok-slabs.ensures
       (c.begin-stream.ensures.stream ∙ ap (λ (k : ClassId). after_word (stream_of c.args.seed c.args.arena k)) (sym (ap (λ (q : Shape). q.class) c.begin-stream.ensures.shape))) c.in_ok-quarantine.ensures,
   omega (arith, ap (λ (k : Slabs). live_count k.slabs) c.in_ok-slabs.ensures),
 )
 
 pub returns-clause-region : goal.returns-clause-region
-returns-clause-region g c = region_of g.P.Pages _ _ _ _ _ (invariant_of-result-2 g c)
+returns-clause-region g c = region_of g.P.Pages _ _ _ _ _ (invariant_of-result g c)
