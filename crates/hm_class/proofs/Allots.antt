@@ -23,12 +23,12 @@ use Rattle.hm_class_rules.specs.Stepped.{IsSteppedEntry, listed}
 use Rattle.hm_slab_lists.specs.Lists.{Lists}
 use Rattle.hm_class.specs.declared.next_slab.NextSlab.{NextSlab}
 use Rattle.hm_class.specs.declared.next_slab.NextSlab.TheVariants as next
-use Rattle.hm_class.specs.declared.outcome.Canary.{Canary}
-use Rattle.hm_class.specs.declared.outcome.Event.{Event}
+use Rattle.hm_class.specs.declared.event.Canary.{Canary}
+use Rattle.hm_class.specs.declared.event.Event.{Event}
 use Rattle.hm_class.specs.Uses.{Numbers, numbers_of, Uses, slab_in, opened_slab, fresh_slab, kind_at, live_count, with_open, taken_uses}
 use Rattle.hm_model.specs.Calls.{no_choices, entry_of, no_words}
 use Rattle.hm_class.specs.Finds.{Finds, Serves, KeepsRuns, made_runs, drawn_canary, canary_stream, start_word, start_from, start_stream}
-use Rattle.hm_class.specs.Outcomes.{reply_of, canary_value, chose_opened, start_draws}
+use Rattle.hm_class.specs.Events.{canary_value, chose_opened, start_draws}
 use Rattle.hm_class.specs.Sources.{new_of, front_of}
 use Rattle.hm_class.specs.Region.{HoldsSlabs}
 use Rattle.hm_class.specs.declared.identity.Identity.{Identity}
@@ -97,7 +97,7 @@ module _ (told : Bool) (runs : PageRuns) (faults : ℕ) (region : Identity) (es 
   first = state (terms_in told region) es
 
   abbrev Ends : Event → Type 0
-  Ends e = IsKept told (meaning.runs now) (meaning.faults now) region (es ++ entry_of who (Allot asked 1) (reply_of e.outcome) e.choices e.draws (meaning.faults begun) (meaning.faults now) ∷ []) store'
+  Ends e = IsKept told (meaning.runs now) (meaning.faults now) region (es ++ entry_of who (Allot asked 1) e.reply e.choices e.draws (meaning.faults begun) (meaning.faults now) ∷ []) store'
 
   tell : IsTrue told → IsTrue (meaning.told mid)
   tell y = told_mid ∙ told_begun ∙ y
@@ -156,8 +156,8 @@ module _ (told : Bool) (runs : PageRuns) (faults : ℕ) (region : Identity) (es 
       let q = f.1.0 in
       let on = serving_open told runs faults region es store kept n f.0 in
       let at = open_place region.shape first n 0 (sound_now told runs faults region es store kept) on (omega (arith, region.served.shape.slots_some)) in
-      subst (λ (x : Choices). Ends (record { outcome = e.outcome; choices = x; draws = e.draws })) (sym v.1)
-      (subst (λ (x : Draws). Ends (record { outcome = e.outcome; choices = no_choices; draws = x })) (sym v.2)
+      subst (λ (x : Choices). Ends (record { reply = e.reply; choices = x; draws = e.draws })) (sym v.1)
+      (subst (λ (x : Draws). Ends (record { reply = e.reply; choices = no_choices; draws = x })) (sym v.2)
       (kept_serve told runs faults region es store kept meaning mid now store₁ store' n (kind_at store₁.slabs.slabs n) no_choices (start_draws None (start_word region.config store₁.stream)) who asked (meaning.faults begun) (meaning.faults now)
       tell asks is (omega (arith, same, f.1.1))
       (subst (λ (u : Uses). IsServing u n) (sym q.slabs) (serving told runs faults region es store kept n f.0)) at.below at.no_guard on
@@ -177,7 +177,7 @@ module _ (told : Bool) (runs : PageRuns) (faults : ℕ) (region : Identity) (es 
       (λ a slab here answer picks. subst (λ (x : Words). IsSteppedEntry t (cells_of first store) (entry_of who (Allot asked 1) answer no_choices (start_draws None (start_word region.config x)) (meaning.faults begun) (meaning.faults now))) (sym q.stream_same)
       (stepped_open t (cells_of first store) first who asked a n (meaning.faults begun) (meaning.faults now) answer refl picks slab
       (subst (λ (x : Words). first_free region.shape first n (start_from region.config region.shape x) ≡ Some a) q.stream_same here) f.0))
-      e.outcome v.0))
+      e.reply v.0))
   kept_allotted (next.New n canary) e f v =
       let t : Terms = terms_in told region in
       let q = f.1 in
@@ -190,8 +190,8 @@ module _ (told : Bool) (runs : PageRuns) (faults : ℕ) (region : Identity) (es 
       let loose = loose_now told runs faults region es store kept n fresh.off in
       let there : is_some (slab_in (taken_uses store.slabs.numbers shut store.slabs.slabs) n) ≡ true = (can_open told runs faults region es store kept meaning begun told_begun runs_begun n f.0.1).there in
       let shows₁ : Shows region.shape uses₁ s₁ = opened_shows told runs faults region es store kept n cv f.0.1 in
-      subst (λ (x : Choices). Ends (record { outcome = e.outcome; choices = x; draws = e.draws })) (sym v.1)
-      (subst (λ (x : Draws). Ends (record { outcome = e.outcome; choices = chose_opened n canary; draws = x })) (sym v.2)
+      subst (λ (x : Choices). Ends (record { reply = e.reply; choices = x; draws = e.draws })) (sym v.1)
+      (subst (λ (x : Draws). Ends (record { reply = e.reply; choices = chose_opened n canary; draws = x })) (sym v.2)
       (kept_serve told runs faults region es store kept meaning mid now store₁ store' n Neither (chose_opened n canary) (start_draws canary (start_word region.config store₁.stream)) who asked (meaning.faults begun) (meaning.faults now)
       tell asks is (omega (arith, same, q.later))
       (subst (λ (u : Uses). IsServing u n) (sym items) (opened_serves told runs faults region es store kept n cv f.0.1)) fresh.below fresh.no_guard
@@ -222,4 +222,4 @@ module _ (told : Bool) (runs : PageRuns) (faults : ℕ) (region : Identity) (es 
       (stepped_new t (cells_of first store) first who asked a n (meaning.faults begun) (meaning.faults now) answer refl picks slab
       (subst (λ (x : Option Canary). first_free region.shape (opened region.shape (Some n) (canary_value x) first) n (start_from region.config region.shape (canary_stream region.shape store.stream)) ≡ Some a) q.canary_is
       (subst (λ (x : Words). first_free region.shape s₁ n (start_from region.config region.shape x) ≡ Some a) q.stream_is here)))))
-      e.outcome v.0))
+      e.reply v.0))

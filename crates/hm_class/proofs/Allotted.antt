@@ -20,11 +20,9 @@ use Rattle.hm_class_rules.specs.Drawn.{first_free}
 use Rattle.hm_class_rules.specs.Draws.{Picked, event_of, after_words}
 use Rattle.hm_class_rules.specs.Rules.{Source, state}
 use Rattle.hm_class_rules.specs.Stepped.{IsSteppedEntry, listed}
-use Rattle.hm_class.specs.declared.outcome.Outcome.{Outcome}
 use Rattle.hm_slab_meta.specs.Uses.{SlotUse, Never, first_from}
 use Rattle.hm_class.specs.Uses.{numbers_of, open_at, SlabUse, occupied, use_at, kind_at, live_count}
 use Rattle.hm_model.specs.Calls.{entry_of, no_choices}
-use Rattle.hm_class.specs.Outcomes.{reply_of}
 use Rattle.hm_class.specs.Finds.{Serve, start_from, start_stream}
 use Rattle.hm_class.specs.Region.{HoldsSlabs}
 use Rattle.hm_class.specs.declared.identity.Identity.{Identity}
@@ -61,8 +59,8 @@ module _ (told : Bool) (runs : PageRuns) (faults : ℕ) (region : Identity) (es 
     (stepped : (a : ℕ) → slab_of region.shape a ≡ n → first_free region.shape (opened region.shape choices.opened choices.canary (state (terms_in told region) es)) n (start_from region.config region.shape store₁.stream) ≡ Some a → (r : Reply) → event_of (Allot asked 1) r ≡ Picked a
     → IsSteppedEntry (terms_in told region) (cells_of (state (terms_in told region) es) store) (entry_of who (Allot asked 1) r choices draws f f'))
   where
-    pub kept_serve : (o : Outcome) → Serve meaning store₁ store' mid now region n o
-        → IsKept told (meaning.runs now) f' region (es ++ entry_of who (Allot asked 1) (reply_of o) choices draws f f' ∷ []) store'
+    pub kept_serve : (o : Reply) → Serve meaning store₁ store' mid now region n o
+        → IsKept told (meaning.runs now) f' region (es ++ entry_of who (Allot asked 1) o choices draws f f' ∷ []) store'
     kept_serve o v =
         let then : State = opened region.shape choices.opened choices.canary (state (terms_in told region) es) in
         let i : ℕ = v.index in

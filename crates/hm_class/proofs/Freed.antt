@@ -14,11 +14,11 @@ use Rattle.hm_class_rules.specs.Rules.{Terms}
 use Rattle.hm_class_rules.specs.Stepped.{Cells, IsSteppedEntry}
 use Rattle.hm_class_rules.proofs.Alike.{drawn_below}
 use Rattle.hm_class_rules.proofs.Streams.{next_below}
-use Rattle.hm_class.specs.declared.outcome.Emptied.{Emptied}
-use Rattle.hm_class.specs.declared.outcome.Emptied.TheVariants as emptied
+use Rattle.hm_class.specs.declared.event.Emptied.{Emptied}
+use Rattle.hm_class.specs.declared.event.Emptied.TheVariants as emptied
 use Rattle.hm_model.specs.Calls.{entry_of}
 use Rattle.hm_class.specs.Frees.{array_word, place_of_word, array_stream}
-use Rattle.hm_class.specs.Outcomes.{freed_choices, freed_draws}
+use Rattle.hm_class.specs.Events.{freed_choices, freed_draws}
 
 -- the words of a retirement: its own is the next after the array's
 abbrev pub IsNextWord : Words → Bool → Emptied → Type 0

@@ -5,9 +5,9 @@ use Rattle.hm_outside.specs.declared.pages.Pages as pages
 use Rattle.hm_class.specs.declared.identity.Identity.{Identity}
 use Rattle.hm_class.specs.declared.next_slab.NextSlab.{NextSlab}
 use Rattle.hm_class.specs.declared.next_slab.NextSlab.TheVariants as next
-use Rattle.hm_class.specs.declared.outcome.Event.{Event}
-use Rattle.hm_class.specs.declared.outcome.Outcome.{Outcome}
-use Rattle.hm_class.specs.declared.outcome.Outcome.TheVariants as outcome
+use Rattle.hm_class.specs.declared.event.Event.{Event}
+use Rattle.hm_model.specs.declared.entry.Reply.{Reply}
+use Rattle.hm_model.specs.declared.entry.Reply.TheVariants as reply
 use Rattle.hm_slab_meta.specs.Uses.{SlotUse}
 use Rattle.hm_slab_meta.specs.Uses.{Live, Condemned, was_given}
 use Rattle.hm_class.specs.declared.store.Store.{Store}
@@ -15,7 +15,7 @@ use Rattle.hm_class.specs.SlotBytes.{KeepsPages}
 use Rattle.hm_class.specs.Uses.{lives, occupied, passes_at, use_at, live_count}
 use Rattle.hm_class.specs.Finds.{Finds, Serves, Serve, CanOpen, CanPick, CanServe, slot_in, start_from}
 use Rattle.hm_class.specs.Gives.{Gives}
-use Rattle.hm_class.specs.Outcomes.{canary_value}
+use Rattle.hm_class.specs.Events.{canary_value}
 use Rattle.hm_class.specs.Sources.{new_of}
 use Rattle.hm_class.proofs.Counts.{mapped}
 use Rattle.hm_class.proofs.Drawn.{start_below}
@@ -31,12 +31,12 @@ module _ {P : Type 0} (meaning : pages.Ghosts P) (region : Identity) (store stor
   found_live opens next.Exhausted f = ap live_count f.1.0.slabs
   found_live opens next.PagesFailed f = ap live_count f.2.slabs
 
-  given_more : (o : Outcome) (n i : ℕ) (u : SlotUse) → use_at store₁.slabs.slabs n i ≡ Some u → Gives meaning region store₁.slabs store'.slabs mid now (slot_in n i) o → live_count store'.slabs.slabs ≤ live_count store₁.slabs.slabs + 1
-  given_more (outcome.Given a size) n i u was g = omega (arith, ap live_count g.slabs, counted lives store₁.slabs.slabs n i Live u was)
-  given_more (outcome.Overwritten a at found) n i u was g = omega (arith, ap live_count g.slabs, counted lives store₁.slabs.slabs n i (Condemned (passes_at was_given store₁.slabs.slabs n i)) u was)
+  given_more : (o : Reply) (n i : ℕ) (u : SlotUse) → use_at store₁.slabs.slabs n i ≡ Some u → Gives meaning region store₁.slabs store'.slabs mid now (slot_in n i) o → live_count store'.slabs.slabs ≤ live_count store₁.slabs.slabs + 1
+  given_more (reply.Given a size) n i u was g = omega (arith, ap live_count g.slabs, counted lives store₁.slabs.slabs n i Live u was)
+  given_more (reply.Overwritten a at found) n i u was g = omega (arith, ap live_count g.slabs, counted lives store₁.slabs.slabs n i (Condemned (passes_at was_given store₁.slabs.slabs n i)) u was)
   given_more other n i u was g = absurd g
 
-  more_live : (n : ℕ) (o : Outcome) → CanPick region.shape store₁.slabs n → Serve meaning store₁ store' mid now region n o → live_count store'.slabs.slabs ≤ live_count store₁.slabs.slabs + 1
+  more_live : (n : ℕ) (o : Reply) → CanPick region.shape store₁.slabs n → Serve meaning store₁ store' mid now region n o → live_count store'.slabs.slabs ≤ live_count store₁.slabs.slabs + 1
   more_live n o can v =
       let first = can.first (start_from region.config region.shape store₁.stream) (start_below region.config region.shape store₁.stream (omega (arith, region.served.shape.slots_some))) in
       let same : first.index ≡ v.index = same_Some first.index v.index (sym first.is ∙ v.first) in
@@ -46,8 +46,8 @@ module _ {P : Type 0} (meaning : pages.Ghosts P) (region : Identity) (store stor
 
   pub served_live : (n : NextSlab) (e : Event) → CanServe region.shape store₁.slabs n → Serves meaning store₁ store' mid now region n e
       → live_count store'.slabs.slabs ≤ live_count store₁.slabs.slabs + 1
-  served_live (next.Open n) e can v = more_live n e.outcome can v.0
-  served_live (next.New n canary) e can v = more_live n e.outcome can v.0
+  served_live (next.Open n) e can v = more_live n e.reply can v.0
+  served_live (next.New n canary) e can v = more_live n e.reply can v.0
   served_live next.Exhausted e can v = omega (arith, ap live_count v.1.0.slabs)
   served_live next.PagesFailed e can v = omega (arith, ap live_count v.1.0.slabs)
 
@@ -84,7 +84,7 @@ module _ {P : Type 0} (meaning : pages.Ghosts P) (region : Identity) (store stor
   found_told next.PagesFailed f = f.2.told_same
 
   pub served_pages : (n : NextSlab) (e : Event) → Serves meaning store₁ store' mid now region n e → KeepsPages meaning mid now
-  served_pages (next.Open n) e v = gives_pages meaning region n v.0.index store₁.slabs store'.slabs mid now e.outcome v.0.gives
-  served_pages (next.New n canary) e v = gives_pages meaning region n v.0.index store₁.slabs store'.slabs mid now e.outcome v.0.gives
+  served_pages (next.Open n) e v = gives_pages meaning region n v.0.index store₁.slabs store'.slabs mid now e.reply v.0.gives
+  served_pages (next.New n canary) e v = gives_pages meaning region n v.0.index store₁.slabs store'.slabs mid now e.reply v.0.gives
   served_pages next.Exhausted e v = record { told = v.1.0.told_same; count = v.1.1 }
   served_pages next.PagesFailed e v = record { told = v.1.0.told_same; count = v.1.1 }

@@ -17,7 +17,7 @@ use Rattle.hm_class.specs.declared.store.Store.{Store}
 use Rattle.hm_class.specs.Slabs.{Slabs}
 use Rattle.hm_class.specs.Uses.{Numbers, open_at, numbers_of, Uses, SlabUse, occupied, slab_in, taken_uses, with_open, opened_slab, live_count}
 use Rattle.hm_class.specs.Finds.{Finds, CanOpen, CanPick, CanServe}
-use Rattle.hm_class.specs.Outcomes.{canary_value}
+use Rattle.hm_class.specs.Events.{canary_value}
 use Rattle.hm_class.specs.Sources.{new_of, front_of}
 use Rattle.hm_class.specs.Kept.{Shows, IsKept, terms_in}
 use Rattle.hm_class.proofs.Followed.{shows_new}

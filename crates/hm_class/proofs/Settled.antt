@@ -26,8 +26,8 @@ use Rattle.hm_class_rules.proofs.Emptied.{one_more_empty}
 use Rattle.hm_class_rules.proofs.Changes.{kind_empty}
 use Rattle.hm_class_rules.proofs.Alike.{drawn_below}
 use Rattle.hm_class_rules.proofs.Streams.{next_below}
-use Rattle.hm_class.specs.declared.outcome.Emptied.{Emptied}
-use Rattle.hm_class.specs.declared.outcome.Emptied.TheVariants as emptied
+use Rattle.hm_class.specs.declared.event.Emptied.{Emptied}
+use Rattle.hm_class.specs.declared.event.Emptied.TheVariants as emptied
 use Rattle.hm_slab_meta.specs.Uses.{Free, Live, Held}
 use Rattle.hm_class.specs.Slabs.{Slabs}
 use Rattle.hm_class.specs.declared.slabs.Slot.{Slot}
@@ -37,7 +37,7 @@ use Rattle.hm_slab_lists.specs.Lists.{Lists, gone, placed}
 use Rattle.hm_slab_lists.specs.Table.{unparked}
 use Rattle.hm_class.proofs.Filing.{Stands, Moved, with_unparked, placed_moved, placed_full, retired_partial, retired_empty, retired_shut, retired_full, same_full}
 use Rattle.hm_model.specs.Calls.{entry_of, no_choices}
-use Rattle.hm_class.specs.Outcomes.{freed_choices, freed_draws}
+use Rattle.hm_class.specs.Events.{freed_choices, freed_draws}
 use Rattle.hm_class.specs.Frees as frees
 use Rattle.hm_class.specs.Frees.{array_word, place_of_word, array_stream, Holds, Settles, is_surplus, freed_uses}
 use Rattle.hm_class.specs.Region.{HoldsSlabs}

@@ -27,13 +27,10 @@ use Rattle.hm_class_rules.specs.Rules.{Terms, Picks, state, reuse_finds}
 use Rattle.hm_class_rules.specs.Stepped.{IsSteppedEntry, listed}
 use Rattle.hm_class_rules.specs.Laws.{bytes_of_slab}
 use Rattle.hm_class_rules.proofs.Whole.{whole_write}
-use Rattle.hm_class.specs.declared.outcome.Outcome.{Outcome}
-use Rattle.hm_class.specs.declared.outcome.Outcome.TheVariants as outcome
 use Rattle.hm_slab_meta.specs.Uses.{SlotUse}
 use Rattle.hm_slab_meta.specs.Uses.{Live, Condemned, was_given}
 use Rattle.hm_class.specs.Uses.{numbers_of, Uses, SlabUse, slab_in, lives, occupied, kind_at, use_at, passes_at, canary_at, with_use, live_count}
 use Rattle.hm_model.specs.Calls.{entry_of}
-use Rattle.hm_class.specs.Outcomes.{reply_of}
 use Rattle.hm_class.specs.Gives.{Gives, Stains, Seals}
 use Rattle.hm_class.specs.Finds.{slot_in}
 use Rattle.hm_class.specs.Region.{HoldsSlabs}
@@ -125,9 +122,9 @@ module _ (told : Bool) (runs : PageRuns) (faults : ℕ) (region : Identity) (es 
     abbrev then : State
     then = opened region.shape choices.opened choices.canary (state (terms_in told region) es)
 
-    pub kept_gives : (o : Outcome) → Gives meaning region store₁.slabs store'.slabs mid now (slot_in n i) o
-        → IsKept told (meaning.runs now) f' region (es ++ entry_of who (Allot asked 1) (reply_of o) choices draws f f' ∷ []) store'
-    kept_gives (outcome.Given a size) g =
+    pub kept_gives : (o : Reply) → Gives meaning region store₁.slabs store'.slabs mid now (slot_in n i) o
+        → IsKept told (meaning.runs now) f' region (es ++ entry_of who (Allot asked 1) o choices draws f f' ∷ []) store'
+    kept_gives (reply.Given a size) g =
         let t : Terms = terms_in told region in
         let q : ℕ = place region.shape n i in
         let e : Entry = entry_of who (Allot asked 1) (reply.Given q size) choices draws f f' in
@@ -149,7 +146,7 @@ module _ (told : Bool) (runs : PageRuns) (faults : ℕ) (region : Identity) (es 
         })
         (given_slabs meaning region.shape store₁.slabs.slabs then n i mid now told tell region.served.shape on lt shows slabs a asked g.addr_is g.written)
         (next_picked t (state t es) store store' e q n kind₀ region.served.shape refl (slab_of_place region.shape n i region.served.shape lt) was_kind shows' taken partial empty quarantine places))
-    kept_gives (outcome.Overwritten a at found) g =
+    kept_gives (reply.Overwritten a at found) g =
         let t : Terms = terms_in told region in
         let q : ℕ = place region.shape n i in
         let e : Entry = entry_of who (Allot asked 1) (reply.Overwritten q at found) choices draws f f' in

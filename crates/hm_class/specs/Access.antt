@@ -11,8 +11,6 @@ use Rattle.hm_class_rules.specs.State.{State, is_open}
 use Rattle.hm_class_rules.specs.Bytes.{first_trap, bytes_read, write}
 use Rattle.hm_class.specs.declared.access.Fetched.{Fetched}
 use Rattle.hm_class.specs.declared.access.Fetched.TheVariants.{Bytes, Trap}
-use Rattle.hm_class.specs.declared.outcome.Outcome.{Outcome}
-use Rattle.hm_class.specs.declared.outcome.Outcome.TheVariants as outcome
 use Rattle.hm_class.specs.Kept.{Shows}
 use Rattle.hm_class.specs.Region.{HoldsSlabs}
 use Rattle.hm_class.specs.Uses.{Uses, open_at}
@@ -50,11 +48,11 @@ abbrev pub HaveBytes : Shape → State → ℕ → ℕ → Type 0
 HaveBytes p s a len = (q : ℕ) → a ≤ q → q < a + len → HasByte p s q
 
 -- writing changes the bytes of the state, or nothing and names the first address that is not accessible
-abbrev pub Fills : Bool → PageRuns → PageRuns → Shape → Uses → ℕ → List ℕ → Outcome → Type 0
-Fills told before now p uses a bytes outcome.Filled =
+abbrev pub Fills : Bool → PageRuns → PageRuns → Shape → Uses → ℕ → List ℕ → Reply → Type 0
+Fills told before now p uses a bytes reply.Filled =
     IsTrue told → (s : State) → Shows p uses s → HoldsSlabs p s.opens before
     → (first_trap p s a (length bytes) ≡ None) × HoldsSlabs p (write p a bytes s).opens now
-Fills told before now p uses a bytes (outcome.Trap q) =
+Fills told before now p uses a bytes (reply.Trap q) =
     IsTrue told → (now ≡ before)
     × ((s : State) → Shows p uses s → HoldsSlabs p s.opens before → first_trap p s a (length bytes) ≡ Some q)
 Fills told before now p uses a bytes other = ⊥

@@ -12,18 +12,18 @@ use Rattle.hm_slab_lists.specs.Lists.{placed}
 use Rattle.hm_class.specs.declared.identity.Identity.{Identity}
 use Rattle.hm_class.specs.declared.next_slab.NextSlab.{NextSlab}
 use Rattle.hm_class.specs.declared.next_slab.NextSlab.TheVariants as next
-use Rattle.hm_class.specs.declared.outcome.Canary.{Canary}
-use Rattle.hm_class.specs.declared.outcome.Event.{Event}
-use Rattle.hm_class.specs.declared.outcome.Outcome.{Outcome}
-use Rattle.hm_class.specs.declared.outcome.Outcome.TheVariants as outcome
+use Rattle.hm_class.specs.declared.event.Canary.{Canary}
+use Rattle.hm_class.specs.declared.event.Event.{Event}
+use Rattle.hm_model.specs.declared.entry.Reply.{Reply}
+use Rattle.hm_model.specs.declared.entry.Reply.TheVariants as reply
 use Rattle.hm_class.specs.declared.store.Store.{Store}
 use Rattle.hm_class.specs.Slabs.{Slabs, SameLists, taken_of, list_of, opened_lists}
 use Rattle.hm_class.specs.declared.slabs.Slot.{Slot}
-use Rattle.hm_class.specs.declared.slabs.Source.TheVariants as from
+use Rattle.hm_slab_lists.specs.declared.slab_lists.Place.TheVariants.{Exhausted}
 use Rattle.hm_model.specs.Calls.{no_choices}
 use Rattle.hm_class.specs.Gives.{Gives}
-use Rattle.hm_class.specs.Outcomes.{plain, canary_value, chose_opened, start_draws}
-use Rattle.hm_class.specs.Sources.{Sources}
+use Rattle.hm_class.specs.Events.{plain, canary_value, chose_opened, start_draws}
+use Rattle.hm_class.specs.Sources.{Sources, OpensNext, front_of}
 use Rattle.hm_class.specs.Uses.{Uses, SlabUse, slab_in, open_at, use_at, occupied, kind_at, first_at, with_open, live_count}
 
 -- ---- opening
@@ -115,19 +115,19 @@ module _ {P : Type 0} (meaning : pages.Ghosts P) (old new : Store) (before now :
       pub later : meaning.faults before ≤ meaning.faults now
 
     abbrev pub Finds : NextSlab → Type 0
-    Finds (next.Open n) = Sources old.slabs (from.Open n) × Stays
-    Finds (next.New n canary) = Sources old.slabs (from.New n) × Opens n canary
-    Finds next.Exhausted = Sources old.slabs from.Exhausted × Stays
-    Finds next.PagesFailed = (n : ℕ) × Sources old.slabs (from.New n) × KeepsRuns × (has_bytes p ≡ true)
+    Finds (next.Open n) = (front_of old.slabs ≡ Some n) × Stays
+    Finds (next.New n canary) = OpensNext old.slabs n × Opens n canary
+    Finds next.Exhausted = Sources old.slabs Exhausted × Stays
+    Finds next.PagesFailed = (n : ℕ) × OpensNext old.slabs n × KeepsRuns × (has_bytes p ≡ true)
         × (meaning.faults before < meaning.faults now)
 
   module _ (region : Identity) where
     -- the first available slot of slab n from the start was picked, and given or condemned; the slab went to the
     -- list of its kind
-    pub record Serve (n : ℕ) (o : Outcome) : Type 0 where
+    pub record Serve (n : ℕ) (r : Reply) : Type 0 where
       pub index : ℕ
       pub first : first_at old.slabs.slabs n (start_from region.config region.shape old.stream) ≡ Some index
-      pub gives : Gives meaning region old.slabs new.slabs before now (slot_in n index) o
+      pub gives : Gives meaning region old.slabs new.slabs before now (slot_in n index) r
       pub lists : new.slabs.lists ≡ placed (list_of (kind_at new.slabs.slabs n)) n old.slabs.lists
       pub parking : new.slabs.parking ≡ old.slabs.parking
       pub numbers : new.slabs.numbers ≡ old.slabs.numbers
@@ -136,9 +136,9 @@ module _ {P : Type 0} (meaning : pages.Ghosts P) (old new : Store) (before now :
 
     -- where there is no slab all stays
     abbrev pub Serves : NextSlab → Event → Type 0
-    Serves (next.Open n) e = Serve n e.outcome × (e.choices ≡ no_choices)
+    Serves (next.Open n) e = Serve n e.reply × (e.choices ≡ no_choices)
         × (e.draws ≡ start_draws None (start_word region.config old.stream))
-    Serves (next.New n canary) e = Serve n e.outcome × (e.choices ≡ chose_opened n canary)
+    Serves (next.New n canary) e = Serve n e.reply × (e.choices ≡ chose_opened n canary)
         × (e.draws ≡ start_draws canary (start_word region.config old.stream))
-    Serves next.Exhausted e = (e ≡ plain outcome.Exhausted) × Stays
-    Serves next.PagesFailed e = (e ≡ plain outcome.PagesFailed) × Stays
+    Serves next.Exhausted e = (e ≡ plain reply.Exhausted) × Stays
+    Serves next.PagesFailed e = (e ≡ plain reply.PagesFailed) × Stays

@@ -11,8 +11,8 @@ use Rattle.hm_sizes.specs.Shapes.{slab_at, slab_of, slot_of, has_bytes, usable}
 use Rattle.hm_class_rules.specs.Kinds.{Empty, same_kind}
 use Rattle.hm_slab_lists.specs.Lists.{placed}
 use Rattle.hm_class.specs.declared.identity.Identity.{Identity}
-use Rattle.hm_class.specs.declared.outcome.Emptied.{Emptied}
-use Rattle.hm_class.specs.declared.outcome.Emptied.TheVariants.{Kept, Retired, Purged}
+use Rattle.hm_class.specs.declared.event.Emptied.{Emptied}
+use Rattle.hm_class.specs.declared.event.Emptied.TheVariants.{Kept, Retired, Purged}
 use Rattle.hm_slab_meta.specs.Uses.{Free, Held, Live}
 use Rattle.hm_class.specs.declared.slabs.Slot.{Slot}
 use Rattle.hm_class.specs.declared.store.Store.{Store}

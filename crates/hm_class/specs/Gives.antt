@@ -9,8 +9,8 @@ use Rattle.hm_sizes.specs.declared.shape.Shape.{Shape}
 use Rattle.hm_sizes.specs.Shapes.{place, usable, has_bytes}
 use Rattle.hm_class_rules.specs.Bytes.{first_nonzero}
 use Rattle.hm_class.specs.declared.identity.Identity.{Identity}
-use Rattle.hm_class.specs.declared.outcome.Outcome.{Outcome}
-use Rattle.hm_class.specs.declared.outcome.Outcome.TheVariants as outcome
+use Rattle.hm_model.specs.declared.entry.Reply.{Reply}
+use Rattle.hm_model.specs.declared.entry.Reply.TheVariants as reply
 use Rattle.hm_slab_meta.specs.Uses.{Live, Condemned, was_given}
 use Rattle.hm_class.specs.Slabs.{Slabs}
 use Rattle.hm_class.specs.SlotBytes.{KeepsPages}
@@ -60,7 +60,7 @@ module _ {P : Type 0} (meaning : pages.Ghosts P) (region : Identity) (old new : 
       pub slabs : new.slabs ≡ with_use old.slabs s.slab s.index (Condemned (passes_at was_given old.slabs s.slab s.index))
       pub same : IsTrue (meaning.told before) → meaning.runs now ≡ meaning.runs before
 
-    abbrev pub Gives : Outcome → Type 0
-    Gives (outcome.Given a size) = GivesSlot a size
-    Gives (outcome.Overwritten a at found) = CondemnsSlot a at found
+    abbrev pub Gives : Reply → Type 0
+    Gives (reply.Given a size) = GivesSlot a size
+    Gives (reply.Overwritten a at found) = CondemnsSlot a at found
     Gives other = ⊥

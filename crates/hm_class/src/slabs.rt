@@ -6,11 +6,12 @@ ghost use Rattle.hm_class_rules.specs.Kinds.{Empty, same_kind};
 ghost use Rattle.hm_slab_lists.specs.Lists.{placed};
 ghost use Rattle.hm_slab_meta.specs.Uses.{Live, Held, Free, was_given};
 ghost use Rattle.hm_class.specs.Slabs.{HasRoom, no_slabs, with_spare, taken_of, list_of, opened_lists, SameLists, SameSlots, Parks};
-ghost use Rattle.hm_class.specs.Sources.{IsAvailable, IsWithin, AreWhole, Sources, Judges};
+ghost use Rattle.hm_class.specs.Sources.{IsAvailable, IsWithin, AreWhole, OpensNext, Sources, Judges};
 ghost use Rattle.hm_class.specs.Uses.{numbers_of, slab_in, open_at, kind_at, use_at, passes_at, lives, canary_at, first_at, with_use, with_condemned, with_open, with_canary_at, live_count};
 
 use crate::identity::Identity;
 use hm_base::NoMemory;
+use hm_model::Reply;
 use hm_sizes::place_of;
 use hm_slab_lists::{Place, SlabLists};
 use hm_slab_meta::SlotState;
@@ -22,31 +23,6 @@ use std::marker::Model;
 pub struct Slot {
     pub slab: u64,
     pub index: u32,
-}
-
-/// Where a block comes from.
-#[derive(Clone, Copy, Drop)]
-pub enum Source {
-    /// An open slab.
-    Open(u64),
-    /// A slab that is to be opened.
-    New(u64),
-    Exhausted,
-}
-
-/// Why a block is not taken back.
-#[derive(Clone, Copy, Drop)]
-pub enum Refusal {
-    NoSlot,
-    Unused,
-    DoubleFree,
-}
-
-/// What is said of a block that is given back.
-#[derive(Clone, Copy, Drop)]
-pub enum Verdict {
-    Refused(Refusal),
-    Live(Slot),
 }
 
 /// The slabs of a region.
@@ -116,16 +92,10 @@ impl Slabs {
     }
 
     /// Where the next block comes from.
-    pub fn source(&self) -> Source
+    pub fn source(&self) -> Place
         ensures { Sources self.now result }
     {
-        match self.lists.next_source() {
-            Place::Partial(slab) => Source::Open(slab),
-            Place::Empty(slab) => Source::Open(slab),
-            Place::Retired(slab) => Source::New(slab),
-            Place::Fresh(slab) => Source::New(slab),
-            Place::Exhausted => Source::Exhausted,
-        }
+        self.lists.next_source()
     }
 
     /// Whether a slab is open.
@@ -192,27 +162,27 @@ impl Slabs {
         }
     }
 
-    /// What is said of a block that is given back.
-    pub fn judge(&self, identity: &Identity, addr: u64) -> Verdict
+    /// The live slot that starts at an address, or why none does.
+    pub fn judge(&self, identity: &Identity, addr: u64) -> Result<Slot, Reply>
         requires whole { AreWhole identity.now.shape self.now.slabs }
         ensures { Judges identity.now.shape self.now.slabs addr result }
     {
         let Some((slab, index)) = place_of(&identity.shape, addr) else {
-            return Verdict::Refused(Refusal::NoSlot);
+            return Err(Reply::NoSlot);
         };
         let slot = Slot { slab, index };
         if self.is_live(slot) {
-            Verdict::Live(slot)
+            Ok(slot)
         } else if self.was_given(slot) {
-            Verdict::Refused(Refusal::DoubleFree)
+            Err(Reply::DoubleFree)
         } else {
-            Verdict::Refused(Refusal::Unused)
+            Err(Reply::Unused)
         }
     }
 
     /// Makes room for the slab that comes next: a fresh one takes some, a retired one has its own.
     pub fn reserve(&mut self) -> Result<(), NoMemory>
-        requires { (n : ℕ) × Sources self.old (Source.New n) }
+        requires { (n : ℕ) × OpensNext self.old n }
         ensures rest { self.new ≡ with_spare self.new.spare self.old }
         ensures room { OnOk result (HasRoom self.new) }
         ensures more { self.old.spare ≤ self.new.spare }
@@ -240,7 +210,7 @@ impl Slabs {
 
     // Opens the first of the slabs that are shut, or a fresh one. It takes no memory.
     fn take_new(&mut self, slab: u64)
-        requires source { Sources self.old (Source.New slab) }
+        requires source { OpensNext self.old slab }
         requires there { is_some (slab_in (taken_of self.old) slab) ≡ true }
         requires room { HasRoom self.old }
         ensures slabs { self.new.slabs ≡ with_open (taken_of self.old) slab (canary_at self.old.slabs slab) }
@@ -259,7 +229,7 @@ impl Slabs {
 
     /// Opens the slab that comes next, with a canary. It takes no memory.
     pub fn open(&mut self, slab: u64, canary: u64)
-        requires source { Sources self.old (Source.New slab) }
+        requires source { OpensNext self.old slab }
         requires there { is_some (slab_in (taken_of self.old) slab) ≡ true }
         requires room { HasRoom self.old }
         ensures slabs { self.new.slabs ≡ with_open (taken_of self.old) slab canary }
