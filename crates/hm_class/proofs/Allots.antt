@@ -88,7 +88,7 @@ opened_beside q l all n canary m is there ne =
 first_is_shut : (limit next n : ℕ) (l : List ℕ) → unopened_below limit l next ≡ Some n → (m : ℕ) (ms : List ℕ) → l ≡ m ∷ ms → m ≡ n
 first_is_shut limit next n l is m ms e = same_Some m n (ap (λ (l : List ℕ). unopened_below limit l next) (sym e) ∙ is)
 
-module _ (told : Bool) (runs : PageRuns) (faults : ℕ) (region : Identity) (es : List Entry) (store : Store)
+module _ {told : Bool} {runs : PageRuns} {faults : ℕ} {region : Identity} {es : List Entry} {store : Store}
     (kept : IsKept told runs faults region es store)
     {P : Type 0} (meaning : pages.Ghosts P) (begun mid now : P) (store₁ store' : Store) (who : Who) (asked : ℕ)
     (told_begun : meaning.told begun ≡ told) (told_mid : meaning.told mid ≡ meaning.told begun) (runs_begun : meaning.runs begun ≡ runs) (is : meaning.faults begun ≡ faults) (same : meaning.faults now ≡ meaning.faults mid)
@@ -114,7 +114,7 @@ module _ (told : Bool) (runs : PageRuns) (faults : ℕ) (region : Identity) (es 
       let e : Entry = entry_of who (Allot asked 1) answer no_choices no_words (meaning.faults begun) (meaning.faults now) in
       let s' : State = record first { faults = meaning.faults now } in
       let shows' : Shows region.shape store.slabs.slabs (step region.shape first e) = subst (λ (s : State). Shows region.shape store.slabs.slabs s) (sym after) (shows_count region.shape store.slabs.slabs first (meaning.faults now) kept.follows.shows) in
-      pushed told runs faults region es store kept (meaning.runs now) (meaning.faults now) store' e
+      pushed kept (meaning.runs now) (meaning.faults now) store' e
       (allowed_of t first who (Allot asked 1) answer no_choices no_words (meaning.faults begun) (meaning.faults now) no_draws_are (asks, refl) (is ∙ kept.count) later allows)
       (stepped_undrawn t (cells_of first store) e undrawn refl refl) refl
       (record {
@@ -130,7 +130,7 @@ module _ (told : Bool) (runs : PageRuns) (faults : ℕ) (region : Identity) (es 
       (sym (w.quarantine_same ∙ q.quarantine_same)) (sym (w.lists.parking ∙ q.lists.parking)))
 
   none_serves : front_of store.slabs ≡ None → NoneServes region.shape first
-  none_serves e = (allows_now told runs faults region es store kept).no_source e
+  none_serves e = (allows_now kept).no_source e
 
   next_new : (o : Option ℕ) → new_of store.slabs ≡ o → unopened region.shape first.shut first.next ≡ o
   next_new o e = ap (λ (l : List ℕ). unopened region.shape l first.next) (sym kept.follows.shut) ∙ ap (λ (m : ℕ). unopened region.shape store.slabs.lists.retired m) kept.follows.shows.next ∙ unopened_is region.shape store.slabs o kept.follows.numbers e
@@ -154,26 +154,26 @@ module _ (told : Bool) (runs : PageRuns) (faults : ℕ) (region : Identity) (es 
   kept_allotted (next.Open n) e f v =
       let t : Terms = terms_in told region in
       let q = f.1.0 in
-      let on = serving_open told runs faults region es store kept n f.0 in
-      let at = open_place region.shape first n 0 (sound_now told runs faults region es store kept) on (omega (arith, region.served.shape.slots_some)) in
+      let on = serving_open kept n f.0 in
+      let at = open_place region.shape first n 0 (sound_now kept) on (omega (arith, region.served.shape.slots_some)) in
       subst (λ (x : Choices). Ends (record { reply = e.reply; choices = x; draws = e.draws })) (sym v.1)
       (subst (λ (x : Draws). Ends (record { reply = e.reply; choices = no_choices; draws = x })) (sym v.2)
-      (kept_serve told runs faults region es store kept meaning mid now store₁ store' n (kind_at store₁.slabs.slabs n) no_choices (start_draws None (start_word region.config store₁.stream)) who asked (meaning.faults begun) (meaning.faults now)
+      (kept_serve kept meaning mid now store₁ store' n (kind_at store₁.slabs.slabs n) no_choices (start_draws None (start_word region.config store₁.stream)) who asked (meaning.faults begun) (meaning.faults now)
       tell asks is (omega (arith, same, f.1.1))
-      (subst (λ (u : Uses). IsServing u n) (sym q.slabs) (serving told runs faults region es store kept n f.0)) at.below at.no_guard on
+      (subst (λ (u : Uses). IsServing u n) (sym q.slabs) (serving kept n f.0)) at.below at.no_guard on
       (subst (λ (u : Uses). Shows region.shape u first) (sym q.slabs) kept.follows.shows)
       (λ y. subst (λ (r : PageRuns). HoldsSlabs region.shape first.opens r) (sym (runs_as mid q.runs_same y)) (kept.slabs y))
       (omega (arith, kept.follows.live_all, ap live_count q.slabs))
       (ap (λ (l : Lists). l.retired) q.lists.lists ∙ kept.follows.shut) (kind_at store₁.slabs.slabs n)
       (subst (λ (l : Lists). Stands l n (kind_at store₁.slabs.slabs n)) (sym q.lists.lists) (subst (λ (u : Uses). Stands store.slabs.lists n (kind_at u n)) (sym q.slabs)
-      (stands_now told runs faults region es store kept n on)))
+      (stands_now kept n on)))
       (same_full store.slabs.slabs store₁.slabs.slabs store.slabs.lists.full store₁.slabs.lists.full q.slabs (ap (λ (l : Lists). l.full) q.lists.lists) kept.follows.full) (q.lists.numbers ∙ kept.follows.numbers)
       (λ after. ap (λ (l : Lists). listed Partial n (kind_at store₁.slabs.slabs n) after l.partial) q.lists.lists)
       (λ after. ap (λ (l : Lists). listed Empty n (kind_at store₁.slabs.slabs n) after l.empty) q.lists.lists)
       (kind_is region.shape store.slabs.slabs first n region.served.shape kept.follows.shows ∙ ap (λ (u : Uses). kind_at u n) (sym q.slabs))
       (start_draws_are None (start_word region.config store₁.stream)) (subst (λ (x : Words). after_words store.stream (start_draws None (start_word region.config x)).used ≡ start_stream region.config x) (sym q.stream_same) (after_open region.config store.stream))
       q.quarantine_same q.lists.parking
-      ((allows_now told runs faults region es store kept).source n f.0) (no_canary (has_bytes region.shape)) refl
+      ((allows_now kept).source n f.0) (no_canary (has_bytes region.shape)) refl
       (λ a slab here answer picks. subst (λ (x : Words). IsSteppedEntry t (cells_of first store) (entry_of who (Allot asked 1) answer no_choices (start_draws None (start_word region.config x)) (meaning.faults begun) (meaning.faults now))) (sym q.stream_same)
       (stepped_open t (cells_of first store) first who asked a n (meaning.faults begun) (meaning.faults now) answer refl picks slab
       (subst (λ (x : Words). first_free region.shape first n (start_from region.config region.shape x) ≡ Some a) q.stream_same here) f.0))
@@ -182,20 +182,20 @@ module _ (told : Bool) (runs : PageRuns) (faults : ℕ) (region : Identity) (es 
       let t : Terms = terms_in told region in
       let q = f.1 in
       let cv : Option ℕ = canary_value canary in
-      let fresh = is_new told runs faults region es store kept n f.0.1 in
+      let fresh = is_new kept n f.0.1 in
       let s₁ : State = opened region.shape (Some n) cv first in
       let uses₁ : Uses = with_open (taken_uses (numbers_of region.shape) first.shut store.slabs.slabs) n (unwrap_or cv 0) in
-      let items : store₁.slabs.slabs ≡ uses₁ = then_items told runs faults region es store kept n cv f.0.1 store₁.slabs q.slabs in
+      let items : store₁.slabs.slabs ≡ uses₁ = then_items kept n cv f.0.1 store₁.slabs q.slabs in
       let shut : List ℕ = store.slabs.lists.retired in
-      let loose = loose_now told runs faults region es store kept n fresh.off in
-      let there : is_some (slab_in (taken_uses store.slabs.numbers shut store.slabs.slabs) n) ≡ true = (can_open told runs faults region es store kept meaning begun told_begun runs_begun n f.0.1).there in
-      let shows₁ : Shows region.shape uses₁ s₁ = opened_shows told runs faults region es store kept n cv f.0.1 in
+      let loose = loose_now kept n fresh.off in
+      let there : is_some (slab_in (taken_uses store.slabs.numbers shut store.slabs.slabs) n) ≡ true = (can_open kept meaning begun told_begun runs_begun n f.0.1).there in
+      let shows₁ : Shows region.shape uses₁ s₁ = opened_shows kept n cv f.0.1 in
       subst (λ (x : Choices). Ends (record { reply = e.reply; choices = x; draws = e.draws })) (sym v.1)
       (subst (λ (x : Draws). Ends (record { reply = e.reply; choices = chose_opened n canary; draws = x })) (sym v.2)
-      (kept_serve told runs faults region es store kept meaning mid now store₁ store' n Neither (chose_opened n canary) (start_draws canary (start_word region.config store₁.stream)) who asked (meaning.faults begun) (meaning.faults now)
+      (kept_serve kept meaning mid now store₁ store' n Neither (chose_opened n canary) (start_draws canary (start_word region.config store₁.stream)) who asked (meaning.faults begun) (meaning.faults now)
       tell asks is (omega (arith, same, q.later))
-      (subst (λ (u : Uses). IsServing u n) (sym items) (opened_serves told runs faults region es store kept n cv f.0.1)) fresh.below fresh.no_guard
-      (opened_open told runs faults region es store kept n cv f.0.1)
+      (subst (λ (u : Uses). IsServing u n) (sym items) (opened_serves kept n cv f.0.1)) fresh.below fresh.no_guard
+      (opened_open kept n cv f.0.1)
       (subst (λ (u : Uses). Shows region.shape u s₁) (sym items) shows₁)
       (λ y. subst (λ (r : PageRuns). HoldsSlabs region.shape s₁.opens r) (sym (q.made (told_begun ∙ y) ∙ ap (λ (r : PageRuns). made_runs region.shape n r) runs_begun)) (holds_made region.shape first.opens n (unwrap_or cv 0) runs region.served.shape (kept.slabs y)))
       (omega (arith, kept.follows.live_all, ap live_count items, live_opened (numbers_of region.shape) first.shut store.slabs.slabs n (unwrap_or cv 0) fresh.there, ap (λ (l : List (ℕ × ℕ)). length l) (opened_live region.shape (Some n) cv first)))

@@ -39,7 +39,7 @@ use Rattle.hm_class.proofs.Shown.{taken_is}
 use Rattle.hm_class.proofs.Taken.{kept_gives}
 
 -- slab n, which serves, was served from
-module _ (told : Bool) (runs : PageRuns) (faults : ℕ) (region : Identity) (es : List Entry) (store : Store)
+module _ {told : Bool} {runs : PageRuns} {faults : ℕ} {region : Identity} {es : List Entry} {store : Store}
     (kept : IsKept told runs faults region es store)
     {P : Type 0} (meaning : pages.Ghosts P) (mid now : P) (store₁ store' : Store) (n : ℕ) (kind₀ : Kind) (choices : Choices) (draws : Draws) (who : Who) (asked f f' : ℕ)
     (tell : IsTrue told → IsTrue (meaning.told mid)) (asks : raised asked ≤ class_size_of region.shape) (is : f ≡ faults) (later : f ≤ f')
@@ -81,7 +81,7 @@ module _ (told : Bool) (runs : PageRuns) (faults : ℕ) (region : Identity) (es 
         let slab : slab_of region.shape (place region.shape n i) ≡ n = slab_of_place region.shape n i region.served.shape lt in
         let here : first_free region.shape then n start ≡ Some (place region.shape n i) = picked region.shape store₁.slabs.slabs then n start i b shows serves.is_slab serves.on start_lt v.first in
         let untaken : is_taken then (place region.shape n i) ≡ false = taken_is region.shape store₁.slabs.slabs then n i shows lt ∙ ap (λ (o : Option SlotUse). option_map_or occupied o false) was ∙ free in
-        kept_gives told runs faults region es store kept meaning mid now store₁ store' n i kind₀ b choices draws who asked f f'
+        kept_gives kept meaning mid now store₁ store' n i kind₀ b choices draws who asked f f'
         tell asks is later lt serves.is_slab u was free on shows slabs live_all (ap (λ (l : Lists). l.retired) v.lists ∙ m.retired ∙ shut)
         (ap (λ (l : Lists). l.partial) v.lists ∙ m.partial ∙ partial after) (ap (λ (l : Lists). l.empty) v.lists ∙ m.empty ∙ empty after)
         (subst (λ (l : Lists). AreFull store'.slabs.slabs l.full) (sym v.lists) (placed_full store₁.slabs.slabs store'.slabs.slabs store₁.slabs.lists n before after stands full

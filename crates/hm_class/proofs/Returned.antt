@@ -60,7 +60,7 @@ kind_held all n i u v was same =
     (kind_set f.slab i u v f.is_use same ∙ ap (λ (o : Option SlabUse). option_map_or kind_of o Neither) (sym f.is_slab)) (λ m ne. refl)
 
 -- ---- the slot is held
-module _ (told : Bool) (runs : PageRuns) (faults : ℕ) (region : Identity) (es : List Entry) (store : Store)
+module _ {told : Bool} {runs : PageRuns} {faults : ℕ} {region : Identity} {es : List Entry} {store : Store}
     (kept : IsKept told runs faults region es store)
     {P : Type 0} (meaning : pages.Ghosts P) (begun half : P) (k₁ : Slabs) (a n i : ℕ) (told_is : meaning.told begun ≡ told) (runs_is : meaning.runs begun ≡ runs)
     (is : a ≡ place region.shape n i) (lt : i < region.shape.slots) (was : use_at store.slabs.slabs n i ≡ Some Live) (items : k₁.slabs ≡ with_use store.slabs.slabs n i Held)
@@ -81,7 +81,7 @@ module _ (told : Bool) (runs : PageRuns) (faults : ℕ) (region : Identity) (es 
       (subst (λ (u : Uses). Shows region.shape u (takes_back region.shape (place region.shape n i) first)) (sym items) (shows_held region.shape store.slabs.slabs first n i f.slab Live region.served.shape lt f.is_slab was kept.follows.shows refl))
 
   was_open : is_open first n ≡ true
-  was_open = live_open region.shape first n i region.served.shape (sound_now told runs faults region es store kept) lt (ap (λ (q : ℕ). is_live first q) (sym is) ∙ was_live)
+  was_open = live_open region.shape first n i region.served.shape (sound_now kept) lt (ap (λ (q : ℕ). is_live first q) (sym is) ∙ was_live)
 
   pub held_slabs : IsTrue told → HoldsSlabs region.shape taken.opens (meaning.runs half)
   held_slabs y = of (has_bytes region.shape) refl
@@ -99,14 +99,14 @@ module _ (told : Bool) (runs : PageRuns) (faults : ℕ) (region : Identity) (es 
           (holds_without region.shape first.opens taken.opens (meaning.runs begun) off (whole_write (bytes_of_slab region.shape) region.shape a w first.opens before.whole) before)
 
   pub held_sound : IsSound region.shape taken
-  held_sound = sound_takes_back region.shape first a (sound_now told runs faults region es store kept) was_live
+  held_sound = sound_takes_back region.shape first a (sound_now kept) was_live
 
   pub kind_then : (m : ℕ) → kind region.shape first m ≡ kind_at k₁.slabs m
   kind_then m = kind_is region.shape store.slabs.slabs first m region.served.shape kept.follows.shows ∙ sym (ap (λ (u : Uses). kind_at u m) items ∙ kind_held store.slabs.slabs n i Held Live was refl m)
 
   -- what leaves the store.quarantine
   pub release_now : Releases region.shape taken (let_go store.quarantine a (place_of_word region.shape (next_word store.stream)))
-  release_now = (allows_now told runs faults region es store kept).release a (place_of_word region.shape (next_word store.stream)) was_live (place_fits region.shape store.stream)
+  release_now = (allows_now kept).release a (place_of_word region.shape (next_word store.stream)) was_live (place_fits region.shape store.stream)
 
   -- the slot of what is released
   pub record IsReleased (b : ℕ) : Type 0 where
@@ -153,7 +153,7 @@ module _ (told : Bool) (runs : PageRuns) (faults : ℕ) (region : Identity) (es 
           below = r.below;
           on = sym (held_shows.opens (slab_of region.shape b)) ∙ r.open_slab;
           run = λ own y. slab_run region.shape taken.opens (slab_of region.shape b) (meaning.runs half) own r.open_slab (held_slabs (sym told_half ∙ y));
-          parking = ap (λ (l : List (Option ℕ)). length l) parking ∙ (kept_now told runs faults region es store kept).parking_length;
+          parking = ap (λ (l : List (Option ℕ)). length l) parking ∙ (kept_now kept).parking_length;
         };
       }
 

@@ -46,13 +46,13 @@ pub unopened_is : (p : Shape) (k : Slabs) (o : Option ℕ) → k.numbers ≡ num
 unopened_is p k o numbers e =
     ap (λ (q : Numbers). unopened_below q.limit k.lists.retired (length k.slabs)) (sym numbers) ∙ e
 
-module _ (told : Bool) (runs : PageRuns) (faults : ℕ) (region : Identity) (es : List Entry) (store : Store)
+module _ {told : Bool} {runs : PageRuns} {faults : ℕ} {region : Identity} {es : List Entry} {store : Store}
     (kept : IsKept told runs faults region es store) where
   abbrev now_is : State
   now_is = state (terms_in told region) es
 
   pub is_new : (n : ℕ) → new_of store.slabs ≡ Some n → IsNew region.shape store.slabs.slabs now_is n
-  is_new n e = new_slab_is region.shape store.slabs.slabs now_is n (sound_now told runs faults region es store kept) kept.follows.shows
+  is_new n e = new_slab_is region.shape store.slabs.slabs now_is n (sound_now kept) kept.follows.shows
       (ap (λ (l : List ℕ). unopened region.shape l now_is.next) (sym kept.follows.shut) ∙ ap (λ (m : ℕ). unopened region.shape store.slabs.lists.retired m) kept.follows.shows.next ∙ unopened_is region.shape store.slabs (Some n) kept.follows.numbers e)
 
   pub can_open : {P : Type 0} (meaning : pages.Ghosts P) (begun : P) → meaning.told begun ≡ told → meaning.runs begun ≡ runs → (n : ℕ) → new_of store.slabs ≡ Some n → CanOpen meaning region.shape store.slabs begun n
@@ -65,7 +65,7 @@ module _ (told : Bool) (runs : PageRuns) (faults : ℕ) (region : Identity) (es 
 
   -- ---- the open slab that serves
   pub serving : (n : ℕ) → front_of store.slabs ≡ Some n → IsServing store.slabs.slabs n
-  serving n e = source_serves region.shape store.slabs.slabs now_is n region.served.shape kept.follows.shows ((allows_now told runs faults region es store kept).source n e)
+  serving n e = source_serves region.shape store.slabs.slabs now_is n region.served.shape kept.follows.shows ((allows_now kept).source n e)
 
   pub serving_open : (n : ℕ) → front_of store.slabs ≡ Some n → is_open now_is n ≡ true
   serving_open n e = let r = serving n e in kept.follows.shows.opens n ∙ ap (λ (o : Option SlabUse). option_map_or (λ (b : SlabUse). b.opened) o false) r.is_slab ∙ r.on
@@ -91,7 +91,7 @@ module _ (told : Bool) (runs : PageRuns) (faults : ℕ) (region : Identity) (es 
 
     pub opened_free : (i : ℕ) → i < region.shape.slots → is_taken then (place region.shape n i) ≡ false
     opened_free i lt = taken_opened region.shape (Some n) canary now_is (place region.shape n i)
-        ∙ not_taken region.shape now_is n i region.served.shape (sound_now told runs faults region es store kept) (is_new n e).off lt
+        ∙ not_taken region.shape now_is n i region.served.shape (sound_now kept) (is_new n e).off lt
 
     opened_is : slab_in then_uses n ≡ Some (opened_slab (unwrap_or canary 0) slab_there.0)
     opened_is = slab_changed (taken_uses (numbers_of region.shape) now_is.shut store.slabs.slabs) n (opened_slab (unwrap_or canary 0)) slab_there.0 slab_there.1
@@ -116,7 +116,7 @@ module _ (told : Bool) (runs : PageRuns) (faults : ℕ) (region : Identity) (es 
   pub can_serve : {P : Type 0} (meaning : pages.Ghosts P) (begun mid : P) (store₁ : Store) (n : NextSlab) → Finds meaning store store₁ begun mid region.shape n → live_count store₁.slabs.slabs < 2 ^ 63 → CanServe region.shape store₁.slabs n
   can_serve meaning begun mid store₁ (next.Open n) f few =
       can_pick region.shape store₁.slabs store.slabs.slabs now_is n f.1.0.slabs
-      (open_place region.shape now_is n 0 (sound_now told runs faults region es store kept) (serving_open n f.0) (omega (arith, region.served.shape.slots_some))).below kept.follows.shows (serving n f.0) few
+      (open_place region.shape now_is n 0 (sound_now kept) (serving_open n f.0) (omega (arith, region.served.shape.slots_some))).below kept.follows.shows (serving n f.0) few
   can_serve meaning begun mid store₁ (next.New n canary) f few =
       can_pick region.shape store₁.slabs (then_uses n (canary_value canary) f.0.1) (then n (canary_value canary) f.0.1) n
       (then_items n (canary_value canary) f.0.1 store₁.slabs f.1.slabs) (is_new n f.0.1).below (opened_shows n (canary_value canary) f.0.1) (opened_serves n (canary_value canary) f.0.1) few

@@ -95,7 +95,7 @@ chosen_is released (emptied.Purged d) = refl
 clean_without : (p : Shape) (s : State) (a : ℕ) → has_bytes p ≡ false → wrong_canary p s a ≡ None
 clean_without p s a off = ap (λ (b : Bool). cond (b && not (found_canary p s a == kept_canary p s a)) (told_pair (kept_canary p s a) (found_canary p s a)) None) off
 
-module _ (told : Bool) (runs : PageRuns) (faults : ℕ) (region : Identity) (es : List Entry) (store : Store)
+module _ {told : Bool} {runs : PageRuns} {faults : ℕ} {region : Identity} {es : List Entry} {store : Store}
     (kept : IsKept told runs faults region es store)
     {P : Type 0} (meaning : pages.Ghosts P) (begun half now : P) (store₁ store' : Store) (a : ℕ) (slot : Slot) (stated : Option ℕ) (who : Who) (f f' : ℕ) (result : Option ℕ × Option ℕ)
     (told_is : meaning.told begun ≡ told) (runs_is : meaning.runs begun ≡ runs) (accepts : Accepts meaning region.shape store.slabs begun a stated slot)
@@ -117,7 +117,7 @@ module _ (told : Bool) (runs : PageRuns) (faults : ℕ) (region : Identity) (es 
       slabs = subst (λ (r : PageRuns). HoldsSlabs region.shape first.opens r) (sym runs_is) (kept.slabs y)
 
       on : is_open first slot.slab ≡ true
-      on = live_open region.shape first slot.slab slot.index region.served.shape (sound_now told runs faults region es store kept) accepts.judged.0.slot
+      on = live_open region.shape first slot.slab slot.index region.served.shape (sound_now kept) accepts.judged.0.slot
           (ap (λ (q : ℕ). is_live first q) (sym accepts.judged.0.is) ∙ (live_block region.shape store.slabs.slabs first a region.served.shape kept.follows.shows slot accepts.judged).live)
 
       of : (own : Bool) → has_bytes region.shape ≡ own → wrong_canary region.shape first a ≡ None
@@ -139,8 +139,8 @@ module _ (told : Bool) (runs : PageRuns) (faults : ℕ) (region : Identity) (es 
       let x : Entry = entry_freed region.shape store.stream who a stated released e f f' in
       let same : (freed_choices released e).released ≡ released = released_is released e in
       let release : Releases region.shape taken released = subst (λ (o : Option ℕ). Releases region.shape taken o) (sym let_is)
-      (release_now told runs faults region es store kept meaning begun half store₁.slabs a slot.slab slot.index told_is runs_is accepts.judged.0.is accepts.judged.0.slot accepts.judged.1 holds.slabs holds.cleared) in
-      pushed told runs faults region es store kept (meaning.runs now) f' store' x
+      (release_now kept meaning begun half store₁.slabs a slot.slab slot.index told_is runs_is accepts.judged.0.is accepts.judged.0.slot accepts.judged.1 holds.slabs holds.cleared) in
+      pushed kept (meaning.runs now) f' store' x
       (allowed_of t first who (GiveBack a stated) reply.Freed (freed_choices released e) (freed_draws (array_word region.shape (next_word store.stream)) e) f f' (draws_are region.shape store.stream e) tt (is ∙ kept.count) later (record {
         block = live_block region.shape store.slabs.slabs first a region.served.shape kept.follows.shows slot accepts.judged;
         size = accepts.size;
@@ -164,16 +164,16 @@ module _ (told : Bool) (runs : PageRuns) (faults : ℕ) (region : Identity) (es 
 
   -- the slots with the freed one held
   shows₁ : Shows region.shape store₁.slabs.slabs taken
-  shows₁ = held_shows told runs faults region es store kept meaning begun half store₁.slabs a slot.slab slot.index told_is runs_is accepts.judged.0.is accepts.judged.0.slot accepts.judged.1 holds.slabs holds.cleared
+  shows₁ = held_shows kept meaning begun half store₁.slabs a slot.slab slot.index told_is runs_is accepts.judged.0.is accepts.judged.0.slot accepts.judged.1 holds.slabs holds.cleared
 
   slabs₁ : IsTrue told → HoldsSlabs region.shape taken.opens (meaning.runs half)
-  slabs₁ = held_slabs told runs faults region es store kept meaning begun half store₁.slabs a slot.slab slot.index told_is runs_is accepts.judged.0.is accepts.judged.0.slot accepts.judged.1 holds.slabs holds.cleared
+  slabs₁ = held_slabs kept meaning begun half store₁.slabs a slot.slab slot.index told_is runs_is accepts.judged.0.is accepts.judged.0.slot accepts.judged.1 holds.slabs holds.cleared
 
   kind₁ : (m : ℕ) → kind region.shape first m ≡ kind_at store₁.slabs.slabs m
-  kind₁ = kind_then told runs faults region es store kept meaning begun half store₁.slabs a slot.slab slot.index told_is runs_is accepts.judged.0.is accepts.judged.0.slot accepts.judged.1 holds.slabs holds.cleared
+  kind₁ = kind_then kept meaning begun half store₁.slabs a slot.slab slot.index told_is runs_is accepts.judged.0.is accepts.judged.0.slot accepts.judged.1 holds.slabs holds.cleared
 
   live : is_live first a ≡ true
-  live = was_live told runs faults region es store kept meaning begun half store₁.slabs a slot.slab slot.index told_is runs_is accepts.judged.0.is accepts.judged.0.slot accepts.judged.1 holds.slabs holds.cleared
+  live = was_live kept meaning begun half store₁.slabs a slot.slab slot.index told_is runs_is accepts.judged.0.is accepts.judged.0.slot accepts.judged.1 holds.slabs holds.cleared
 
   live_taken : length taken.live ≤ live_count store₁.slabs.slabs
   live_taken = omega (arith, kept.follows.live_all, ap live_count holds.slabs, counted lives store.slabs.slabs slot.slab slot.index Held Live accepts.judged.1, length_taken a first.live live)
@@ -224,10 +224,10 @@ module _ (told : Bool) (runs : PageRuns) (faults : ℕ) (region : Identity) (es 
 
     release : Releases region.shape taken (Some b)
     release = subst (λ (o : Option ℕ). Releases region.shape taken o) (sym let_is)
-        (release_now told runs faults region es store kept meaning begun half store₁.slabs a slot.slab slot.index told_is runs_is accepts.judged.0.is accepts.judged.0.slot accepts.judged.1 holds.slabs holds.cleared)
+        (release_now kept meaning begun half store₁.slabs a slot.slab slot.index told_is runs_is accepts.judged.0.is accepts.judged.0.slot accepts.judged.1 holds.slabs holds.cleared)
 
-    place_b : IsReleased told runs faults region es store kept meaning begun half store₁.slabs a slot.slab slot.index told_is runs_is accepts.judged.0.is accepts.judged.0.slot accepts.judged.1 holds.slabs holds.cleared b
-    place_b = is_released told runs faults region es store kept meaning begun half store₁.slabs a slot.slab slot.index told_is runs_is accepts.judged.0.is accepts.judged.0.slot accepts.judged.1 holds.slabs holds.cleared b release.0
+    place_b : IsReleased kept meaning begun half store₁.slabs a slot.slab slot.index told_is runs_is accepts.judged.0.is accepts.judged.0.slot accepts.judged.1 holds.slabs holds.cleared b
+    place_b = is_released kept meaning begun half store₁.slabs a slot.slab slot.index told_is runs_is accepts.judged.0.is accepts.judged.0.slot accepts.judged.1 holds.slabs holds.cleared b release.0
 
     shows₂ : Shows region.shape uses₂ freed
     shows₂ =
@@ -242,11 +242,11 @@ module _ (told : Bool) (runs : PageRuns) (faults : ℕ) (region : Identity) (es 
         ∙ of (is_empty region.shape freed m) refl
       where
         now_kept : AreKept t first (cells_of first store)
-        now_kept = kept_now told runs faults region es store kept
+        now_kept = kept_now kept
 
         of : (x : Bool) → is_empty region.shape freed m ≡ x → (x && nat_lt 131072 ((length store₁.slabs.lists.empty + 1) * region.shape.slab)) ≡ (x && nat_lt 131072 (length (empty_slabs region.shape freed) * region.shape.slab))
         of true e = ap (λ (n : ℕ). nat_lt 131072 (n * region.shape.slab))
-            (omega (arith, one_more_empty region.shape first a b region.served.shape (sound_now told runs faults region es store kept) live release e, now_kept.empty_count, ap (λ (l : Lists). length l.empty) holds.lists.lists))
+            (omega (arith, one_more_empty region.shape first a b region.served.shape (sound_now kept) live release e, now_kept.empty_count, ap (λ (l : Lists). length l.empty) holds.lists.lists))
         of false e = refl
 
     surplus_when : (x : Bool) → is_surplus region.shape uses₂ (length store₁.slabs.lists.empty) m ≡ x → surplus region.shape freed (Some b) ≡ cond x (Some m) None
@@ -257,7 +257,7 @@ module _ (told : Bool) (runs : PageRuns) (faults : ℕ) (region : Identity) (es 
 
     -- where the slab stands
     stands : Stands store.slabs.lists m (kind_at store₁.slabs.slabs m)
-    stands = subst (λ (x : Kind). Stands store.slabs.lists m x) (same_kind₁ m) (stands_now told runs faults region es store kept m (sym (open₁ m) ∙ place_b.open_slab))
+    stands = subst (λ (x : Kind). Stands store.slabs.lists m x) (same_kind₁ m) (stands_now kept m (sym (open₁ m) ∙ place_b.open_slab))
 
     -- the slabs before the lists follow
     module _ (mid : Slabs) (mid_slabs : mid.slabs ≡ uses₂) (mid_lists : SameLists store₁.slabs mid) where
@@ -360,13 +360,13 @@ module _ (told : Bool) (runs : PageRuns) (faults : ℕ) (region : Identity) (es 
             let r = place_b in
             let g = found uses₂ m (slot_of region.shape b) Free (freed_use store₁.slabs.slabs m (slot_of region.shape b) r.used) in
             let length_is : length mid.parking ≡ region.config.park_length =
-            ap (λ (l : List (Option ℕ)). length l) places ∙ (kept_now told runs faults region es store kept).parking_length in
+            ap (λ (l : List (Option ℕ)). length l) places ∙ (kept_now kept).parking_length in
             let some : 0 < region.config.park_length = omega (arith, region.served.valid.park_some) in
             let word_low : w < 2 ^ 32 = subst (λ (x : ℕ). x < 2 ^ 32) (sym j.word_is) (next_below store₁.stream) in
             let here : u ≡ slice_index_or store.slabs.parking (drawn region.config.park_length w) None =
             j.unparked_is ∙ ap (λ (x : ℕ). slice_index_or mid.parking (drawn x w) None) length_is ∙ ap (λ (l : List (Option ℕ)). slice_index_or l (drawn region.config.park_length w) None) places in
             let allowed : Unparks region.config.park_length first.parked u = subst (λ (o : Option ℕ). Unparks region.config.park_length first.parked o) (sym here)
-            ((allows_now told runs faults region es store kept).unparked (drawn region.config.park_length w) (drawn_below region.config.park_length w some word_low)) in
+            ((allows_now kept).unparked (drawn region.config.park_length w) (drawn_below region.config.park_length w some word_low)) in
             let s₃ : State = unparks u freed in
             let shows₃ : Shows region.shape uses₂ s₃ = shows_unparked region.shape uses₂ freed u (was_parked region.config.park_length first.parked u allowed) shows₂ in
             let slabs : store'.slabs.slabs ≡ with_shut uses₂ m = parked_slabs mid v.slabs v.lists w u j.parks j.unparked_is in

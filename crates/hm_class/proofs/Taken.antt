@@ -100,7 +100,7 @@ more_live : (all all' : Uses) (n i : ℕ) (u v : SlotUse) → use_at all n i ≡
 more_live all all' n i u v was items = omega (arith, ap live_count items, counted lives all n i u v was)
 
 -- ---- a slot of slab n is given, or condemned
-module _ (told : Bool) (runs : PageRuns) (faults : ℕ) (region : Identity) (es : List Entry) (store : Store)
+module _ {told : Bool} {runs : PageRuns} {faults : ℕ} {region : Identity} {es : List Entry} {store : Store}
     (kept : IsKept told runs faults region es store)
     {P : Type 0} (meaning : pages.Ghosts P) (mid now : P) (store₁ store' : Store) (n i : ℕ) (kind₀ : Kind) (b : SlabUse) (choices : Choices) (draws : Draws) (who : Who) (asked f f' : ℕ)
     (tell : IsTrue told → IsTrue (meaning.told mid)) (asks : raised asked ≤ class_size_of region.shape) (is : f ≡ faults) (later : f ≤ f')
@@ -133,7 +133,7 @@ module _ (told : Bool) (runs : PageRuns) (faults : ℕ) (region : Identity) (es 
         let shows' : Shows region.shape store'.slabs.slabs (record (gives region.shape q asked then) { faults = f' }) = shows_count region.shape store'.slabs.slabs (gives region.shape q asked then) f'
         (subst (λ (u : Uses). Shows region.shape u (gives region.shape q asked then)) (sym g.slabs) (shows_given region.shape store₁.slabs.slabs then n i b v region.served.shape lt is_slab was shows asked free)) in
         subst (λ (x : ℕ). IsKept told (meaning.runs now) f' region (es ++ entry_of who (Allot asked 1) (reply.Given x size) choices draws f f' ∷ []) store') (sym g.addr_is)
-        (pushed told runs faults region es store kept (meaning.runs now) f' store' e
+        (pushed kept (meaning.runs now) f' store' e
         (allowed_of t (state t es) who (Allot asked 1) (reply.Given q size) choices draws f f' are (asks, refl) (is ∙ kept.count) later
         (picks, g.size_is, λ y. ap (λ (x : ℕ). reuse_finds region.config region.shape then x) (sym g.addr_is) ∙ found_told meaning region.shape store₁.slabs.slabs then n i mid now told tell region.served.shape on lt shows slabs region.config a None g.addr_is g.clean y))
         (stepped (reply.Given q size) refl) refl
@@ -157,7 +157,7 @@ module _ (told : Bool) (runs : PageRuns) (faults : ℕ) (region : Identity) (es 
         let shows' : Shows region.shape store'.slabs.slabs (record (condemns q then) { faults = f' }) = shows_count region.shape store'.slabs.slabs (condemns q then) f'
         (subst (λ (u : Uses). Shows region.shape u (condemns q then)) (sym items) (shows_condemned region.shape store₁.slabs.slabs then n i b v region.served.shape lt is_slab was shows free)) in
         subst (λ (x : ℕ). IsKept told (meaning.runs now) f' region (es ++ entry_of who (Allot asked 1) (reply.Overwritten x at found) choices draws f f' ∷ []) store') (sym g.addr_is)
-        (pushed told runs faults region es store kept (meaning.runs now) f' store' e
+        (pushed kept (meaning.runs now) f' store' e
         (allowed_of t (state t es) who (Allot asked 1) (reply.Overwritten q at found) choices draws f f' are (asks, refl) (is ∙ kept.count) later (
           picks,
           is_checked meaning region.shape store₁.slabs.slabs then n i mid now told tell region.served.shape on lt shows slabs region.config a (at, found) g.stained,

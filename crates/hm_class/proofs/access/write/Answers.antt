@@ -20,8 +20,8 @@ loop-byte-preserved g c =
     let left : c.loop-byte.at + (run.1 + total rest) ≡ c.args.addr + total pairs = ap (λ (l : List (ℕ × ℕ)). c.loop-byte.at + total l) (sym split) ∙ c.loop-byte.invariant.left in record {
       later = omega (arith, c.loop-byte.invariant.later);
       left = omega (arith, left);
-      told = c.write_run.ensures.told ∙ c.loop-byte.invariant.told;
-      count = c.write_run.ensures.count ∙ c.loop-byte.invariant.count;
+      told = c.write_run.ensures.pages.told ∙ c.loop-byte.invariant.told;
+      count = c.write_run.ensures.pages.count ∙ c.loop-byte.invariant.count;
       written = λ told s h have.
           (let before = c.loop-byte.invariant.written told s h have in
           let w : List ℕ = before.0 in
@@ -36,9 +36,12 @@ loop-byte-preserved g c =
           ));
     }
 
-pub returns-clause-written : goal.returns-clause-written
-returns-clause-written g c = λ told s h have.
-    (let last = c.loop-byte.invariant.written told s h have in
-    let none : drop c.loop-byte.byte-index c.args.pairs.now ≡ [] = drop_all c.loop-byte.byte-index c.args.pairs.now (omega (arith, c.loop-byte-test.false)) in
-    subst (λ (l : List ℕ). HoldsSlabs c.args.identity.now.shape (write c.args.identity.now.shape c.args.addr l s).opens (g.P.Pages.runs c.loop-byte.pages))
-    (sym (append-nil last.0) ∙ ap (λ (l : List (ℕ × ℕ)). last.0 ++ expand l) (sym none) ∙ last.1) last.3)
+pub returns : goal.returns
+returns g c = record {
+  pages = record { told = c.loop-byte.invariant.told; count = c.loop-byte.invariant.count };
+  written = λ told s h have.
+      (let last = c.loop-byte.invariant.written told s h have in
+      let none : drop c.loop-byte.byte-index c.args.pairs.now ≡ [] = drop_all c.loop-byte.byte-index c.args.pairs.now (omega (arith, c.loop-byte-test.false)) in
+      subst (λ (l : List ℕ). HoldsSlabs c.args.identity.now.shape (write c.args.identity.now.shape c.args.addr l s).opens (g.P.Pages.runs c.loop-byte.pages))
+      (sym (append-nil last.0) ∙ ap (λ (l : List (ℕ × ℕ)). last.0 ++ expand l) (sym none) ∙ last.1) last.3);
+}

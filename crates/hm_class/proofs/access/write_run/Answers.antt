@@ -24,7 +24,10 @@ loop-at-preserved g c =
           (c.loop-at.invariant.written told s h have) (c.put_byte.ensures.written (c.loop-at.invariant.told ∙ told)));
     }
 
-pub returns-clause-written : goal.returns-clause-written
-returns-clause-written g c = λ told s h have.
-    subst (λ (n : ℕ). HoldsSlabs c.args.identity.now.shape (write c.args.identity.now.shape c.args.addr (replicate n c.args.byte) s).opens (g.P.Pages.runs c.loop-at.pages))
-    (omega (arith, c.loop-at.invariant.later, c.loop-at.invariant.within, c.loop-at-test.false)) (c.loop-at.invariant.written told s h have)
+pub returns : goal.returns
+returns g c = record {
+  pages = record { told = c.loop-at.invariant.told; count = c.loop-at.invariant.count };
+  written = λ told s h have.
+      subst (λ (n : ℕ). HoldsSlabs c.args.identity.now.shape (write c.args.identity.now.shape c.args.addr (replicate n c.args.byte) s).opens (g.P.Pages.runs c.loop-at.pages))
+      (omega (arith, c.loop-at.invariant.later, c.loop-at.invariant.within, c.loop-at-test.false)) (c.loop-at.invariant.written told s h have);
+}
