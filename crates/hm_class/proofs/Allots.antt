@@ -34,7 +34,7 @@ use Rattle.hm_class.specs.Region.{HoldsSlabs}
 use Rattle.hm_class.specs.declared.identity.Identity.{Identity}
 use Rattle.hm_class.specs.declared.store.Store.{Store}
 use Rattle.hm_class.specs.Kept.{Shows, AreFull, IsKept, terms_in, cells_of}
-use Rattle.hm_class.proofs.Allotted.{kept_serve}
+use Rattle.hm_class.proofs.Allotted.{IsToServe, kept_serve}
 use Rattle.hm_class.proofs.Drawn.{stepped_open, stepped_new, after_open, after_new, start_draws_are}
 use Rattle.hm_class.proofs.Filing.{Stands, still_shut, same_full, opened_partial, opened_empty, opened_shut, opened_stands, opened_then_partial, opened_then_empty, opened_are_full}
 use Rattle.hm_class.proofs.Followed.{shows_count}
@@ -158,26 +158,38 @@ module _ {told : Bool} {runs : PageRuns} {faults : ℕ} {region : Identity} {es 
       let at = open_place region.shape first n 0 (sound_now kept) on (omega (arith, region.served.shape.slots_some)) in
       subst (λ (x : Choices). Ends (record { reply = e.reply; choices = x; draws = e.draws })) (sym v.1)
       (subst (λ (x : Draws). Ends (record { reply = e.reply; choices = no_choices; draws = x })) (sym v.2)
-      (kept_serve kept meaning mid now store₁ store' n (kind_at store₁.slabs.slabs n) no_choices (start_draws None (start_word region.config store₁.stream)) who asked (meaning.faults begun) (meaning.faults now)
-      tell asks is (omega (arith, same, f.1.1))
-      (subst (λ (u : Uses). IsServing u n) (sym q.slabs) (serving kept n f.0)) at.below at.no_guard on
-      (subst (λ (u : Uses). Shows region.shape u first) (sym q.slabs) kept.follows.shows)
-      (λ y. subst (λ (r : PageRuns). HoldsSlabs region.shape first.opens r) (sym (runs_as mid q.runs_same y)) (kept.slabs y))
-      (omega (arith, kept.follows.live_all, ap live_count q.slabs))
-      (ap (λ (l : Lists). l.retired) q.lists.lists ∙ kept.follows.shut) (kind_at store₁.slabs.slabs n)
-      (subst (λ (l : Lists). Stands l n (kind_at store₁.slabs.slabs n)) (sym q.lists.lists) (subst (λ (u : Uses). Stands store.slabs.lists n (kind_at u n)) (sym q.slabs)
-      (stands_now kept n on)))
-      (same_full store.slabs.slabs store₁.slabs.slabs store.slabs.lists.full store₁.slabs.lists.full q.slabs (ap (λ (l : Lists). l.full) q.lists.lists) kept.follows.full) (q.lists.numbers ∙ kept.follows.numbers)
-      (λ after. ap (λ (l : Lists). listed Partial n (kind_at store₁.slabs.slabs n) after l.partial) q.lists.lists)
-      (λ after. ap (λ (l : Lists). listed Empty n (kind_at store₁.slabs.slabs n) after l.empty) q.lists.lists)
-      (kind_is region.shape store.slabs.slabs first n region.served.shape kept.follows.shows ∙ ap (λ (u : Uses). kind_at u n) (sym q.slabs))
-      (start_draws_are None (start_word region.config store₁.stream)) (subst (λ (x : Words). after_words store.stream (start_draws None (start_word region.config x)).used ≡ start_stream region.config x) (sym q.stream_same) (after_open region.config store.stream))
-      q.quarantine_same q.lists.parking
-      ((allows_now kept).source n f.0) (no_canary (has_bytes region.shape)) refl
-      (λ a slab here answer picks. subst (λ (x : Words). IsSteppedEntry t (cells_of first store) (entry_of who (Allot asked 1) answer no_choices (start_draws None (start_word region.config x)) (meaning.faults begun) (meaning.faults now))) (sym q.stream_same)
-      (stepped_open t (cells_of first store) first who asked a n (meaning.faults begun) (meaning.faults now) answer refl picks slab
-      (subst (λ (x : Words). first_free region.shape first n (start_from region.config region.shape x) ≡ Some a) q.stream_same here) f.0))
-      e.reply v.0))
+      (let ready : IsToServe meaning told faults region es store mid now store₁ store' n (kind_at store₁.slabs.slabs n) no_choices (start_draws None (start_word region.config store₁.stream)) who asked (meaning.faults begun) (meaning.faults now) (kind_at store₁.slabs.slabs n) = record {
+        tell = tell;
+        asks = asks;
+        is = is;
+        later = (omega (arith, same, f.1.1));
+        serves = (subst (λ (u : Uses). IsServing u n) (sym q.slabs) (serving kept n f.0));
+        below = at.below;
+        no_guard = at.no_guard;
+        on = on;
+        shows = (subst (λ (u : Uses). Shows region.shape u first) (sym q.slabs) kept.follows.shows);
+        slabs = (λ y. subst (λ (r : PageRuns). HoldsSlabs region.shape first.opens r) (sym (runs_as mid q.runs_same y)) (kept.slabs y));
+        live_all = (omega (arith, kept.follows.live_all, ap live_count q.slabs));
+        shut = (ap (λ (l : Lists). l.retired) q.lists.lists ∙ kept.follows.shut);
+        stands = (subst (λ (l : Lists). Stands l n (kind_at store₁.slabs.slabs n)) (sym q.lists.lists) (subst (λ (u : Uses). Stands store.slabs.lists n (kind_at u n)) (sym q.slabs)
+            (stands_now kept n on)));
+        full = (same_full store.slabs.slabs store₁.slabs.slabs store.slabs.lists.full store₁.slabs.lists.full q.slabs (ap (λ (l : Lists). l.full) q.lists.lists) kept.follows.full);
+        numbers = (q.lists.numbers ∙ kept.follows.numbers);
+        partial = (λ after. ap (λ (l : Lists). listed Partial n (kind_at store₁.slabs.slabs n) after l.partial) q.lists.lists);
+        empty = (λ after. ap (λ (l : Lists). listed Empty n (kind_at store₁.slabs.slabs n) after l.empty) q.lists.lists);
+        was_kind = (kind_is region.shape store.slabs.slabs first n region.served.shape kept.follows.shows ∙ ap (λ (u : Uses). kind_at u n) (sym q.slabs));
+        are = (start_draws_are None (start_word region.config store₁.stream));
+        taken = (subst (λ (x : Words). after_words store.stream (start_draws None (start_word region.config x)).used ≡ start_stream region.config x) (sym q.stream_same) (after_open region.config store.stream));
+        quarantine = q.quarantine_same;
+        places = q.lists.parking;
+        source = ((allows_now kept).source n f.0);
+        has_canary = (no_canary (has_bytes region.shape));
+        chosen = refl;
+        stepped = (λ a slab here answer picks. subst (λ (x : Words). IsSteppedEntry t (cells_of first store) (entry_of who (Allot asked 1) answer no_choices (start_draws None (start_word region.config x)) (meaning.faults begun) (meaning.faults now))) (sym q.stream_same)
+            (stepped_open t (cells_of first store) first who asked a n (meaning.faults begun) (meaning.faults now) answer refl picks slab
+            (subst (λ (x : Words). first_free region.shape first n (start_from region.config region.shape x) ≡ Some a) q.stream_same here) f.0));
+      } in
+      kept_serve kept ready e.reply v.0))
   kept_allotted (next.New n canary) e f v =
       let t : Terms = terms_in told region in
       let q = f.1 in
@@ -192,34 +204,42 @@ module _ {told : Bool} {runs : PageRuns} {faults : ℕ} {region : Identity} {es 
       let shows₁ : Shows region.shape uses₁ s₁ = opened_shows kept n cv f.0.1 in
       subst (λ (x : Choices). Ends (record { reply = e.reply; choices = x; draws = e.draws })) (sym v.1)
       (subst (λ (x : Draws). Ends (record { reply = e.reply; choices = chose_opened n canary; draws = x })) (sym v.2)
-      (kept_serve kept meaning mid now store₁ store' n Neither (chose_opened n canary) (start_draws canary (start_word region.config store₁.stream)) who asked (meaning.faults begun) (meaning.faults now)
-      tell asks is (omega (arith, same, q.later))
-      (subst (λ (u : Uses). IsServing u n) (sym items) (opened_serves kept n cv f.0.1)) fresh.below fresh.no_guard
-      (opened_open kept n cv f.0.1)
-      (subst (λ (u : Uses). Shows region.shape u s₁) (sym items) shows₁)
-      (λ y. subst (λ (r : PageRuns). HoldsSlabs region.shape s₁.opens r) (sym (q.made (told_begun ∙ y) ∙ ap (λ (r : PageRuns). made_runs region.shape n r) runs_begun)) (holds_made region.shape first.opens n (unwrap_or cv 0) runs region.served.shape (kept.slabs y)))
-      (omega (arith, kept.follows.live_all, ap live_count items, live_opened (numbers_of region.shape) first.shut store.slabs.slabs n (unwrap_or cv 0) fresh.there, ap (λ (l : List (ℕ × ℕ)). length l) (opened_live region.shape (Some n) cv first)))
-      (ap (λ (l : Lists). l.retired) q.lists ∙ opened_shut store.slabs.lists n loose shut refl (first_is_shut store.slabs.numbers.limit (length store.slabs.slabs) n shut f.0.1)
-      ∙ ap (λ (l : List ℕ). still_shut l) kept.follows.shut ∙ shut_after region.shape first) Empty
-      (subst (λ (l : Lists). Stands l n Empty) (sym q.lists) (opened_stands store.slabs.lists n loose shut (λ e. e)))
-      (subst (λ (l : Lists). AreFull store₁.slabs.slabs l.full) (sym q.lists) (opened_are_full store.slabs.slabs store₁.slabs.slabs store.slabs.lists n shut loose kept.follows.full
-      (λ m ne. ap (λ (u : Uses). slab_in u m) q.slabs ∙ opened_beside store.slabs.numbers shut store.slabs.slabs n (unwrap_or cv 0) m f.0.1 there ne)))
-      (q.numbers ∙ kept.follows.numbers)
-      (λ after. ap (λ (l : Lists). listed Partial n Empty after l.partial) q.lists ∙ ap (λ (l : List ℕ). listed Partial n Empty after l) (opened_partial store.slabs.lists n loose shut)
-      ∙ opened_then_partial n after store.slabs.lists.partial)
-      (λ after. ap (λ (l : Lists). listed Empty n Empty after l.empty) q.lists ∙ ap (λ (l : List ℕ). listed Empty n Empty after l) (opened_empty store.slabs.lists n loose shut)
-      ∙ opened_then_empty n after store.slabs.lists.empty loose.empty)
-      (kind_shut region.shape first n region.served.shape fresh.off)
-      (start_draws_are canary (start_word region.config store₁.stream))
-      (subst (λ (x : Words). after_words store.stream (start_draws canary (start_word region.config x)).used ≡ start_stream region.config x) (sym q.stream_is)
-      (subst (λ (x : Option Canary). after_words store.stream (start_draws x (start_word region.config (canary_stream region.shape store.stream))).used ≡ start_stream region.config (canary_stream region.shape store.stream)) (sym q.canary_is) (after_new region.config region.shape store.stream)))
-      q.quarantine_same q.parking
-      (refl, none_serves f.0.0, next_new (Some n) f.0.1)
-      (ap (λ (x : Option Canary). is_some (canary_value x)) q.canary_is ∙ canary_there region.shape store.stream) refl
-      (λ a slab here answer picks.
-      subst (λ (x : Words). IsSteppedEntry t (cells_of first store) (entry_of who (Allot asked 1) answer (chose_opened n canary) (start_draws canary (start_word region.config x)) (meaning.faults begun) (meaning.faults now))) (sym q.stream_is)
-      (subst (λ (x : Option Canary). IsSteppedEntry t (cells_of first store) (entry_of who (Allot asked 1) answer (chose_opened n x) (start_draws x (start_word region.config (canary_stream region.shape store.stream))) (meaning.faults begun) (meaning.faults now))) (sym q.canary_is)
-      (stepped_new t (cells_of first store) first who asked a n (meaning.faults begun) (meaning.faults now) answer refl picks slab
-      (subst (λ (x : Option Canary). first_free region.shape (opened region.shape (Some n) (canary_value x) first) n (start_from region.config region.shape (canary_stream region.shape store.stream)) ≡ Some a) q.canary_is
-      (subst (λ (x : Words). first_free region.shape s₁ n (start_from region.config region.shape x) ≡ Some a) q.stream_is here)))))
-      e.reply v.0))
+      (let ready : IsToServe meaning told faults region es store mid now store₁ store' n Neither (chose_opened n canary) (start_draws canary (start_word region.config store₁.stream)) who asked (meaning.faults begun) (meaning.faults now) Empty = record {
+        tell = tell;
+        asks = asks;
+        is = is;
+        later = (omega (arith, same, q.later));
+        serves = (subst (λ (u : Uses). IsServing u n) (sym items) (opened_serves kept n cv f.0.1));
+        below = fresh.below;
+        no_guard = fresh.no_guard;
+        on = (opened_open kept n cv f.0.1);
+        shows = (subst (λ (u : Uses). Shows region.shape u s₁) (sym items) shows₁);
+        slabs = (λ y. subst (λ (r : PageRuns). HoldsSlabs region.shape s₁.opens r) (sym (q.made (told_begun ∙ y) ∙ ap (λ (r : PageRuns). made_runs region.shape n r) runs_begun)) (holds_made region.shape first.opens n (unwrap_or cv 0) runs region.served.shape (kept.slabs y)));
+        live_all = (omega (arith, kept.follows.live_all, ap live_count items, live_opened (numbers_of region.shape) first.shut store.slabs.slabs n (unwrap_or cv 0) fresh.there, ap (λ (l : List (ℕ × ℕ)). length l) (opened_live region.shape (Some n) cv first)));
+        shut = (ap (λ (l : Lists). l.retired) q.lists ∙ opened_shut store.slabs.lists n loose shut refl (first_is_shut store.slabs.numbers.limit (length store.slabs.slabs) n shut f.0.1)
+            ∙ ap (λ (l : List ℕ). still_shut l) kept.follows.shut ∙ shut_after region.shape first);
+        stands = (subst (λ (l : Lists). Stands l n Empty) (sym q.lists) (opened_stands store.slabs.lists n loose shut (λ e. e)));
+        full = (subst (λ (l : Lists). AreFull store₁.slabs.slabs l.full) (sym q.lists) (opened_are_full store.slabs.slabs store₁.slabs.slabs store.slabs.lists n shut loose kept.follows.full
+            (λ m ne. ap (λ (u : Uses). slab_in u m) q.slabs ∙ opened_beside store.slabs.numbers shut store.slabs.slabs n (unwrap_or cv 0) m f.0.1 there ne)));
+        numbers = (q.numbers ∙ kept.follows.numbers);
+        partial = (λ after. ap (λ (l : Lists). listed Partial n Empty after l.partial) q.lists ∙ ap (λ (l : List ℕ). listed Partial n Empty after l) (opened_partial store.slabs.lists n loose shut)
+            ∙ opened_then_partial n after store.slabs.lists.partial);
+        empty = (λ after. ap (λ (l : Lists). listed Empty n Empty after l.empty) q.lists ∙ ap (λ (l : List ℕ). listed Empty n Empty after l) (opened_empty store.slabs.lists n loose shut)
+            ∙ opened_then_empty n after store.slabs.lists.empty loose.empty);
+        was_kind = (kind_shut region.shape first n region.served.shape fresh.off);
+        are = (start_draws_are canary (start_word region.config store₁.stream));
+        taken = (subst (λ (x : Words). after_words store.stream (start_draws canary (start_word region.config x)).used ≡ start_stream region.config x) (sym q.stream_is)
+            (subst (λ (x : Option Canary). after_words store.stream (start_draws x (start_word region.config (canary_stream region.shape store.stream))).used ≡ start_stream region.config (canary_stream region.shape store.stream)) (sym q.canary_is) (after_new region.config region.shape store.stream)));
+        quarantine = q.quarantine_same;
+        places = q.parking;
+        source = (refl, none_serves f.0.0, next_new (Some n) f.0.1);
+        has_canary = (ap (λ (x : Option Canary). is_some (canary_value x)) q.canary_is ∙ canary_there region.shape store.stream);
+        chosen = refl;
+        stepped = (λ a slab here answer picks.
+            subst (λ (x : Words). IsSteppedEntry t (cells_of first store) (entry_of who (Allot asked 1) answer (chose_opened n canary) (start_draws canary (start_word region.config x)) (meaning.faults begun) (meaning.faults now))) (sym q.stream_is)
+            (subst (λ (x : Option Canary). IsSteppedEntry t (cells_of first store) (entry_of who (Allot asked 1) answer (chose_opened n x) (start_draws x (start_word region.config (canary_stream region.shape store.stream))) (meaning.faults begun) (meaning.faults now))) (sym q.canary_is)
+            (stepped_new t (cells_of first store) first who asked a n (meaning.faults begun) (meaning.faults now) answer refl picks slab
+            (subst (λ (x : Option Canary). first_free region.shape (opened region.shape (Some n) (canary_value x) first) n (start_from region.config region.shape (canary_stream region.shape store.stream)) ≡ Some a) q.canary_is
+            (subst (λ (x : Words). first_free region.shape s₁ n (start_from region.config region.shape x) ≡ Some a) q.stream_is here)))));
+      } in
+      kept_serve kept ready e.reply v.0))

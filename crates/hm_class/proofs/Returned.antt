@@ -21,9 +21,10 @@ use Rattle.hm_class_rules.specs.Rules.{Releases, state}
 use Rattle.hm_class_rules.proofs.Sound.{sound_takes_back}
 use Rattle.hm_class_rules.proofs.Whole.{whole_write}
 use Rattle.hm_slab_meta.specs.Uses.{SlotUse, Never, Free, Live, Held, Condemned, is_available}
-use Rattle.hm_class.specs.Slabs.{Slabs}
+use Rattle.hm_class.specs.declared.slabs.Slot.{Slot}
+use Rattle.hm_class.specs.Sources.{IsLiveAt}
 use Rattle.hm_class.specs.Uses.{Uses, SlabUse, lives, occupied, has_occupied, has_available, is_held, kind_of, kind_at, use_at, passes_at, with_slot, with_use}
-use Rattle.hm_class.specs.Frees.{place_of_word, Clears, CanRelease}
+use Rattle.hm_class.specs.Frees.{place_of_word, CanRelease, Holds}
 use Rattle.hm_class.specs.Region.{HoldsSlabs}
 use Rattle.hm_class.specs.declared.identity.Identity.{Identity}
 use Rattle.hm_class.specs.declared.store.Store.{Store}
@@ -62,9 +63,8 @@ kind_held all n i u v was same =
 -- ---- the slot is held
 module _ {told : Bool} {runs : PageRuns} {faults : ℕ} {region : Identity} {es : List Entry} {store : Store}
     (kept : IsKept told runs faults region es store)
-    {P : Type 0} (meaning : pages.Ghosts P) (begun half : P) (k₁ : Slabs) (a n i : ℕ) (told_is : meaning.told begun ≡ told) (runs_is : meaning.runs begun ≡ runs)
-    (is : a ≡ place region.shape n i) (lt : i < region.shape.slots) (was : use_at store.slabs.slabs n i ≡ Some Live) (items : k₁.slabs ≡ with_use store.slabs.slabs n i Held)
-    (cleared : Clears meaning region.shape begun half a) where
+    {P : Type 0} {meaning : pages.Ghosts P} {begun half : P} {store₁ : Store} {a : ℕ} {live : Slot} {result : Option ℕ × Option ℕ} (told_is : meaning.told begun ≡ told) (runs_is : meaning.runs begun ≡ runs)
+    (at_live : IsLiveAt region.shape store.slabs.slabs a live) (holds : Holds meaning store store₁ begun half region.shape a live result) where
   abbrev first : State
   first = state (terms_in told region) es
 
@@ -72,16 +72,16 @@ module _ {told : Bool} {runs : PageRuns} {faults : ℕ} {region : Identity} {es 
   taken = takes_back region.shape a first
 
   pub was_live : is_live first a ≡ true
-  was_live = ap (λ (q : ℕ). is_live first q) is ∙ kept.follows.shows.live n i lt ∙ ap (λ (o : Option SlotUse). option_map_or lives o false) was
+  was_live = ap (λ (q : ℕ). is_live first q) at_live.0.is ∙ kept.follows.shows.live live.slab live.index at_live.0.slot ∙ ap (λ (o : Option SlotUse). option_map_or lives o false) at_live.1
 
-  pub held_shows : Shows region.shape k₁.slabs taken
+  pub held_shows : Shows region.shape store₁.slabs.slabs taken
   held_shows =
-      let f = found store.slabs.slabs n i Live was in
-      subst (λ (q : ℕ). Shows region.shape k₁.slabs (takes_back region.shape q first)) (sym is)
-      (subst (λ (u : Uses). Shows region.shape u (takes_back region.shape (place region.shape n i) first)) (sym items) (shows_held region.shape store.slabs.slabs first n i f.slab Live region.served.shape lt f.is_slab was kept.follows.shows refl))
+      let f = found store.slabs.slabs live.slab live.index Live at_live.1 in
+      subst (λ (q : ℕ). Shows region.shape store₁.slabs.slabs (takes_back region.shape q first)) (sym at_live.0.is)
+      (subst (λ (u : Uses). Shows region.shape u (takes_back region.shape (place region.shape live.slab live.index) first)) (sym holds.slabs) (shows_held region.shape store.slabs.slabs first live.slab live.index f.slab Live region.served.shape at_live.0.slot f.is_slab at_live.1 kept.follows.shows refl))
 
-  was_open : is_open first n ≡ true
-  was_open = live_open region.shape first n i region.served.shape (sound_now kept) lt (ap (λ (q : ℕ). is_live first q) (sym is) ∙ was_live)
+  was_open : is_open first live.slab ≡ true
+  was_open = live_open region.shape first live.slab live.index region.served.shape (sound_now kept) at_live.0.slot (ap (λ (q : ℕ). is_live first q) (sym at_live.0.is) ∙ was_live)
 
   pub held_slabs : IsTrue told → HoldsSlabs region.shape taken.opens (meaning.runs half)
   held_slabs y = of (has_bytes region.shape) refl
@@ -94,17 +94,17 @@ module _ {told : Bool} {runs : PageRuns} {faults : ℕ} {region : Identity} {es 
 
       of : (own : Bool) → has_bytes region.shape ≡ own → HoldsSlabs region.shape taken.opens (meaning.runs half)
       of true own = holds_write region.shape first.opens a (usable region.shape) w (meaning.runs begun) (meaning.runs half) region.served.shape (length-replicate (usable region.shape) 0) before
-          (cleared.some own (told_is ∙ y) (subst (λ (q : ℕ). IsHeld (meaning.runs begun) q (usable region.shape)) (sym is) (usable_held region.shape first n i (meaning.runs begun) region.served.shape own was_open lt before)))
-      of false off = subst (λ (r : PageRuns). HoldsSlabs region.shape taken.opens r) (sym (cleared.none off (told_is ∙ y)))
+          (holds.cleared.some own (told_is ∙ y) (subst (λ (q : ℕ). IsHeld (meaning.runs begun) q (usable region.shape)) (sym at_live.0.is) (usable_held region.shape first live.slab live.index (meaning.runs begun) region.served.shape own was_open at_live.0.slot before)))
+      of false off = subst (λ (r : PageRuns). HoldsSlabs region.shape taken.opens r) (sym (holds.cleared.none off (told_is ∙ y)))
           (holds_without region.shape first.opens taken.opens (meaning.runs begun) off (whole_write (bytes_of_slab region.shape) region.shape a w first.opens before.whole) before)
 
   pub held_sound : IsSound region.shape taken
   held_sound = sound_takes_back region.shape first a (sound_now kept) was_live
 
-  pub kind_then : (m : ℕ) → kind region.shape first m ≡ kind_at k₁.slabs m
-  kind_then m = kind_is region.shape store.slabs.slabs first m region.served.shape kept.follows.shows ∙ sym (ap (λ (u : Uses). kind_at u m) items ∙ kind_held store.slabs.slabs n i Held Live was refl m)
+  pub kind_then : (m : ℕ) → kind region.shape first m ≡ kind_at store₁.slabs.slabs m
+  kind_then m = kind_is region.shape store.slabs.slabs first m region.served.shape kept.follows.shows ∙ sym (ap (λ (u : Uses). kind_at u m) holds.slabs ∙ kind_held store.slabs.slabs live.slab live.index Held Live at_live.1 refl m)
 
-  -- what leaves the store.quarantine
+  -- what leaves the quarantine
   pub release_now : Releases region.shape taken (let_go store.quarantine a (place_of_word region.shape (next_word store.stream)))
   release_now = (allows_now kept).release a (place_of_word region.shape (next_word store.stream)) was_live (place_fits region.shape store.stream)
 
@@ -115,7 +115,7 @@ module _ {told : Bool} {runs : PageRuns} {faults : ℕ} {region : Identity} {es 
     pub is_place : b ≡ place region.shape (slab_of region.shape b) (slot_of region.shape b)
     pub open_slab : is_open taken (slab_of region.shape b) ≡ true
     pub below : slab_of region.shape b < region.shape.limit
-    pub used : use_at k₁.slabs (slab_of region.shape b) (slot_of region.shape b) ≡ Some Held
+    pub used : use_at store₁.slabs.slabs (slab_of region.shape b) (slot_of region.shape b) ≡ Some Held
 
   held_use : (all : Uses) (m j : ℕ) → passes_at is_held all m j ≡ true → use_at all m j ≡ Some Held
   held_use all m j e = of (use_at all m j) e
@@ -139,12 +139,12 @@ module _ {told : Bool} {runs : PageRuns} {faults : ℕ} {region : Identity} {es 
         is_place = r.is_place.is ∙ ap (λ (m : ℕ). place region.shape m r.slot) (sym slab) ∙ ap (λ (j : ℕ). place region.shape (slab_of region.shape b) j) (sym slot);
         open_slab = ap (λ (m : ℕ). is_open taken m) slab ∙ r.open_slab;
         below = omega (arith, slab, r.is_place.below);
-        used = ap (λ (m : ℕ). use_at k₁.slabs m (slot_of region.shape b)) slab ∙ ap (λ (j : ℕ). use_at k₁.slabs r.slab j) slot
-            ∙ held_use k₁.slabs r.slab r.slot (sym (held_shows.held r.slab r.slot r.is_place.slot) ∙ ap (λ (q : ℕ). among q taken.held) (sym r.is_place.is) ∙ at_b);
+        used = ap (λ (m : ℕ). use_at store₁.slabs.slabs m (slot_of region.shape b)) slab ∙ ap (λ (j : ℕ). use_at store₁.slabs.slabs r.slab j) slot
+            ∙ held_use store₁.slabs.slabs r.slab r.slot (sym (held_shows.held r.slab r.slot r.is_place.slot) ∙ ap (λ (q : ℕ). among q taken.held) (sym r.is_place.is) ∙ at_b);
       }
 
-  pub can_release : (b : ℕ) (told_half : meaning.told half ≡ told) → k₁.parking ≡ store.slabs.parking → among b taken.held ≡ true → CanRelease meaning region k₁ half b
-  can_release b told_half parking at_b =
+  pub can_release : (b : ℕ) → among b taken.held ≡ true → CanRelease meaning region store₁.slabs half b
+  can_release b at_b =
       let r = is_released b at_b in
       record {
         from = r.from;
@@ -152,8 +152,8 @@ module _ {told : Bool} {runs : PageRuns} {faults : ℕ} {region : Identity} {es 
         slab = record {
           below = r.below;
           on = sym (held_shows.opens (slab_of region.shape b)) ∙ r.open_slab;
-          run = λ own y. slab_run region.shape taken.opens (slab_of region.shape b) (meaning.runs half) own r.open_slab (held_slabs (sym told_half ∙ y));
-          parking = ap (λ (l : List (Option ℕ)). length l) parking ∙ (kept_now kept).parking_length;
+          run = λ own y. slab_run region.shape taken.opens (slab_of region.shape b) (meaning.runs half) own r.open_slab (held_slabs (sym told_is ∙ sym holds.cleared.pages.told ∙ y));
+          parking = ap (λ (l : List (Option ℕ)). length l) holds.lists.parking ∙ (kept_now kept).parking_length;
         };
       }
 
@@ -161,7 +161,9 @@ module _ {told : Bool} {runs : PageRuns} {faults : ℕ} {region : Identity} {es 
   at_released None b r e = absurd (none-some b e)
   at_released (Some x) b r e = ap (λ (q : ℕ). among q taken.held) (sym (same_Some x b e)) ∙ r.0
 
-  pub release_ready : (o : Option ℕ) → o ≡ let_go store.quarantine a (place_of_word region.shape (next_word store.stream)) → meaning.told half ≡ told → k₁.parking ≡ store.slabs.parking
-      → IfSome o (CanRelease meaning region k₁ half)
-  release_ready None e told_half parking = tt
-  release_ready (Some b) e told_half parking = can_release b told_half parking (at_released (let_go store.quarantine a (place_of_word region.shape (next_word store.stream))) b release_now (sym e))
+  pub release_ready : IfSome result.0 (CanRelease meaning region store₁.slabs half)
+  release_ready = of result.0 holds.released
+    where
+      of : (o : Option ℕ) → o ≡ let_go store.quarantine a (place_of_word region.shape (next_word store.stream)) → IfSome o (CanRelease meaning region store₁.slabs half)
+      of None e = tt
+      of (Some b) e = can_release b (at_released (let_go store.quarantine a (place_of_word region.shape (next_word store.stream))) b release_now (sym e))

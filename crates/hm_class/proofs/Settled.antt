@@ -95,33 +95,31 @@ chosen_is released (emptied.Purged d) = refl
 clean_without : (p : Shape) (s : State) (a : ℕ) → has_bytes p ≡ false → wrong_canary p s a ≡ None
 clean_without p s a off = ap (λ (b : Bool). cond (b && not (found_canary p s a == kept_canary p s a)) (told_pair (kept_canary p s a) (found_canary p s a)) None) off
 
-module _ {told : Bool} {runs : PageRuns} {faults : ℕ} {region : Identity} {es : List Entry} {store : Store}
-    (kept : IsKept told runs faults region es store)
-    {P : Type 0} (meaning : pages.Ghosts P) (begun half now : P) (store₁ store' : Store) (a : ℕ) (slot : Slot) (stated : Option ℕ) (who : Who) (f f' : ℕ) (result : Option ℕ × Option ℕ)
-    (told_is : meaning.told begun ≡ told) (runs_is : meaning.runs begun ≡ runs) (accepts : Accepts meaning region.shape store.slabs begun a stated slot)
-    (holds : Holds meaning store store₁ begun half region.shape a slot result)
-    (is : f ≡ faults) (later : f ≤ f') where
+module _ {P : Type 0} {meaning : pages.Ghosts P} {begun half : P} {region : Identity} {es : List Entry} {store store₁ : Store} {a : ℕ} {slot : Slot} {stated : Option ℕ} {result : Option ℕ × Option ℕ}
+    (kept : IsKept (meaning.told begun) (meaning.runs begun) (meaning.faults begun) region es store) (now : P) (store' : Store) (who : Who) (f f' : ℕ)
+    (accepts : Accepts meaning region.shape store.slabs begun a stated slot) (holds : Holds meaning store store₁ begun half region.shape a slot result)
+    (is : f ≡ meaning.faults begun) (later : f ≤ f') where
   abbrev t : Terms
-  t = terms_in told region
+  t = terms_in (meaning.told begun) region
 
   abbrev first : State
-  first = state (terms_in told region) es
+  first = state (terms_in (meaning.told begun) region) es
 
   abbrev taken : State
   taken = takes_back region.shape a first
 
-  clean : IsTrue told → wrong_canary region.shape first a ≡ None
+  clean : IsTrue (meaning.told begun) → wrong_canary region.shape first a ≡ None
   clean y = of (has_bytes region.shape) refl
     where
       slabs : HoldsSlabs region.shape first.opens (meaning.runs begun)
-      slabs = subst (λ (r : PageRuns). HoldsSlabs region.shape first.opens r) (sym runs_is) (kept.slabs y)
+      slabs = kept.slabs y
 
       on : is_open first slot.slab ≡ true
       on = live_open region.shape first slot.slab slot.index region.served.shape (sound_now kept) accepts.judged.0.slot
           (ap (λ (q : ℕ). is_live first q) (sym accepts.judged.0.is) ∙ (live_block region.shape store.slabs.slabs first a region.served.shape kept.follows.shows slot accepts.judged).live)
 
       of : (own : Bool) → has_bytes region.shape ≡ own → wrong_canary region.shape first a ≡ None
-      of true own = canary_found region.shape store.slabs.slabs first slot.slab slot.index a (meaning.runs begun) None region.served.shape own accepts.judged.0 on kept.follows.shows slabs (accepts.canary own (told_is ∙ y))
+      of true own = canary_found region.shape store.slabs.slabs first slot.slab slot.index a (meaning.runs begun) None region.served.shape own accepts.judged.0 on kept.follows.shows slabs (accepts.canary own y)
       of false off = clean_without region.shape first a off
 
   -- once the slabs, the pages and the lists follow
@@ -129,17 +127,17 @@ module _ {told : Bool} {runs : PageRuns} {faults : ℕ} {region : Identity} {es 
       → step region.shape first (entry_freed region.shape store.stream who a stated released e f f') ≡ record final { faults = f' }
       → Empties t (releases released taken) f f' (freed_choices released e) (surplus region.shape (releases released taken) released)
       → IsNextWord store.stream (region.shape.array == 0) e → IsUnparked t (cells_of first store) e
-      → Shows region.shape store'.slabs.slabs final → store'.slabs.lists.retired ≡ final.shut → AreFull store'.slabs.slabs store'.slabs.lists.full → store'.slabs.numbers ≡ numbers_of region.shape → length final.live ≤ live_count store'.slabs.slabs → (IsTrue told → HoldsSlabs region.shape final.opens (meaning.runs now))
+      → Shows region.shape store'.slabs.slabs final → store'.slabs.lists.retired ≡ final.shut → AreFull store'.slabs.slabs store'.slabs.lists.full → store'.slabs.numbers ≡ numbers_of region.shape → length final.live ≤ live_count store'.slabs.slabs → (IsTrue (meaning.told begun) → HoldsSlabs region.shape final.opens (meaning.runs now))
       → touched region.shape released (Returned a) ≡ m → kind region.shape first m ≡ kb → kind region.shape final m ≡ ka
       → store'.slabs.lists.partial ≡ listed Partial m kb ka store.slabs.lists.partial → store'.slabs.lists.empty ≡ listed Empty m kb ka store.slabs.lists.empty
       → store'.stream ≡ stream_after (array_stream region.shape store.stream) e → store'.slabs.parking ≡ parking_with (parking_place t (freed_draws (array_word region.shape (next_word store.stream)) e)) (freed_choices released e).retired store.slabs.parking
       → store'.quarantine ≡ kept_with store.quarantine a (place_of_word region.shape (next_word store.stream))
-      → IsKept told (meaning.runs now) f' region (es ++ entry_freed region.shape store.stream who a stated released e f f' ∷ []) store'
+      → IsKept (meaning.told begun) (meaning.runs now) f' region (es ++ entry_freed region.shape store.stream who a stated released e f f' ∷ []) store'
   finish released m e final kb ka let_is after empties next unparked shows shut full numbers live slabs at was now_is partial empty taken_words places quarantine =
       let x : Entry = entry_freed region.shape store.stream who a stated released e f f' in
       let same : (freed_choices released e).released ≡ released = released_is released e in
       let release : Releases region.shape taken released = subst (λ (o : Option ℕ). Releases region.shape taken o) (sym let_is)
-      (release_now kept meaning begun half store₁.slabs a slot.slab slot.index told_is runs_is accepts.judged.0.is accepts.judged.0.slot accepts.judged.1 holds.slabs holds.cleared) in
+      (release_now kept refl refl accepts.judged holds) in
       pushed kept (meaning.runs now) f' store' x
       (allowed_of t first who (GiveBack a stated) reply.Freed (freed_choices released e) (freed_draws (array_word region.shape (next_word store.stream)) e) f f' (draws_are region.shape store.stream e) tt (is ∙ kept.count) later (record {
         block = live_block region.shape store.slabs.slabs first a region.served.shape kept.follows.shows slot accepts.judged;
@@ -164,16 +162,16 @@ module _ {told : Bool} {runs : PageRuns} {faults : ℕ} {region : Identity} {es 
 
   -- the slots with the freed one held
   shows₁ : Shows region.shape store₁.slabs.slabs taken
-  shows₁ = held_shows kept meaning begun half store₁.slabs a slot.slab slot.index told_is runs_is accepts.judged.0.is accepts.judged.0.slot accepts.judged.1 holds.slabs holds.cleared
+  shows₁ = held_shows kept refl refl accepts.judged holds
 
-  slabs₁ : IsTrue told → HoldsSlabs region.shape taken.opens (meaning.runs half)
-  slabs₁ = held_slabs kept meaning begun half store₁.slabs a slot.slab slot.index told_is runs_is accepts.judged.0.is accepts.judged.0.slot accepts.judged.1 holds.slabs holds.cleared
+  slabs₁ : IsTrue (meaning.told begun) → HoldsSlabs region.shape taken.opens (meaning.runs half)
+  slabs₁ = held_slabs kept refl refl accepts.judged holds
 
   kind₁ : (m : ℕ) → kind region.shape first m ≡ kind_at store₁.slabs.slabs m
-  kind₁ = kind_then kept meaning begun half store₁.slabs a slot.slab slot.index told_is runs_is accepts.judged.0.is accepts.judged.0.slot accepts.judged.1 holds.slabs holds.cleared
+  kind₁ = kind_then kept refl refl accepts.judged holds
 
   live : is_live first a ≡ true
-  live = was_live kept meaning begun half store₁.slabs a slot.slab slot.index told_is runs_is accepts.judged.0.is accepts.judged.0.slot accepts.judged.1 holds.slabs holds.cleared
+  live = was_live kept refl refl accepts.judged holds
 
   live_taken : length taken.live ≤ live_count store₁.slabs.slabs
   live_taken = omega (arith, kept.follows.live_all, ap live_count holds.slabs, counted lives store.slabs.slabs slot.slab slot.index Held Live accepts.judged.1, length_taken a first.live live)
@@ -191,10 +189,10 @@ module _ {told : Bool} {runs : PageRuns} {faults : ℕ} {region : Identity} {es 
       (sym (shows₁.opens m) ∙ open₁ m ∙ kept.follows.shows.opens m ∙ is.0, sym (same_kind₁ m) ∙ is.1)
 
   abbrev Ends : Option ℕ → Emptied → Type 0
-  Ends released e = IsKept told (meaning.runs now) f' region (es ++ entry_freed region.shape store.stream who a stated released e f f' ∷ []) store'
+  Ends released e = IsKept (meaning.told begun) (meaning.runs now) f' region (es ++ entry_freed region.shape store.stream who a stated released e f f' ∷ []) store'
 
-  -- nothing left the store.quarantine
-  pub kept_held : (e : Emptied) → None ≡ let_go store.quarantine a (place_of_word region.shape (next_word store.stream)) → e ≡ emptied.Kept → store'.slabs.slabs ≡ store₁.slabs.slabs → SameLists store₁.slabs store'.slabs → (IsTrue told → meaning.runs now ≡ meaning.runs half) → store'.stream ≡ array_stream region.shape store.stream → store'.slabs.parking ≡ store.slabs.parking
+  -- nothing left the quarantine
+  pub kept_held : (e : Emptied) → None ≡ let_go store.quarantine a (place_of_word region.shape (next_word store.stream)) → e ≡ emptied.Kept → store'.slabs.slabs ≡ store₁.slabs.slabs → SameLists store₁.slabs store'.slabs → (IsTrue (meaning.told begun) → meaning.runs now ≡ meaning.runs half) → store'.stream ≡ array_stream region.shape store.stream → store'.slabs.parking ≡ store.slabs.parking
       → store'.quarantine ≡ store₁.quarantine → Ends None e
   kept_held e none e_is same same_lists same_runs words places quarantine =
       let m : ℕ = slab_of region.shape a in
@@ -211,7 +209,7 @@ module _ {told : Bool} {runs : PageRuns} {faults : ℕ} {region : Identity} {es 
       (ap (λ (l : Lists). l.empty) all_lists ∙ sym (listed_same Empty ka m store.slabs.lists.empty))
       words places (quarantine ∙ holds.quarantine_is))
 
-  -- ---- slot b left the store.quarantine
+  -- ---- slot b left the quarantine
   module _ (b : ℕ) (let_is : Some b ≡ let_go store.quarantine a (place_of_word region.shape (next_word store.stream))) where
     abbrev m : ℕ
     m = slab_of region.shape b
@@ -224,10 +222,10 @@ module _ {told : Bool} {runs : PageRuns} {faults : ℕ} {region : Identity} {es 
 
     release : Releases region.shape taken (Some b)
     release = subst (λ (o : Option ℕ). Releases region.shape taken o) (sym let_is)
-        (release_now kept meaning begun half store₁.slabs a slot.slab slot.index told_is runs_is accepts.judged.0.is accepts.judged.0.slot accepts.judged.1 holds.slabs holds.cleared)
+        (release_now kept refl refl accepts.judged holds)
 
-    place_b : IsReleased kept meaning begun half store₁.slabs a slot.slab slot.index told_is runs_is accepts.judged.0.is accepts.judged.0.slot accepts.judged.1 holds.slabs holds.cleared b
-    place_b = is_released kept meaning begun half store₁.slabs a slot.slab slot.index told_is runs_is accepts.judged.0.is accepts.judged.0.slot accepts.judged.1 holds.slabs holds.cleared b release.0
+    place_b : IsReleased kept refl refl accepts.judged holds b
+    place_b = is_released kept refl refl accepts.judged holds b release.0
 
     shows₂ : Shows region.shape uses₂ freed
     shows₂ =
@@ -325,8 +323,8 @@ module _ {told : Bool} {runs : PageRuns} {faults : ℕ} {region : Identity} {es 
         parked_numbers : store'.slabs.numbers ≡ numbers_of region.shape
         parked_numbers = parks.numbers ∙ mid_lists.numbers ∙ holds.lists.numbers ∙ kept.follows.numbers
 
-    pub kept_released : (e : Emptied) → frees.Releases meaning store₁ store' half now region.shape b e → meaning.told half ≡ told → f ≡ meaning.faults half → f' ≡ meaning.faults now → Ends (Some b) e
-    kept_released e v told_half half_is now_is = by_end e v.empties
+    pub kept_released : (e : Emptied) → frees.Releases meaning store₁ store' half now region.shape b e → f' ≡ meaning.faults now → Ends (Some b) e
+    kept_released e v now_is = by_end e v.empties
       where
         mid : Slabs
         mid = v.mid
@@ -351,7 +349,7 @@ module _ {told : Bool} {runs : PageRuns} {faults : ℕ} {region : Identity} {es 
             (subst (λ (u : Uses). Shows region.shape u freed) (sym (slabs_are mid v.slabs v.lists ka j refl)) shows₂) (joined_shut mid v.slabs v.lists ka j refl)
             (joined_full mid v.slabs v.lists ka j refl) (joined_numbers mid v.slabs v.lists ka j refl)
             (omega (arith, live_taken, ap live_count (slabs_are mid v.slabs v.lists ka j refl), free_live))
-            (λ y. subst (λ (r : PageRuns). HoldsSlabs region.shape taken.opens r) (sym (q.runs_same (told_half ∙ y))) (slabs₁ y))
+            (λ y. subst (λ (r : PageRuns). HoldsSlabs region.shape taken.opens r) (sym (q.runs_same (holds.cleared.pages.told ∙ y))) (slabs₁ y))
             refl (kind₁ m) (kind_is region.shape uses₂ freed m region.served.shape shows₂)
             (joined_partial mid v.slabs v.lists ka j refl) (joined_empty mid v.slabs v.lists ka j refl)
             (q.stream_is ∙ holds.stream_is) (q.parking_is ∙ places) (q.quarantine_same ∙ holds.quarantine_is)
@@ -379,7 +377,7 @@ module _ {told : Bool} {runs : PageRuns} {faults : ℕ} {region : Identity} {es 
             (parked_shut mid v.slabs v.lists w u j.parks j.unparked_is ∙ shut_with u freed)
             (parked_full mid v.slabs v.lists w u j.parks j.unparked_is) (parked_numbers mid v.slabs v.lists w u j.parks j.unparked_is)
             (omega (arith, live_taken, ap live_count slabs, shut_live uses₂ m g.slab g.is_slab, free_live, ap (λ (l : List (ℕ × ℕ)). length l) (unparked_live u freed)))
-            (λ y. subst (λ (r : PageRuns). HoldsSlabs region.shape (retires (Some m) s₃).opens r) (sym (j.dropped.0 (told_half ∙ y)))
+            (λ y. subst (λ (r : PageRuns). HoldsSlabs region.shape (retires (Some m) s₃).opens r) (sym (j.dropped.0 (holds.cleared.pages.told ∙ y)))
             (subst (λ (l : List (ℕ × Slab)). HoldsSlabs region.shape (removed m l) (cond (has_bytes region.shape) (map.remove (meaning.runs half) (slab_at region.shape m)) (meaning.runs half))) (sym (unparked_opens u freed)) (holds_retired region.shape taken.opens m (meaning.runs half) region.served.shape (slabs₁ y))))
             refl (kind₁ m) (kind_shut region.shape (retires (Some m) s₃) m region.served.shape (has_removed_same m s₃.opens))
             (ap (λ (l : Lists). l.partial) all ∙ retired_partial store.slabs.lists m u (kind_at store₁.slabs.slabs m) stands)
@@ -392,7 +390,7 @@ module _ {told : Bool} {runs : PageRuns} {faults : ℕ} {region : Identity} {es 
             let q = w.1 in
             let j = q.joins in
             let final : State = purges region.shape (Some m) freed in
-            let rose : f < f' = omega (arith, q.dropped.2, half_is, now_is) in
+            let rose : f < f' = omega (arith, q.dropped.2, (is ∙ sym holds.cleared.pages.count), now_is) in
             let shows₃ : Shows region.shape uses₂ final = shows_written region.shape uses₂ freed (slab_at region.shape m) (zeros region.shape.slab) shows₂ in
             let empty₂ : kind region.shape freed m ≡ Empty = kind_empty region.shape freed m (first_of _ _ (sym surplus_is ∙ surplus_by true w.0)) in
             let is : kind_at uses₂ m ≡ Empty = sym (kind_is region.shape uses₂ freed m region.served.shape shows₂) ∙ empty₂ in
@@ -402,16 +400,16 @@ module _ {told : Bool} {runs : PageRuns} {faults : ℕ} {region : Identity} {es 
             (subst (λ (x : Uses). Shows region.shape x final) (sym (slabs_are mid v.slabs v.lists Empty j is)) shows₃) (joined_shut mid v.slabs v.lists Empty j is)
             (joined_full mid v.slabs v.lists Empty j is) (joined_numbers mid v.slabs v.lists Empty j is)
             (omega (arith, live_taken, ap live_count (slabs_are mid v.slabs v.lists Empty j is), free_live))
-            (λ y. subst (λ (r : PageRuns). HoldsSlabs region.shape final.opens r) (sym (q.dropped.1 (told_half ∙ y))) (holds_purged region.shape taken.opens m (meaning.runs half) region.served.shape q.dropped.0 place_b.open_slab (slabs₁ y)))
+            (λ y. subst (λ (r : PageRuns). HoldsSlabs region.shape final.opens r) (sym (q.dropped.1 (holds.cleared.pages.told ∙ y))) (holds_purged region.shape taken.opens m (meaning.runs half) region.served.shape q.dropped.0 place_b.open_slab (slabs₁ y)))
             refl (kind₁ m) (kind_is region.shape uses₂ final m region.served.shape shows₃ ∙ is)
             (joined_partial mid v.slabs v.lists Empty j is) (joined_empty mid v.slabs v.lists Empty j is)
             (q.stream_is ∙ holds.stream_is) (q.parking_is ∙ places) (q.quarantine_same ∙ holds.quarantine_is))
 
   -- what was released, if anything
   pub kept_ended : (released : Option ℕ) (e : Emptied) → released ≡ let_go store.quarantine a (place_of_word region.shape (next_word store.stream)) → Settles meaning store₁ store' half now region.shape released e
-      → meaning.told half ≡ told → f ≡ meaning.faults half → f' ≡ meaning.faults now → Ends released e
-  kept_ended None e let_is v told_half half_is now_is = kept_held e let_is v.0 v.1 v.2 (λ y. v.3.runs_same (told_half ∙ y)) (v.3.stream_is ∙ holds.stream_is) (v.3.parking_is ∙ holds.lists.parking) v.3.quarantine_same
-  kept_ended (Some b) e let_is v told_half half_is now_is = kept_released b let_is e v told_half half_is now_is
+      → f' ≡ meaning.faults now → Ends released e
+  kept_ended None e let_is v now_is = kept_held e let_is v.0 v.1 v.2 (λ y. v.3.runs_same (holds.cleared.pages.told ∙ y)) (v.3.stream_is ∙ holds.stream_is) (v.3.parking_is ∙ holds.lists.parking) v.3.quarantine_same
+  kept_ended (Some b) e let_is v now_is = kept_released b let_is e v now_is
 
   -- what is released was not live, and no fault is taken back
   pub live_ended : (released : Option ℕ) (e : Emptied) → released ≡ let_go store.quarantine a (place_of_word region.shape (next_word store.stream)) → Settles meaning store₁ store' half now region.shape released e

@@ -100,77 +100,89 @@ more_live : (all all' : Uses) (n i : ℕ) (u v : SlotUse) → use_at all n i ≡
 more_live all all' n i u v was items = omega (arith, ap live_count items, counted lives all n i u v was)
 
 -- ---- a slot of slab n is given, or condemned
+-- slot i of slab n was picked, and its slab went to the list of its kind
+pub record IsPicked {P : Type 0} (meaning : pages.Ghosts P) (told : Bool) (faults : ℕ) (region : Identity) (es : List Entry) (store : Store) (mid now : P) (store₁ store' : Store) (n i : ℕ) (kind₀ : Kind) (b : SlabUse) (choices : Choices) (draws : Draws) (who : Who) (asked f f' : ℕ) (v : SlotUse) : Type 0 where
+  pub tell : IsTrue told → IsTrue (meaning.told mid)
+  pub asks : raised asked ≤ class_size_of region.shape
+  pub is : f ≡ faults
+  pub later : f ≤ f'
+  pub lt : i < region.shape.slots
+  pub is_slab : slab_in store₁.slabs.slabs n ≡ Some b
+  pub was : use_at store₁.slabs.slabs n i ≡ Some v
+  pub free : occupied v ≡ false
+  pub on : is_open (opened region.shape choices.opened choices.canary (state (terms_in told region) es)) n ≡ true
+  pub shows : Shows region.shape store₁.slabs.slabs (opened region.shape choices.opened choices.canary (state (terms_in told region) es))
+  pub slabs : IsTrue told → HoldsSlabs region.shape (opened region.shape choices.opened choices.canary (state (terms_in told region) es)).opens (meaning.runs mid)
+  pub live_all : length (opened region.shape choices.opened choices.canary (state (terms_in told region) es)).live ≤ live_count store₁.slabs.slabs
+  pub shut : store'.slabs.lists.retired ≡ (opened region.shape choices.opened choices.canary (state (terms_in told region) es)).shut
+  pub partial : store'.slabs.lists.partial ≡ listed Partial n kind₀ (kind_at store'.slabs.slabs n) store.slabs.lists.partial
+  pub empty : store'.slabs.lists.empty ≡ listed Empty n kind₀ (kind_at store'.slabs.slabs n) store.slabs.lists.empty
+  pub full : AreFull store'.slabs.slabs store'.slabs.lists.full
+  pub numbers : store'.slabs.numbers ≡ numbers_of region.shape
+  pub was_kind : kind region.shape (state (terms_in told region) es) n ≡ kind₀
+  pub are : AreDraws draws
+  pub taken : after_words store.stream draws.used ≡ store'.stream
+  pub quarantine : store'.quarantine ≡ store.quarantine
+  pub places : store'.slabs.parking ≡ store.slabs.parking
+  pub picks : Picks region.shape (state (terms_in told region) es) (opened region.shape choices.opened choices.canary (state (terms_in told region) es)) choices (place region.shape n i)
+  pub stepped : (r : Reply) → event_of (Allot asked 1) r ≡ Picked (place region.shape n i) → IsSteppedEntry (terms_in told region) (cells_of (state (terms_in told region) es) store) (entry_of who (Allot asked 1) r choices draws f f')
+
 module _ {told : Bool} {runs : PageRuns} {faults : ℕ} {region : Identity} {es : List Entry} {store : Store}
     (kept : IsKept told runs faults region es store)
-    {P : Type 0} (meaning : pages.Ghosts P) (mid now : P) (store₁ store' : Store) (n i : ℕ) (kind₀ : Kind) (b : SlabUse) (choices : Choices) (draws : Draws) (who : Who) (asked f f' : ℕ)
-    (tell : IsTrue told → IsTrue (meaning.told mid)) (asks : raised asked ≤ class_size_of region.shape) (is : f ≡ faults) (later : f ≤ f')
-    (lt : i < region.shape.slots) (is_slab : slab_in store₁.slabs.slabs n ≡ Some b) (v : SlotUse) (was : use_at store₁.slabs.slabs n i ≡ Some v) (free : occupied v ≡ false)
-    (on : is_open (opened region.shape choices.opened choices.canary (state (terms_in told region) es)) n ≡ true)
-    (shows : Shows region.shape store₁.slabs.slabs (opened region.shape choices.opened choices.canary (state (terms_in told region) es)))
-    (slabs : IsTrue told → HoldsSlabs region.shape (opened region.shape choices.opened choices.canary (state (terms_in told region) es)).opens (meaning.runs mid))
-    (live_all : length (opened region.shape choices.opened choices.canary (state (terms_in told region) es)).live ≤ live_count store₁.slabs.slabs)
-    (shut : store'.slabs.lists.retired ≡ (opened region.shape choices.opened choices.canary (state (terms_in told region) es)).shut)
-    (partial : store'.slabs.lists.partial ≡ listed Partial n kind₀ (kind_at store'.slabs.slabs n) store.slabs.lists.partial)
-    (empty : store'.slabs.lists.empty ≡ listed Empty n kind₀ (kind_at store'.slabs.slabs n) store.slabs.lists.empty)
-    (full : AreFull store'.slabs.slabs store'.slabs.lists.full) (numbers : store'.slabs.numbers ≡ numbers_of region.shape)
-    (was_kind : kind region.shape (state (terms_in told region) es) n ≡ kind₀)
-    (are : AreDraws draws) (taken : after_words store.stream draws.used ≡ store'.stream)
-    (quarantine : store'.quarantine ≡ store.quarantine) (places : store'.slabs.parking ≡ store.slabs.parking)
-    (picks : Picks region.shape (state (terms_in told region) es) (opened region.shape choices.opened choices.canary (state (terms_in told region) es)) choices (place region.shape n i))
-    (stepped : (r : Reply) → event_of (Allot asked 1) r ≡ Picked (place region.shape n i) → IsSteppedEntry (terms_in told region) (cells_of (state (terms_in told region) es) store) (entry_of who (Allot asked 1) r choices draws f f'))
-  where
-    abbrev then : State
-    then = opened region.shape choices.opened choices.canary (state (terms_in told region) es)
+    {P : Type 0} {meaning : pages.Ghosts P} {mid now : P} {store₁ store' : Store} {n i : ℕ} {kind₀ : Kind} {b : SlabUse} {choices : Choices} {draws : Draws} {who : Who} {asked f f' : ℕ} {v : SlotUse}
+    (ready : IsPicked meaning told faults region es store mid now store₁ store' n i kind₀ b choices draws who asked f f' v) where
+  abbrev then : State
+  then = opened region.shape choices.opened choices.canary (state (terms_in told region) es)
 
-    pub kept_gives : (o : Reply) → Gives meaning region store₁.slabs store'.slabs mid now (slot_in n i) o
-        → IsKept told (meaning.runs now) f' region (es ++ entry_of who (Allot asked 1) o choices draws f f' ∷ []) store'
-    kept_gives (reply.Given a size) g =
-        let t : Terms = terms_in told region in
-        let q : ℕ = place region.shape n i in
-        let e : Entry = entry_of who (Allot asked 1) (reply.Given q size) choices draws f f' in
-        let off = available_is v free in
-        let dead : weight lives v ≡ 0 = ap (λ (b : Bool). cond {A = ℕ} b 1 0) off.0 in
-        let shows' : Shows region.shape store'.slabs.slabs (record (gives region.shape q asked then) { faults = f' }) = shows_count region.shape store'.slabs.slabs (gives region.shape q asked then) f'
-        (subst (λ (u : Uses). Shows region.shape u (gives region.shape q asked then)) (sym g.slabs) (shows_given region.shape store₁.slabs.slabs then n i b v region.served.shape lt is_slab was shows asked free)) in
-        subst (λ (x : ℕ). IsKept told (meaning.runs now) f' region (es ++ entry_of who (Allot asked 1) (reply.Given x size) choices draws f f' ∷ []) store') (sym g.addr_is)
-        (pushed kept (meaning.runs now) f' store' e
-        (allowed_of t (state t es) who (Allot asked 1) (reply.Given q size) choices draws f f' are (asks, refl) (is ∙ kept.count) later
-        (picks, g.size_is, λ y. ap (λ (x : ℕ). reuse_finds region.config region.shape then x) (sym g.addr_is) ∙ found_told meaning region.shape store₁.slabs.slabs then n i mid now told tell region.served.shape on lt shows slabs region.config a None g.addr_is g.clean y))
-        (stepped (reply.Given q size) refl) refl
-        (record {
-          shows = shows';
-          shut = shut;
-          full = full;
-          numbers = numbers;
-          live_all = omega (arith, live_all, more_live store₁.slabs.slabs store'.slabs.slabs n i Live v was g.slabs, dead, length_removed q then.live);
-        })
-        (given_slabs meaning region.shape store₁.slabs.slabs then n i mid now told tell region.served.shape on lt shows slabs a asked g.addr_is g.written)
-        (next_picked t (state t es) store store' e q n kind₀ region.served.shape refl (slab_of_place region.shape n i region.served.shape lt) was_kind shows' taken partial empty quarantine places))
-    kept_gives (reply.Overwritten a at found) g =
-        let t : Terms = terms_in told region in
-        let q : ℕ = place region.shape n i in
-        let e : Entry = entry_of who (Allot asked 1) (reply.Overwritten q at found) choices draws f f' in
-        let off = available_is v free in
-        let dead : weight lives v ≡ 0 = ap (λ (b : Bool). cond {A = ℕ} b 1 0) off.0 in
-        let given : passes_at was_given store₁.slabs.slabs n i ≡ was_given v = ap (λ (o : Option SlotUse). option_map_or was_given o false) was in
-        let items : store'.slabs.slabs ≡ with_use store₁.slabs.slabs n i (Condemned (was_given v)) = g.slabs ∙ ap (λ (b : Bool). with_use store₁.slabs.slabs n i (Condemned b)) given in
-        let shows' : Shows region.shape store'.slabs.slabs (record (condemns q then) { faults = f' }) = shows_count region.shape store'.slabs.slabs (condemns q then) f'
-        (subst (λ (u : Uses). Shows region.shape u (condemns q then)) (sym items) (shows_condemned region.shape store₁.slabs.slabs then n i b v region.served.shape lt is_slab was shows free)) in
-        subst (λ (x : ℕ). IsKept told (meaning.runs now) f' region (es ++ entry_of who (Allot asked 1) (reply.Overwritten x at found) choices draws f f' ∷ []) store') (sym g.addr_is)
-        (pushed kept (meaning.runs now) f' store' e
-        (allowed_of t (state t es) who (Allot asked 1) (reply.Overwritten q at found) choices draws f f' are (asks, refl) (is ∙ kept.count) later (
-          picks,
-          is_checked meaning region.shape store₁.slabs.slabs then n i mid now told tell region.served.shape on lt shows slabs region.config a (at, found) g.stained,
-          λ y. ap (λ (x : ℕ). reuse_finds region.config region.shape then x) (sym g.addr_is) ∙ found_told meaning region.shape store₁.slabs.slabs then n i mid now told tell region.served.shape on lt shows slabs region.config a (Some (at, found)) g.addr_is g.stained y,
-        ))
-        (stepped (reply.Overwritten q at found) refl) refl
-        (record {
-          shows = shows';
-          shut = shut;
-          full = full;
-          numbers = numbers;
-          live_all = omega (arith, live_all, more_live store₁.slabs.slabs store'.slabs.slabs n i (Condemned (was_given v)) v was items, dead);
-        })
-        (λ y. subst (λ (r : PageRuns). HoldsSlabs region.shape then.opens r) (sym (g.same (tell y))) (slabs y))
-        (next_picked t (state t es) store store' e q n kind₀ region.served.shape refl (slab_of_place region.shape n i region.served.shape lt) was_kind shows' taken partial empty quarantine places))
-    kept_gives other g = absurd g
+  pub kept_gives : (o : Reply) → Gives meaning region store₁.slabs store'.slabs mid now (slot_in n i) o
+      → IsKept told (meaning.runs now) f' region (es ++ entry_of who (Allot asked 1) o choices draws f f' ∷ []) store'
+  kept_gives (reply.Given a size) g =
+      let t : Terms = terms_in told region in
+      let q : ℕ = place region.shape n i in
+      let e : Entry = entry_of who (Allot asked 1) (reply.Given q size) choices draws f f' in
+      let off = available_is v ready.free in
+      let dead : weight lives v ≡ 0 = ap (λ (b : Bool). cond {A = ℕ} b 1 0) off.0 in
+      let shows' : Shows region.shape store'.slabs.slabs (record (gives region.shape q asked then) { faults = f' }) = shows_count region.shape store'.slabs.slabs (gives region.shape q asked then) f'
+      (subst (λ (u : Uses). Shows region.shape u (gives region.shape q asked then)) (sym g.slabs) (shows_given region.shape store₁.slabs.slabs then n i b v region.served.shape ready.lt ready.is_slab ready.was ready.shows asked ready.free)) in
+      subst (λ (x : ℕ). IsKept told (meaning.runs now) f' region (es ++ entry_of who (Allot asked 1) (reply.Given x size) choices draws f f' ∷ []) store') (sym g.addr_is)
+      (pushed kept (meaning.runs now) f' store' e
+      (allowed_of t (state t es) who (Allot asked 1) (reply.Given q size) choices draws f f' ready.are (ready.asks, refl) (ready.is ∙ kept.count) ready.later
+      (ready.picks, g.size_is, λ y. ap (λ (x : ℕ). reuse_finds region.config region.shape then x) (sym g.addr_is) ∙ found_told meaning region.shape store₁.slabs.slabs then n i mid now told ready.tell region.served.shape ready.on ready.lt ready.shows ready.slabs region.config a None g.addr_is g.clean y))
+      (ready.stepped (reply.Given q size) refl) refl
+      (record {
+        shows = shows';
+        shut = ready.shut;
+        full = ready.full;
+        numbers = ready.numbers;
+        live_all = omega (arith, ready.live_all, more_live store₁.slabs.slabs store'.slabs.slabs n i Live v ready.was g.slabs, dead, length_removed q then.live);
+      })
+      (given_slabs meaning region.shape store₁.slabs.slabs then n i mid now told ready.tell region.served.shape ready.on ready.lt ready.shows ready.slabs a asked g.addr_is g.written)
+      (next_picked t (state t es) store store' e q n kind₀ region.served.shape refl (slab_of_place region.shape n i region.served.shape ready.lt) ready.was_kind shows' ready.taken ready.partial ready.empty ready.quarantine ready.places))
+  kept_gives (reply.Overwritten a at found) g =
+      let t : Terms = terms_in told region in
+      let q : ℕ = place region.shape n i in
+      let e : Entry = entry_of who (Allot asked 1) (reply.Overwritten q at found) choices draws f f' in
+      let off = available_is v ready.free in
+      let dead : weight lives v ≡ 0 = ap (λ (b : Bool). cond {A = ℕ} b 1 0) off.0 in
+      let given : passes_at was_given store₁.slabs.slabs n i ≡ was_given v = ap (λ (o : Option SlotUse). option_map_or was_given o false) ready.was in
+      let items : store'.slabs.slabs ≡ with_use store₁.slabs.slabs n i (Condemned (was_given v)) = g.slabs ∙ ap (λ (b : Bool). with_use store₁.slabs.slabs n i (Condemned b)) given in
+      let shows' : Shows region.shape store'.slabs.slabs (record (condemns q then) { faults = f' }) = shows_count region.shape store'.slabs.slabs (condemns q then) f'
+      (subst (λ (u : Uses). Shows region.shape u (condemns q then)) (sym items) (shows_condemned region.shape store₁.slabs.slabs then n i b v region.served.shape ready.lt ready.is_slab ready.was ready.shows ready.free)) in
+      subst (λ (x : ℕ). IsKept told (meaning.runs now) f' region (es ++ entry_of who (Allot asked 1) (reply.Overwritten x at found) choices draws f f' ∷ []) store') (sym g.addr_is)
+      (pushed kept (meaning.runs now) f' store' e
+      (allowed_of t (state t es) who (Allot asked 1) (reply.Overwritten q at found) choices draws f f' ready.are (ready.asks, refl) (ready.is ∙ kept.count) ready.later (
+        ready.picks,
+        is_checked meaning region.shape store₁.slabs.slabs then n i mid now told ready.tell region.served.shape ready.on ready.lt ready.shows ready.slabs region.config a (at, found) g.stained,
+        λ y. ap (λ (x : ℕ). reuse_finds region.config region.shape then x) (sym g.addr_is) ∙ found_told meaning region.shape store₁.slabs.slabs then n i mid now told ready.tell region.served.shape ready.on ready.lt ready.shows ready.slabs region.config a (Some (at, found)) g.addr_is g.stained y,
+      ))
+      (ready.stepped (reply.Overwritten q at found) refl) refl
+      (record {
+        shows = shows';
+        shut = ready.shut;
+        full = ready.full;
+        numbers = ready.numbers;
+        live_all = omega (arith, ready.live_all, more_live store₁.slabs.slabs store'.slabs.slabs n i (Condemned (was_given v)) v ready.was items, dead);
+      })
+      (λ y. subst (λ (r : PageRuns). HoldsSlabs region.shape then.opens r) (sym (g.same (ready.tell y))) (ready.slabs y))
+      (next_picked t (state t es) store store' e q n kind₀ region.served.shape refl (slab_of_place region.shape n i region.served.shape ready.lt) ready.was_kind shows' ready.taken ready.partial ready.empty ready.quarantine ready.places))
+  kept_gives other g = absurd g
