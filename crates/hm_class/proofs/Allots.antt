@@ -27,7 +27,7 @@ use Rattle.hm_class.specs.declared.event.Canary.{Canary}
 use Rattle.hm_class.specs.declared.event.Event.{Event}
 use Rattle.hm_class.specs.Uses.{Numbers, numbers_of, Uses, slab_in, opened_slab, fresh_slab, kind_at, live_count, with_open, taken_uses}
 use Rattle.hm_model.specs.Calls.{no_choices, entry_of, no_words}
-use Rattle.hm_class.specs.Finds.{Finds, Serves, KeepsRuns, made_runs, drawn_canary, canary_stream, start_word, start_from, start_stream}
+use Rattle.hm_class.specs.Finds.{Finds, GivesFrom, KeepsRuns, made_page_runs, drawn_canary, canary_stream, start_word, start_from, start_stream}
 use Rattle.hm_class.specs.Events.{canary_value, chose_opened, start_draws}
 use Rattle.hm_class.specs.Sources.{new_of, front_of}
 use Rattle.hm_class.specs.Region.{HoldsSlabs}
@@ -107,7 +107,7 @@ module _ {told : Bool} {runs : PageRuns} {faults : ℕ} {region : Identity} {es 
       → step region.shape first (entry_of who (Allot asked 1) answer no_choices no_words (meaning.faults begun) (meaning.faults now)) ≡ record first { faults = meaning.faults now }
       → (IsTrue told → meaning.runs now ≡ runs) → KeepsRuns meaning store store₁ begun mid → KeepsRuns meaning store₁ store' mid now
       → IsKept told (meaning.runs now) (meaning.faults now) region (es ++ entry_of who (Allot asked 1) answer no_choices no_words (meaning.faults begun) (meaning.faults now) ∷ []) store'
-  unserved answer undrawn allows later after runs_same q w =
+  unserved answer undrawn allows later after page_runs_same q w =
       let items : store'.slabs.slabs ≡ store.slabs.slabs = w.slabs ∙ q.slabs in
       let lists : store'.slabs.lists ≡ store.slabs.lists = w.lists.lists ∙ q.lists.lists in
       let t : Terms = terms_in told region in
@@ -124,7 +124,7 @@ module _ {told : Bool} {runs : PageRuns} {faults : ℕ} {region : Identity} {es 
         numbers = w.lists.numbers ∙ q.lists.numbers ∙ kept.follows.numbers;
         live_all = omega (arith, kept.follows.live_all, ap live_count items, ap (λ (s : State). length s.live) after);
       })
-      (λ y. subst (λ (s : State). HoldsSlabs region.shape s.opens (meaning.runs now)) (sym after) (subst (λ (r : PageRuns). HoldsSlabs region.shape first.opens r) (sym (runs_same y)) (kept.slabs y)))
+      (λ y. subst (λ (s : State). HoldsSlabs region.shape s.opens (meaning.runs now)) (sym after) (subst (λ (r : PageRuns). HoldsSlabs region.shape first.opens r) (sym (page_runs_same y)) (kept.slabs y)))
       (next_undrawn t first store e region.served.shape undrawn refl kept.follows.shows shows'
       ∙ same_cells (step region.shape first e) _ _ _ _ _ _ _ _ _ _ (sym (w.stream_same ∙ q.stream_same)) (ap (λ (l : Lists). l.partial) (sym lists)) (ap (λ (l : Lists). l.empty) (sym lists))
       (sym (w.quarantine_same ∙ q.quarantine_same)) (sym (w.lists.parking ∙ q.lists.parking)))
@@ -138,19 +138,19 @@ module _ {told : Bool} {runs : PageRuns} {faults : ℕ} {region : Identity} {es 
   runs_as : (x : P) → (IsTrue (meaning.told begun) → meaning.runs x ≡ meaning.runs begun) → IsTrue told → meaning.runs x ≡ runs
   runs_as x e y = e (told_begun ∙ y) ∙ runs_begun
 
-  pub kept_allotted : (n : NextSlab) (e : Event) → Finds meaning store store₁ begun mid region.shape n → Serves meaning store₁ store' mid now region n e → Ends e
+  pub kept_allotted : (n : NextSlab) (e : Event) → Finds meaning store store₁ begun mid region.shape n → GivesFrom meaning store₁ store' mid now region n e → Ends e
   kept_allotted next.Exhausted e f v =
       let q = f.1.0 in
       let w = v.1.0 in
       subst (λ (x : Event). Ends x) (sym v.0)
       (unserved reply.Exhausted refl (none_serves f.0.0, next_new None f.0.1, refl) (omega (arith, same, f.1.1)) refl
-      (λ y. w.runs_same (tell y) ∙ runs_as mid q.runs_same y) q w)
+      (λ y. w.page_runs_same (tell y) ∙ runs_as mid q.page_runs_same y) q w)
   kept_allotted next.PagesFailed e f v =
       let q = f.2 in
       let w = v.1.0 in
       subst (λ (x : Event). Ends x) (sym v.0)
       (unserved reply.PagesFailed refl (none_serves f.1.0, ap (λ (o : Option ℕ). is_some o) (next_new (Some f.0) f.1.1), f.3, omega (arith, same, f.4), refl) (omega (arith, same, f.4)) refl
-      (λ y. w.runs_same (tell y) ∙ runs_as mid q.runs_same y) q w)
+      (λ y. w.page_runs_same (tell y) ∙ runs_as mid q.page_runs_same y) q w)
   kept_allotted (next.Open n) e f v =
       let t : Terms = terms_in told region in
       let q = f.1.0 in
@@ -168,7 +168,7 @@ module _ {told : Bool} {runs : PageRuns} {faults : ℕ} {region : Identity} {es 
         no_guard = at.no_guard;
         on = on;
         shows = (subst (λ (u : Uses). Shows region.shape u first) (sym q.slabs) kept.follows.shows);
-        slabs = (λ y. subst (λ (r : PageRuns). HoldsSlabs region.shape first.opens r) (sym (runs_as mid q.runs_same y)) (kept.slabs y));
+        slabs = (λ y. subst (λ (r : PageRuns). HoldsSlabs region.shape first.opens r) (sym (runs_as mid q.page_runs_same y)) (kept.slabs y));
         live_all = (omega (arith, kept.follows.live_all, ap live_count q.slabs));
         shut = (ap (λ (l : Lists). l.retired) q.lists.lists ∙ kept.follows.shut);
         stands = (subst (λ (l : Lists). Stands l n (kind_at store₁.slabs.slabs n)) (sym q.lists.lists) (subst (λ (u : Uses). Stands store.slabs.lists n (kind_at u n)) (sym q.slabs)
@@ -181,7 +181,7 @@ module _ {told : Bool} {runs : PageRuns} {faults : ℕ} {region : Identity} {es 
         are = (start_draws_are None (start_word region.config store₁.stream));
         taken = (subst (λ (x : Words). after_words store.stream (start_draws None (start_word region.config x)).used ≡ start_stream region.config x) (sym q.stream_same) (after_open region.config store.stream));
         quarantine = q.quarantine_same;
-        places = q.lists.parking;
+        parking = q.lists.parking;
         source = ((allows_now kept).source n f.0);
         has_canary = (no_canary (has_bytes region.shape));
         chosen = refl;
@@ -214,7 +214,7 @@ module _ {told : Bool} {runs : PageRuns} {faults : ℕ} {region : Identity} {es 
         no_guard = fresh.no_guard;
         on = (opened_open kept n cv f.0.1);
         shows = (subst (λ (u : Uses). Shows region.shape u s₁) (sym items) shows₁);
-        slabs = (λ y. subst (λ (r : PageRuns). HoldsSlabs region.shape s₁.opens r) (sym (q.made (told_begun ∙ y) ∙ ap (λ (r : PageRuns). made_runs region.shape n r) runs_begun)) (holds_made region.shape first.opens n (unwrap_or cv 0) runs region.served.shape (kept.slabs y)));
+        slabs = (λ y. subst (λ (r : PageRuns). HoldsSlabs region.shape s₁.opens r) (sym (q.made (told_begun ∙ y) ∙ ap (λ (r : PageRuns). made_page_runs region.shape n r) runs_begun)) (holds_made region.shape first.opens n (unwrap_or cv 0) runs region.served.shape (kept.slabs y)));
         live_all = (omega (arith, kept.follows.live_all, ap live_count items, live_opened (numbers_of region.shape) first.shut store.slabs.slabs n (unwrap_or cv 0) fresh.there, ap (λ (l : List (ℕ × ℕ)). length l) (opened_live region.shape (Some n) cv first)));
         shut = (ap (λ (l : Lists). l.retired) q.lists ∙ opened_shut store.slabs.lists n loose shut refl (first_is_shut store.slabs.numbers.limit (length store.slabs.slabs) n shut f.0.1)
             ∙ ap (λ (l : List ℕ). still_shut l) kept.follows.shut ∙ shut_after region.shape first);
@@ -231,7 +231,7 @@ module _ {told : Bool} {runs : PageRuns} {faults : ℕ} {region : Identity} {es 
         taken = (subst (λ (x : Words). after_words store.stream (start_draws canary (start_word region.config x)).used ≡ start_stream region.config x) (sym q.stream_is)
             (subst (λ (x : Option Canary). after_words store.stream (start_draws x (start_word region.config (canary_stream region.shape store.stream))).used ≡ start_stream region.config (canary_stream region.shape store.stream)) (sym q.canary_is) (after_new region.config region.shape store.stream)));
         quarantine = q.quarantine_same;
-        places = q.parking;
+        parking = q.parking;
         source = (refl, none_serves f.0.0, next_new (Some n) f.0.1);
         has_canary = (ap (λ (x : Option Canary). is_some (canary_value x)) q.canary_is ∙ canary_there region.shape store.stream);
         chosen = refl;

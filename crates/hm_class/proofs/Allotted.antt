@@ -23,14 +23,14 @@ use Rattle.hm_class_rules.specs.Stepped.{IsSteppedEntry, listed}
 use Rattle.hm_slab_meta.specs.Uses.{SlotUse, Never, first_from}
 use Rattle.hm_class.specs.Uses.{numbers_of, open_at, SlabUse, occupied, use_at, kind_at, live_count}
 use Rattle.hm_model.specs.Calls.{entry_of, no_choices}
-use Rattle.hm_class.specs.Finds.{Serve, start_from, start_stream}
+use Rattle.hm_class.specs.Finds.{GivesOf, start_from, start_stream}
 use Rattle.hm_class.specs.Region.{HoldsSlabs}
 use Rattle.hm_class.specs.declared.identity.Identity.{Identity}
 use Rattle.hm_class.specs.declared.store.Store.{Store}
 use Rattle.hm_class.specs.Kept.{Shows, AreFull, IsKept, terms_in, cells_of}
 use Rattle.hm_slab_lists.specs.Lists.{Lists}
 use Rattle.hm_class.proofs.Drawn.{start_below}
-use Rattle.hm_class.proofs.Filing.{Stands, placed_moved, placed_full}
+use Rattle.hm_class.proofs.Filing.{Stands, placed_relisted, placed_full}
 use Rattle.hm_class.proofs.Permitted.{IsServing}
 use Rattle.hm_class.proofs.Serving.{given_open, given_beside}
 use Rattle.hm_class.proofs.Picked.{picked, is_first, not_occupied}
@@ -61,7 +61,7 @@ pub record IsToServe {P : Type 0} (meaning : pages.Ghosts P) (told : Bool) (faul
   pub are : AreDraws draws
   pub taken : after_words store.stream draws.used ≡ start_stream region.config store₁.stream
   pub quarantine : store₁.quarantine ≡ store.quarantine
-  pub places : store₁.slabs.parking ≡ store.slabs.parking
+  pub parking : store₁.slabs.parking ≡ store.slabs.parking
   pub source : Source region.shape (state (terms_in told region) es) choices.opened n
   pub has_canary : is_some choices.canary ≡ (has_bytes region.shape && is_some choices.opened)
   pub chosen : choices ≡ record no_choices { canary = choices.canary; opened = choices.opened }
@@ -71,13 +71,13 @@ module _ {told : Bool} {runs : PageRuns} {faults : ℕ} {region : Identity} {es 
     (kept : IsKept told runs faults region es store)
     {P : Type 0} {meaning : pages.Ghosts P} {mid now : P} {store₁ store' : Store} {n : ℕ} {kind₀ : Kind} {choices : Choices} {draws : Draws} {who : Who} {asked f f' : ℕ} {before : Kind}
     (ready : IsToServe meaning told faults region es store mid now store₁ store' n kind₀ choices draws who asked f f' before) where
-  pub kept_serve : (o : Reply) → Serve meaning store₁ store' mid now region n o
+  pub kept_serve : (o : Reply) → GivesOf meaning store₁ store' mid now region n o
       → IsKept told (meaning.runs now) f' region (es ++ entry_of who (Allot asked 1) o choices draws f f' ∷ []) store'
   kept_serve o v =
       let then : State = opened region.shape choices.opened choices.canary (state (terms_in told region) es) in
       let i : ℕ = v.index in
       let after : Kind = kind_at store'.slabs.slabs n in
-      let m = placed_moved store₁.slabs.lists n before after ready.stands in
+      let m = placed_relisted store₁.slabs.lists n before after ready.stands in
       let on₁ : open_at store₁.slabs.slabs n ≡ true = ap (λ (o : Option SlabUse). option_map_or (λ (b : SlabUse). b.opened) o false) ready.serves.is_slab ∙ ready.serves.on in
       let b : SlabUse = ready.serves.slab in
       let start : ℕ = start_from region.config region.shape store₁.stream in
@@ -116,7 +116,7 @@ module _ {told : Bool} {runs : PageRuns} {faults : ℕ} {region : Identity} {es 
         are = ready.are;
         taken = (ready.taken ∙ sym v.stream_is);
         quarantine = (v.quarantine_same ∙ ready.quarantine);
-        places = (v.parking ∙ ready.places);
+        parking = (v.parking ∙ ready.parking);
         picks = (record {
           place = place_test region.shape (place region.shape n i) n i region.served.shape (record { below = ready.below; no_guard = ready.no_guard; slot = lt; is = refl });
           source = subst (λ (m : ℕ). Source region.shape (state (terms_in told region) es) choices.opened m) (sym slab) ready.source;

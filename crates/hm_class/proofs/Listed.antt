@@ -1,4 +1,4 @@
--- How the lists, the stream, the quarantine and the parking places follow the cells, entry by entry.
+-- How the lists, the stream, the quarantine and the parking parking follow the cells, entry by entry.
 use Rattle.std.proofs.Common.{◌≡◌, ℕ, Bool, true, false, cond, List, [], Option, sym, ◌∙◌, ap, subst, refl}
 use Rattle.hm_choice.specs.Stream.{Words}
 use Rattle.hm_quarantine.specs.Quarantine.{Kept, kept_with}
@@ -78,13 +78,13 @@ pub next_picked : (t : Terms) (s : State) (store store' : Store) (e : Entry) (a 
     → store'.slabs.lists.empty ≡ listed Empty n before (kind_at store'.slabs.slabs n) store.slabs.lists.empty
     → store'.quarantine ≡ store.quarantine → store'.slabs.parking ≡ store.slabs.parking
     → next t (cells_of s store) e ≡ cells_of (step t.shape s e) store'
-next_picked t s store store' e a n before shape is slab was h' taken partial empty quarantine places =
+next_picked t s store store' e a n before shape is slab was h' taken partial empty quarantine parking =
     let now : kind t.shape (step t.shape s e) n ≡ kind_at store'.slabs.slabs n = kind_is t.shape store'.slabs.slabs (step t.shape s e) n shape h' in
     next_is t (cells_of s store) e (Picked a) is
     ∙ same_cells (step t.shape s e) _ _ _ _ _ _ _ _ _ _ taken
     (listed_as Partial t.shape s (step t.shape s e) (slab_of t.shape a) n before (kind_at store'.slabs.slabs n) store.slabs.lists.partial store'.slabs.lists.partial slab was now partial)
     (listed_as Empty t.shape s (step t.shape s e) (slab_of t.shape a) n before (kind_at store'.slabs.slabs n) store.slabs.lists.empty store'.slabs.lists.empty slab was now empty)
-    (sym quarantine) (sym places)
+    (sym quarantine) (sym parking)
 
 -- ---- a slot was freed
 pub next_freed : (t : Terms) (s : State) (store store' : Store) (e : Entry) (a n : ℕ) (before then : Kind) → event e ≡ Returned a → touched t.shape e.choices.released (Returned a) ≡ n
@@ -92,12 +92,12 @@ pub next_freed : (t : Terms) (s : State) (store store' : Store) (e : Entry) (a n
     → store'.slabs.lists.partial ≡ listed Partial n before then store.slabs.lists.partial → store'.slabs.lists.empty ≡ listed Empty n before then store.slabs.lists.empty
     → store'.quarantine ≡ kept_with store.quarantine a (array_place t.shape e.draws) → store'.slabs.parking ≡ parking_with (parking_place t e.draws) e.choices.retired store.slabs.parking
     → next t (cells_of s store) e ≡ cells_of (step t.shape s e) store'
-next_freed t s store store' e a n before then is slab was now taken partial empty kept places =
+next_freed t s store store' e a n before then is slab was now taken partial empty kept parking =
     next_is t (cells_of s store) e (Returned a) is
     ∙ same_cells (step t.shape s e) _ _ _ _ _ _ _ _ _ _ taken
     (listed_as Partial t.shape s (step t.shape s e) (touched t.shape e.choices.released (Returned a)) n before then store.slabs.lists.partial store'.slabs.lists.partial slab was now partial)
     (listed_as Empty t.shape s (step t.shape s e) (touched t.shape e.choices.released (Returned a)) n before then store.slabs.lists.empty store'.slabs.lists.empty slab was now empty)
-    (sym kept) (sym places)
+    (sym kept) (sym parking)
 
 -- a slab is partial where its kind is that
 pub partial_kind : (p : Shape) (s : State) (n : ℕ) → same_kind (kind p s n) Partial ≡ is_partial p s n

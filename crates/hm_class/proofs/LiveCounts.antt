@@ -13,7 +13,7 @@ use Rattle.hm_slab_meta.specs.Uses.{Live, Condemned, was_given}
 use Rattle.hm_class.specs.declared.store.Store.{Store}
 use Rattle.hm_class.specs.SlotBytes.{KeepsPages}
 use Rattle.hm_class.specs.Uses.{lives, occupied, passes_at, use_at, live_count}
-use Rattle.hm_class.specs.Finds.{Finds, Serves, Serve, CanOpen, CanPick, CanServe, slot_in, start_from}
+use Rattle.hm_class.specs.Finds.{Finds, GivesFrom, GivesOf, CanOpen, CanPick, CanServe, slot_in, start_from}
 use Rattle.hm_class.specs.Gives.{Gives}
 use Rattle.hm_class.specs.Events.{canary_value}
 use Rattle.hm_class.specs.Sources.{new_of}
@@ -36,7 +36,7 @@ module _ {P : Type 0} (meaning : pages.Ghosts P) (region : Identity) (store stor
   given_more (reply.Overwritten a at found) n i u was g = omega (arith, ap live_count g.slabs, counted lives store₁.slabs.slabs n i (Condemned (passes_at was_given store₁.slabs.slabs n i)) u was)
   given_more other n i u was g = absurd g
 
-  more_live : (n : ℕ) (o : Reply) → CanPick region.shape store₁.slabs n → Serve meaning store₁ store' mid now region n o → live_count store'.slabs.slabs ≤ live_count store₁.slabs.slabs + 1
+  more_live : (n : ℕ) (o : Reply) → CanPick region.shape store₁.slabs n → GivesOf meaning store₁ store' mid now region n o → live_count store'.slabs.slabs ≤ live_count store₁.slabs.slabs + 1
   more_live n o can v =
       let first = can.first (start_from region.config region.shape store₁.stream) (start_below region.config region.shape store₁.stream (omega (arith, region.served.shape.slots_some))) in
       let same : first.index ≡ v.index = same_Some first.index v.index (sym first.is ∙ v.first) in
@@ -44,14 +44,14 @@ module _ {P : Type 0} (meaning : pages.Ghosts P) (region : Identity) (store stor
       let u = mapped occupied (use_at store₁.slabs.slabs n v.index) false free in
       given_more o n v.index u.0 u.1 v.gives
 
-  pub served_live : (n : NextSlab) (e : Event) → CanServe region.shape store₁.slabs n → Serves meaning store₁ store' mid now region n e
+  pub served_live : (n : NextSlab) (e : Event) → CanServe region.shape store₁.slabs n → GivesFrom meaning store₁ store' mid now region n e
       → live_count store'.slabs.slabs ≤ live_count store₁.slabs.slabs + 1
   served_live (next.Open n) e can v = more_live n e.reply can v.0
   served_live (next.New n canary) e can v = more_live n e.reply can v.0
   served_live next.Exhausted e can v = omega (arith, ap live_count v.1.0.slabs)
   served_live next.PagesFailed e can v = omega (arith, ap live_count v.1.0.slabs)
 
--- what stays: the parking places, the quarantine, and whether the pages tell
+-- what stays: the parking parking, the quarantine, and whether the pages tell
 module _ {P : Type 0} (meaning : pages.Ghosts P) (region : Identity) (store store₁ store' : Store) (begun mid now : P) where
   pub found_parking : (n : NextSlab) → Finds meaning store store₁ begun mid region.shape n → store₁.slabs.parking ≡ store.slabs.parking
   found_parking (next.Open n) f = f.1.0.lists.parking
@@ -59,7 +59,7 @@ module _ {P : Type 0} (meaning : pages.Ghosts P) (region : Identity) (store stor
   found_parking next.Exhausted f = f.1.0.lists.parking
   found_parking next.PagesFailed f = f.2.lists.parking
 
-  pub served_parking : (n : NextSlab) (e : Event) → Serves meaning store₁ store' mid now region n e → store'.slabs.parking ≡ store₁.slabs.parking
+  pub served_parking : (n : NextSlab) (e : Event) → GivesFrom meaning store₁ store' mid now region n e → store'.slabs.parking ≡ store₁.slabs.parking
   served_parking (next.Open n) e v = v.0.parking
   served_parking (next.New n canary) e v = v.0.parking
   served_parking next.Exhausted e v = v.1.0.lists.parking
@@ -71,7 +71,7 @@ module _ {P : Type 0} (meaning : pages.Ghosts P) (region : Identity) (store stor
   found_quarantine next.Exhausted f = f.1.0.quarantine_same
   found_quarantine next.PagesFailed f = f.2.quarantine_same
 
-  pub served_quarantine : (n : NextSlab) (e : Event) → Serves meaning store₁ store' mid now region n e → store'.quarantine ≡ store₁.quarantine
+  pub served_quarantine : (n : NextSlab) (e : Event) → GivesFrom meaning store₁ store' mid now region n e → store'.quarantine ≡ store₁.quarantine
   served_quarantine (next.Open n) e v = v.0.quarantine_same
   served_quarantine (next.New n canary) e v = v.0.quarantine_same
   served_quarantine next.Exhausted e v = v.1.0.quarantine_same
@@ -83,7 +83,7 @@ module _ {P : Type 0} (meaning : pages.Ghosts P) (region : Identity) (store stor
   found_told next.Exhausted f = f.1.0.told_same
   found_told next.PagesFailed f = f.2.told_same
 
-  pub served_pages : (n : NextSlab) (e : Event) → Serves meaning store₁ store' mid now region n e → KeepsPages meaning mid now
+  pub served_pages : (n : NextSlab) (e : Event) → GivesFrom meaning store₁ store' mid now region n e → KeepsPages meaning mid now
   served_pages (next.Open n) e v = gives_pages meaning region n v.0.index store₁.slabs store'.slabs mid now e.reply v.0.gives
   served_pages (next.New n canary) e v = gives_pages meaning region n v.0.index store₁.slabs store'.slabs mid now e.reply v.0.gives
   served_pages next.Exhausted e v = record { told = v.1.0.told_same; count = v.1.1 }

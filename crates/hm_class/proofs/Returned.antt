@@ -24,14 +24,14 @@ use Rattle.hm_slab_meta.specs.Uses.{SlotUse, Never, Free, Live, Held, Condemned,
 use Rattle.hm_class.specs.declared.slabs.Slot.{Slot}
 use Rattle.hm_class.specs.Sources.{IsLiveAt}
 use Rattle.hm_class.specs.Uses.{Uses, SlabUse, lives, occupied, has_occupied, has_available, is_held, kind_of, kind_at, use_at, passes_at, with_slot, with_use}
-use Rattle.hm_class.specs.Frees.{place_of_word, CanRelease, Holds}
+use Rattle.hm_class.specs.Frees.{index_of_word, CanRelease, Holds}
 use Rattle.hm_class.specs.Region.{HoldsSlabs}
 use Rattle.hm_class.specs.declared.identity.Identity.{Identity}
 use Rattle.hm_class.specs.declared.store.Store.{Store}
 use Rattle.hm_class.specs.Kept.{Shows, IsKept, terms_in}
 use Rattle.hm_class.proofs.Followed.{shows_held}
-use Rattle.hm_class.proofs.Freed.{place_fits}
-use Rattle.hm_class.proofs.Paged.{holds_write, holds_without, slab_run}
+use Rattle.hm_class.proofs.Freed.{index_fits}
+use Rattle.hm_class.proofs.Paged.{holds_write, holds_without, slab_page_run}
 use Rattle.hm_class.proofs.Permitted.{usable_held, live_open}
 use Rattle.hm_class.proofs.Places.{slab_of_place, slot_of_place}
 use Rattle.hm_class.proofs.Shown.{kind_is, available_test}
@@ -105,8 +105,8 @@ module _ {told : Bool} {runs : PageRuns} {faults : ℕ} {region : Identity} {es 
   kind_then m = kind_is region.shape store.slabs.slabs first m region.served.shape kept.follows.shows ∙ sym (ap (λ (u : Uses). kind_at u m) holds.slabs ∙ kind_held store.slabs.slabs live.slab live.index Held Live at_live.1 refl m)
 
   -- what leaves the quarantine
-  pub release_now : Releases region.shape taken (let_go store.quarantine a (place_of_word region.shape (next_word store.stream)))
-  release_now = (allows_now kept).release a (place_of_word region.shape (next_word store.stream)) was_live (place_fits region.shape store.stream)
+  pub release_now : Releases region.shape taken (let_go store.quarantine a (index_of_word region.shape (next_word store.stream)))
+  release_now = (allows_now kept).release a (index_of_word region.shape (next_word store.stream)) was_live (index_fits region.shape store.stream)
 
   -- the slot of what is released
   pub record IsReleased (b : ℕ) : Type 0 where
@@ -152,7 +152,7 @@ module _ {told : Bool} {runs : PageRuns} {faults : ℕ} {region : Identity} {es 
         slab = record {
           below = r.below;
           on = sym (held_shows.opens (slab_of region.shape b)) ∙ r.open_slab;
-          run = λ own y. slab_run region.shape taken.opens (slab_of region.shape b) (meaning.runs half) own r.open_slab (held_slabs (sym told_is ∙ sym holds.cleared.pages.told ∙ y));
+          page_run = λ own y. slab_page_run region.shape taken.opens (slab_of region.shape b) (meaning.runs half) own r.open_slab (held_slabs (sym told_is ∙ sym holds.cleared.pages.told ∙ y));
           parking = ap (λ (l : List (Option ℕ)). length l) holds.lists.parking ∙ (kept_now kept).parking_length;
         };
       }
@@ -164,6 +164,6 @@ module _ {told : Bool} {runs : PageRuns} {faults : ℕ} {region : Identity} {es 
   pub release_ready : IfSome result.0 (CanRelease meaning region store₁.slabs half)
   release_ready = of result.0 holds.released
     where
-      of : (o : Option ℕ) → o ≡ let_go store.quarantine a (place_of_word region.shape (next_word store.stream)) → IfSome o (CanRelease meaning region store₁.slabs half)
+      of : (o : Option ℕ) → o ≡ let_go store.quarantine a (index_of_word region.shape (next_word store.stream)) → IfSome o (CanRelease meaning region store₁.slabs half)
       of None e = tt
-      of (Some b) e = can_release b (at_released (let_go store.quarantine a (place_of_word region.shape (next_word store.stream))) b release_now (sym e))
+      of (Some b) e = can_release b (at_released (let_go store.quarantine a (index_of_word region.shape (next_word store.stream))) b release_now (sym e))

@@ -12,7 +12,7 @@ use Rattle.hm_slab_meta.specs.Uses.{SlotUse, Live, Condemned, was_given}
 use Rattle.hm_class.specs.Uses.{Uses, passes_at, kind_at, slab_in, open_at, first_at, with_slot, with_use}
 use Rattle.hm_class.proofs.Used.{open_changed, open_there, slab_beside}
 use Rattle.hm_class.specs.Gives.{Gives}
-use Rattle.hm_class.specs.Finds.{Serve, slot_in, start_from, start_stream}
+use Rattle.hm_class.specs.Finds.{GivesOf, slot_in, start_from, start_stream}
 
 module _ {P : Type 0} (meaning : pages.Ghosts P) (region : Identity) (n : ℕ) (old new : Store) (mid : Slabs) (before now : P) (index : ℕ)
     (same : SameLists old.slabs mid) (placed_in : SameSlots mid new.slabs) (lists : new.slabs.lists ≡ placed (list_of (kind_at mid.slabs n)) n mid.lists) where
@@ -22,7 +22,7 @@ module _ {P : Type 0} (meaning : pages.Ghosts P) (region : Identity) (n : ℕ) (
   gives_on other g = absurd g
 
   pub serve_of : (o : Reply) → first_at old.slabs.slabs n (start_from region.config region.shape old.stream) ≡ Some index → Gives meaning region old.slabs mid before now (slot_in n index) o
-      → new.stream ≡ start_stream region.config old.stream → new.quarantine ≡ old.quarantine → Serve meaning old new before now region n o
+      → new.stream ≡ start_stream region.config old.stream → new.quarantine ≡ old.quarantine → GivesOf meaning old new before now region n o
   serve_of o first g taken quarantine = record {
     index = index;
     first = first;

@@ -35,18 +35,18 @@ use Rattle.hm_class.specs.Uses.{numbers_of, open_at, Uses, SlabUse, lives, kind_
 use Rattle.hm_class.specs.Slabs.{SameLists, Parks, list_of}
 use Rattle.hm_slab_lists.specs.Lists.{Lists, gone, placed}
 use Rattle.hm_slab_lists.specs.Table.{unparked}
-use Rattle.hm_class.proofs.Filing.{Stands, Moved, with_unparked, placed_moved, placed_full, retired_partial, retired_empty, retired_shut, retired_full, same_full}
+use Rattle.hm_class.proofs.Filing.{Stands, Relisted, with_unparked, placed_relisted, placed_full, retired_partial, retired_empty, retired_shut, retired_full, same_full}
 use Rattle.hm_model.specs.Calls.{entry_of, no_choices}
 use Rattle.hm_class.specs.Events.{freed_choices, freed_draws}
 use Rattle.hm_class.specs.Frees as frees
-use Rattle.hm_class.specs.Frees.{array_word, place_of_word, array_stream, Holds, Settles, is_surplus, freed_uses}
+use Rattle.hm_class.specs.Frees.{array_word, index_of_word, array_stream, Holds, Settles, is_surplus, freed_uses}
 use Rattle.hm_class.specs.Region.{HoldsSlabs}
 use Rattle.hm_class.specs.declared.identity.Identity.{Identity}
 use Rattle.hm_class.specs.declared.store.Store.{Store}
 use Rattle.hm_class.specs.Kept.{Shows, AreFull, IsKept, terms_in, cells_of}
 use Rattle.hm_class.proofs.Entered.{length_taken, has_removed_same, has_overlaid}
 use Rattle.hm_class.proofs.Followed.{shows_count, shows_released, shows_retired, shows_unparked, shows_written}
-use Rattle.hm_class.proofs.Freed.{released_is, draws_are, stepped_freed, after_freed, stream_after, IsNextWord, IsUnparked, place_drawn, parking_drawn}
+use Rattle.hm_class.proofs.Freed.{released_is, draws_are, stepped_freed, after_freed, stream_after, IsNextWord, IsUnparked, index_drawn, parking_drawn}
 use Rattle.hm_class.proofs.Listed.{next_freed, listed_same, empty_kind}
 use Rattle.hm_class.proofs.Paged.{holds_retired, holds_purged}
 use Rattle.hm_class.proofs.Permitted.{allowed_of, told_pair}
@@ -123,7 +123,7 @@ module _ {P : Type 0} {meaning : pages.Ghosts P} {begun half : P} {region : Iden
       of false off = clean_without region.shape first a off
 
   -- once the slabs, the pages and the lists follow
-  finish : (released : Option ℕ) (m : ℕ) (e : Emptied) (final : State) (kb ka : Kind) → released ≡ let_go store.quarantine a (place_of_word region.shape (next_word store.stream))
+  finish : (released : Option ℕ) (m : ℕ) (e : Emptied) (final : State) (kb ka : Kind) → released ≡ let_go store.quarantine a (index_of_word region.shape (next_word store.stream))
       → step region.shape first (entry_freed region.shape store.stream who a stated released e f f') ≡ record final { faults = f' }
       → Empties t (releases released taken) f f' (freed_choices released e) (surplus region.shape (releases released taken) released)
       → IsNextWord store.stream (region.shape.array == 0) e → IsUnparked t (cells_of first store) e
@@ -131,9 +131,9 @@ module _ {P : Type 0} {meaning : pages.Ghosts P} {begun half : P} {region : Iden
       → touched region.shape released (Returned a) ≡ m → kind region.shape first m ≡ kb → kind region.shape final m ≡ ka
       → store'.slabs.lists.partial ≡ listed Partial m kb ka store.slabs.lists.partial → store'.slabs.lists.empty ≡ listed Empty m kb ka store.slabs.lists.empty
       → store'.stream ≡ stream_after (array_stream region.shape store.stream) e → store'.slabs.parking ≡ parking_with (parking_place t (freed_draws (array_word region.shape (next_word store.stream)) e)) (freed_choices released e).retired store.slabs.parking
-      → store'.quarantine ≡ kept_with store.quarantine a (place_of_word region.shape (next_word store.stream))
+      → store'.quarantine ≡ kept_with store.quarantine a (index_of_word region.shape (next_word store.stream))
       → IsKept (meaning.told begun) (meaning.runs now) f' region (es ++ entry_freed region.shape store.stream who a stated released e f f' ∷ []) store'
-  finish released m e final kb ka let_is after empties next unparked shows shut full numbers live slabs at was now_is partial empty taken_words places quarantine =
+  finish released m e final kb ka let_is after empties next unparked shows shut full numbers live slabs at was now_is partial empty taken_words parking quarantine =
       let x : Entry = entry_freed region.shape store.stream who a stated released e f f' in
       let same : (freed_choices released e).released ≡ released = released_is released e in
       let release : Releases region.shape taken released = subst (λ (o : Option ℕ). Releases region.shape taken o) (sym let_is)
@@ -158,7 +158,7 @@ module _ {P : Type 0} {meaning : pages.Ghosts P} {begun half : P} {region : Iden
       (λ y. subst (λ (s : State). HoldsSlabs region.shape s.opens (meaning.runs now)) (sym after) (slabs y))
       (next_freed t first store store' x a m kb ka refl (ap (λ (o : Option ℕ). touched region.shape o (Returned a)) same ∙ at) was
       (ap (λ (s : State). kind region.shape s m) after ∙ now_is) (after_freed region.shape store.stream e ∙ sym taken_words) partial empty
-      (quarantine ∙ ap (λ (i : ℕ). kept_with store.quarantine a i) (sym (place_drawn region.shape store.stream e))) places)
+      (quarantine ∙ ap (λ (i : ℕ). kept_with store.quarantine a i) (sym (index_drawn region.shape store.stream e))) parking)
 
   -- the slots with the freed one held
   shows₁ : Shows region.shape store₁.slabs.slabs taken
@@ -192,9 +192,9 @@ module _ {P : Type 0} {meaning : pages.Ghosts P} {begun half : P} {region : Iden
   Ends released e = IsKept (meaning.told begun) (meaning.runs now) f' region (es ++ entry_freed region.shape store.stream who a stated released e f f' ∷ []) store'
 
   -- nothing left the quarantine
-  pub kept_held : (e : Emptied) → None ≡ let_go store.quarantine a (place_of_word region.shape (next_word store.stream)) → e ≡ emptied.Kept → store'.slabs.slabs ≡ store₁.slabs.slabs → SameLists store₁.slabs store'.slabs → (IsTrue (meaning.told begun) → meaning.runs now ≡ meaning.runs half) → store'.stream ≡ array_stream region.shape store.stream → store'.slabs.parking ≡ store.slabs.parking
+  pub kept_held : (e : Emptied) → None ≡ let_go store.quarantine a (index_of_word region.shape (next_word store.stream)) → e ≡ emptied.Kept → store'.slabs.slabs ≡ store₁.slabs.slabs → SameLists store₁.slabs store'.slabs → (IsTrue (meaning.told begun) → meaning.runs now ≡ meaning.runs half) → store'.stream ≡ array_stream region.shape store.stream → store'.slabs.parking ≡ store.slabs.parking
       → store'.quarantine ≡ store₁.quarantine → Ends None e
-  kept_held e none e_is same same_lists same_runs words places quarantine =
+  kept_held e none e_is same same_lists same_runs words parking quarantine =
       let m : ℕ = slab_of region.shape a in
       let ka : Kind = kind region.shape first m in
       let all_lists : store'.slabs.lists ≡ store.slabs.lists = same_lists.lists ∙ holds.lists.lists in
@@ -207,10 +207,10 @@ module _ {P : Type 0} {meaning : pages.Ghosts P} {begun half : P} {region : Iden
       refl refl (kind_is region.shape store₁.slabs.slabs taken m region.served.shape shows₁ ∙ sym (kind₁ m))
       (ap (λ (l : Lists). l.partial) all_lists ∙ sym (listed_same Partial ka m store.slabs.lists.partial))
       (ap (λ (l : Lists). l.empty) all_lists ∙ sym (listed_same Empty ka m store.slabs.lists.empty))
-      words places (quarantine ∙ holds.quarantine_is))
+      words parking (quarantine ∙ holds.quarantine_is))
 
   -- ---- slot b left the quarantine
-  module _ (b : ℕ) (let_is : Some b ≡ let_go store.quarantine a (place_of_word region.shape (next_word store.stream))) where
+  module _ (b : ℕ) (let_is : Some b ≡ let_go store.quarantine a (index_of_word region.shape (next_word store.stream))) where
     abbrev m : ℕ
     m = slab_of region.shape b
 
@@ -281,21 +281,21 @@ module _ {P : Type 0} {meaning : pages.Ghosts P} {begun half : P} {region : Iden
         slabs_are : store'.slabs.slabs ≡ uses₂
         slabs_are = joins.slabs ∙ mid_slabs
 
-        moved_to : Moved store.slabs.lists (placed (list_of ka) m store.slabs.lists) m (kind_at store₁.slabs.slabs m) ka
-        moved_to = placed_moved store.slabs.lists m (kind_at store₁.slabs.slabs m) ka stands
+        relisted : Relisted store.slabs.lists (placed (list_of ka) m store.slabs.lists) m (kind_at store₁.slabs.slabs m) ka
+        relisted = placed_relisted store.slabs.lists m (kind_at store₁.slabs.slabs m) ka stands
 
         joined_full : AreFull store'.slabs.slabs store'.slabs.lists.full
         joined_full = subst (λ (u : Uses). AreFull u store'.slabs.lists.full) (sym slabs_are) (subst (λ (l : Lists). AreFull uses₂ l.full) (sym lists_are)
             (placed_full store₁.slabs.slabs uses₂ store.slabs.lists m (kind_at store₁.slabs.slabs m) ka stands full₁ open₂ is_ka beside₂))
 
         joined_shut : store'.slabs.lists.retired ≡ first.shut
-        joined_shut = ap (λ (l : Lists). l.retired) lists_are ∙ moved_to.retired ∙ kept.follows.shut
+        joined_shut = ap (λ (l : Lists). l.retired) lists_are ∙ relisted.retired ∙ kept.follows.shut
 
         joined_partial : store'.slabs.lists.partial ≡ listed Partial m (kind_at store₁.slabs.slabs m) ka store.slabs.lists.partial
-        joined_partial = ap (λ (l : Lists). l.partial) lists_are ∙ moved_to.partial
+        joined_partial = ap (λ (l : Lists). l.partial) lists_are ∙ relisted.partial
 
         joined_empty : store'.slabs.lists.empty ≡ listed Empty m (kind_at store₁.slabs.slabs m) ka store.slabs.lists.empty
-        joined_empty = ap (λ (l : Lists). l.empty) lists_are ∙ moved_to.empty
+        joined_empty = ap (λ (l : Lists). l.empty) lists_are ∙ relisted.empty
 
         joined_numbers : store'.slabs.numbers ≡ numbers_of region.shape
         joined_numbers = joins.numbers ∙ mid_lists.numbers ∙ holds.lists.numbers ∙ kept.follows.numbers
@@ -329,8 +329,8 @@ module _ {P : Type 0} {meaning : pages.Ghosts P} {begun half : P} {region : Iden
         mid : Slabs
         mid = v.mid
 
-        places : mid.parking ≡ store.slabs.parking
-        places = v.lists.parking ∙ holds.lists.parking
+        parking : mid.parking ≡ store.slabs.parking
+        parking = v.lists.parking ∙ holds.lists.parking
 
         over : Bool → Type 0
         over x = is_surplus region.shape mid.slabs (length mid.lists.empty) m ≡ x
@@ -343,26 +343,26 @@ module _ {P : Type 0} {meaning : pages.Ghosts P} {begun half : P} {region : Iden
         by_end emptied.Kept w =
             let ka : Kind = kind_at uses₂ m in
             let j = w.1.joins in
-            let q = w.1.places in
+            let q = w.1.keeps in
             finish (Some b) m emptied.Kept freed (kind_at store₁.slabs.slabs m) ka let_is refl
             (subst (λ (o : Option ℕ). Empties t freed f f' (freed_choices (Some b) emptied.Kept) o) (sym (surplus_when false (surplus_by false w.0))) (refl, refl, refl)) tt tt
             (subst (λ (u : Uses). Shows region.shape u freed) (sym (slabs_are mid v.slabs v.lists ka j refl)) shows₂) (joined_shut mid v.slabs v.lists ka j refl)
             (joined_full mid v.slabs v.lists ka j refl) (joined_numbers mid v.slabs v.lists ka j refl)
             (omega (arith, live_taken, ap live_count (slabs_are mid v.slabs v.lists ka j refl), free_live))
-            (λ y. subst (λ (r : PageRuns). HoldsSlabs region.shape taken.opens r) (sym (q.runs_same (holds.cleared.pages.told ∙ y))) (slabs₁ y))
+            (λ y. subst (λ (r : PageRuns). HoldsSlabs region.shape taken.opens r) (sym (q.page_runs_same (holds.cleared.pages.told ∙ y))) (slabs₁ y))
             refl (kind₁ m) (kind_is region.shape uses₂ freed m region.served.shape shows₂)
             (joined_partial mid v.slabs v.lists ka j refl) (joined_empty mid v.slabs v.lists ka j refl)
-            (q.stream_is ∙ holds.stream_is) (q.parking_is ∙ places) (q.quarantine_same ∙ holds.quarantine_is)
+            (q.stream_is ∙ holds.stream_is) (q.parking_is ∙ parking) (q.quarantine_same ∙ holds.quarantine_is)
         by_end (emptied.Retired d w u) x =
             let j = x.1 in
             let r = place_b in
             let g = found uses₂ m (slot_of region.shape b) Free (freed_use store₁.slabs.slabs m (slot_of region.shape b) r.used) in
             let length_is : length mid.parking ≡ region.config.park_length =
-            ap (λ (l : List (Option ℕ)). length l) places ∙ (kept_now kept).parking_length in
+            ap (λ (l : List (Option ℕ)). length l) parking ∙ (kept_now kept).parking_length in
             let some : 0 < region.config.park_length = omega (arith, region.served.valid.park_some) in
             let word_low : w < 2 ^ 32 = subst (λ (x : ℕ). x < 2 ^ 32) (sym j.word_is) (next_below store₁.stream) in
             let here : u ≡ slice_index_or store.slabs.parking (drawn region.config.park_length w) None =
-            j.unparked_is ∙ ap (λ (x : ℕ). slice_index_or mid.parking (drawn x w) None) length_is ∙ ap (λ (l : List (Option ℕ)). slice_index_or l (drawn region.config.park_length w) None) places in
+            j.unparked_is ∙ ap (λ (x : ℕ). slice_index_or mid.parking (drawn x w) None) length_is ∙ ap (λ (l : List (Option ℕ)). slice_index_or l (drawn region.config.park_length w) None) parking in
             let allowed : Unparks region.config.park_length first.parked u = subst (λ (o : Option ℕ). Unparks region.config.park_length first.parked o) (sym here)
             ((allows_now kept).unparked (drawn region.config.park_length w) (drawn_below region.config.park_length w some word_low)) in
             let s₃ : State = unparks u freed in
@@ -383,7 +383,7 @@ module _ {P : Type 0} {meaning : pages.Ghosts P} {begun half : P} {region : Iden
             (ap (λ (l : Lists). l.partial) all ∙ retired_partial store.slabs.lists m u (kind_at store₁.slabs.slabs m) stands)
             (ap (λ (l : Lists). l.empty) all ∙ retired_empty store.slabs.lists m u (kind_at store₁.slabs.slabs m) stands)
             (j.stream_is ∙ ap after_word holds.stream_is)
-            (j.parks.parking ∙ ap (λ (x : ℕ). slice_set mid.parking (drawn x w) (Some m)) length_is ∙ ap (λ (l : List (Option ℕ)). slice_set l (drawn region.config.park_length w) (Some m)) places
+            (j.parks.parking ∙ ap (λ (x : ℕ). slice_set mid.parking (drawn x w) (Some m)) length_is ∙ ap (λ (l : List (Option ℕ)). slice_set l (drawn region.config.park_length w) (Some m)) parking
             ∙ ap (λ (i : ℕ). slice_set store.slabs.parking i (Some m)) (sym (parking_drawn t store.stream m w u)))
             (j.quarantine_same ∙ holds.quarantine_is))
         by_end (emptied.Purged d) w =
@@ -403,20 +403,20 @@ module _ {P : Type 0} {meaning : pages.Ghosts P} {begun half : P} {region : Iden
             (λ y. subst (λ (r : PageRuns). HoldsSlabs region.shape final.opens r) (sym (q.dropped.1 (holds.cleared.pages.told ∙ y))) (holds_purged region.shape taken.opens m (meaning.runs half) region.served.shape q.dropped.0 place_b.open_slab (slabs₁ y)))
             refl (kind₁ m) (kind_is region.shape uses₂ final m region.served.shape shows₃ ∙ is)
             (joined_partial mid v.slabs v.lists Empty j is) (joined_empty mid v.slabs v.lists Empty j is)
-            (q.stream_is ∙ holds.stream_is) (q.parking_is ∙ places) (q.quarantine_same ∙ holds.quarantine_is))
+            (q.stream_is ∙ holds.stream_is) (q.parking_is ∙ parking) (q.quarantine_same ∙ holds.quarantine_is))
 
   -- what was released, if anything
-  pub kept_ended : (released : Option ℕ) (e : Emptied) → released ≡ let_go store.quarantine a (place_of_word region.shape (next_word store.stream)) → Settles meaning store₁ store' half now region.shape released e
+  pub kept_ended : (released : Option ℕ) (e : Emptied) → released ≡ let_go store.quarantine a (index_of_word region.shape (next_word store.stream)) → Settles meaning store₁ store' half now region.shape released e
       → f' ≡ meaning.faults now → Ends released e
-  kept_ended None e let_is v now_is = kept_held e let_is v.0 v.1 v.2 (λ y. v.3.runs_same (holds.cleared.pages.told ∙ y)) (v.3.stream_is ∙ holds.stream_is) (v.3.parking_is ∙ holds.lists.parking) v.3.quarantine_same
+  kept_ended None e let_is v now_is = kept_held e let_is v.0 v.1 v.2 (λ y. v.3.page_runs_same (holds.cleared.pages.told ∙ y)) (v.3.stream_is ∙ holds.stream_is) (v.3.parking_is ∙ holds.lists.parking) v.3.quarantine_same
   kept_ended (Some b) e let_is v now_is = kept_released b let_is e v now_is
 
   -- what is released was not live, and no fault is taken back
-  pub live_ended : (released : Option ℕ) (e : Emptied) → released ≡ let_go store.quarantine a (place_of_word region.shape (next_word store.stream)) → Settles meaning store₁ store' half now region.shape released e
+  pub live_ended : (released : Option ℕ) (e : Emptied) → released ≡ let_go store.quarantine a (index_of_word region.shape (next_word store.stream)) → Settles meaning store₁ store' half now region.shape released e
       → live_count store'.slabs.slabs + 1 ≡ live_count store.slabs.slabs
   live_ended released e let_is v = omega (arith, same released e let_is v, ap live_count holds.slabs, counted lives store.slabs.slabs slot.slab slot.index Held Live accepts.judged.1)
     where
-      same : (released : Option ℕ) (e : Emptied) → released ≡ let_go store.quarantine a (place_of_word region.shape (next_word store.stream)) → Settles meaning store₁ store' half now region.shape released e → live_count store'.slabs.slabs ≡ live_count store₁.slabs.slabs
+      same : (released : Option ℕ) (e : Emptied) → released ≡ let_go store.quarantine a (index_of_word region.shape (next_word store.stream)) → Settles meaning store₁ store' half now region.shape released e → live_count store'.slabs.slabs ≡ live_count store₁.slabs.slabs
       same None e let_is v = ap live_count v.1
       same (Some b) e let_is v = by_end e v.empties
         where
@@ -433,7 +433,7 @@ settled_later meaning p old new half now None e v = omega (arith, v.3.count_same
 settled_later meaning p old new half now (Some b) e v = by_end e v.empties
   where
     by_end : (e : Emptied) → frees.Empties meaning (record old { slabs = v.mid }) new half now p (slab_of p b) e → meaning.faults half ≤ meaning.faults now
-    by_end emptied.Kept w = omega (arith, w.1.places.count_same)
+    by_end emptied.Kept w = omega (arith, w.1.keeps.count_same)
     by_end (emptied.Retired d w u) x = x.1.dropped.1
     by_end (emptied.Purged d) w = omega (arith, w.1.dropped.2)
 
@@ -443,6 +443,6 @@ settled_told meaning p old new half now None e v = v.3.told_same
 settled_told meaning p old new half now (Some b) e v = by_end e v.empties
   where
     by_end : (e : Emptied) → frees.Empties meaning (record old { slabs = v.mid }) new half now p (slab_of p b) e → meaning.told now ≡ meaning.told half
-    by_end emptied.Kept w = w.1.places.told_same
+    by_end emptied.Kept w = w.1.keeps.told_same
     by_end (emptied.Retired d w u) x = x.1.dropped.2
     by_end (emptied.Purged d) w = w.1.dropped.3

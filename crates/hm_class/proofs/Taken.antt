@@ -123,7 +123,7 @@ pub record IsPicked {P : Type 0} (meaning : pages.Ghosts P) (told : Bool) (fault
   pub are : AreDraws draws
   pub taken : after_words store.stream draws.used ≡ store'.stream
   pub quarantine : store'.quarantine ≡ store.quarantine
-  pub places : store'.slabs.parking ≡ store.slabs.parking
+  pub parking : store'.slabs.parking ≡ store.slabs.parking
   pub picks : Picks region.shape (state (terms_in told region) es) (opened region.shape choices.opened choices.canary (state (terms_in told region) es)) choices (place region.shape n i)
   pub stepped : (r : Reply) → event_of (Allot asked 1) r ≡ Picked (place region.shape n i) → IsSteppedEntry (terms_in told region) (cells_of (state (terms_in told region) es) store) (entry_of who (Allot asked 1) r choices draws f f')
 
@@ -157,7 +157,7 @@ module _ {told : Bool} {runs : PageRuns} {faults : ℕ} {region : Identity} {es 
         live_all = omega (arith, ready.live_all, more_live store₁.slabs.slabs store'.slabs.slabs n i Live v ready.was g.slabs, dead, length_removed q then.live);
       })
       (given_slabs meaning region.shape store₁.slabs.slabs then n i mid now told ready.tell region.served.shape ready.on ready.lt ready.shows ready.slabs a asked g.addr_is g.written)
-      (next_picked t (state t es) store store' e q n kind₀ region.served.shape refl (slab_of_place region.shape n i region.served.shape ready.lt) ready.was_kind shows' ready.taken ready.partial ready.empty ready.quarantine ready.places))
+      (next_picked t (state t es) store store' e q n kind₀ region.served.shape refl (slab_of_place region.shape n i region.served.shape ready.lt) ready.was_kind shows' ready.taken ready.partial ready.empty ready.quarantine ready.parking))
   kept_gives (reply.Overwritten a at found) g =
       let t : Terms = terms_in told region in
       let q : ℕ = place region.shape n i in
@@ -184,5 +184,5 @@ module _ {told : Bool} {runs : PageRuns} {faults : ℕ} {region : Identity} {es 
         live_all = omega (arith, ready.live_all, more_live store₁.slabs.slabs store'.slabs.slabs n i (Condemned (was_given v)) v ready.was items, dead);
       })
       (λ y. subst (λ (r : PageRuns). HoldsSlabs region.shape then.opens r) (sym (g.same (ready.tell y))) (ready.slabs y))
-      (next_picked t (state t es) store store' e q n kind₀ region.served.shape refl (slab_of_place region.shape n i region.served.shape ready.lt) ready.was_kind shows' ready.taken ready.partial ready.empty ready.quarantine ready.places))
+      (next_picked t (state t es) store store' e q n kind₀ region.served.shape refl (slab_of_place region.shape n i region.served.shape ready.lt) ready.was_kind shows' ready.taken ready.partial ready.empty ready.quarantine ready.parking))
   kept_gives other g = absurd g

@@ -42,7 +42,7 @@ freed_choices released (Retired slab word unparked) =
     record no_choices { released = released; retired = Some slab; unparked = unparked }
 freed_choices released (Purged slab) = record no_choices { released = released; purged = Some slab }
 
--- the word of the array's place, where there is an array, and that of the parking place
+-- the word of the array's index, where there is an array, and that of the parking index
 abbrev pub freed_draws : Option ℕ → Emptied → Draws
 freed_draws None Kept = no_words
 freed_draws None (Retired slab word unparked) = one_word word

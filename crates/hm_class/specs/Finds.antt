@@ -28,8 +28,8 @@ use Rattle.hm_class.specs.Uses.{Uses, SlabUse, slab_in, open_at, use_at, occupie
 
 -- ---- opening
 -- the runs once slab n was made accessible
-abbrev pub made_runs : Shape → ℕ → PageRuns → PageRuns
-made_runs p n runs = if has_bytes p then map.insert runs (slab_at p n) (zeros p.slab) else runs
+abbrev pub made_page_runs : Shape → ℕ → PageRuns → PageRuns
+made_page_runs p n runs = if has_bytes p then map.insert runs (slab_at p n) (zeros p.slab) else runs
 
 -- the canary that two words make
 abbrev pub canary_by : ℕ → ℕ → Canary
@@ -94,7 +94,7 @@ module _ {P : Type 0} (meaning : pages.Ghosts P) (old new : Store) (before now :
     pub stream_same : new.stream ≡ old.stream
     pub quarantine_same : new.quarantine ≡ old.quarantine
     pub told_same : meaning.told now ≡ meaning.told before
-    pub runs_same : IsTrue (meaning.told before) → meaning.runs now ≡ meaning.runs before
+    pub page_runs_same : IsTrue (meaning.told before) → meaning.runs now ≡ meaning.runs before
 
   -- so is the count of faults
   abbrev pub Stays : Type 0
@@ -109,7 +109,7 @@ module _ {P : Type 0} (meaning : pages.Ghosts P) (old new : Store) (before now :
       pub numbers : new.slabs.numbers ≡ old.slabs.numbers
       pub quarantine_same : new.quarantine ≡ old.quarantine
       pub told_same : meaning.told now ≡ meaning.told before
-      pub made : IsTrue (meaning.told before) → meaning.runs now ≡ made_runs p n (meaning.runs before)
+      pub made : IsTrue (meaning.told before) → meaning.runs now ≡ made_page_runs p n (meaning.runs before)
       pub canary_is : canary ≡ drawn_canary p old.stream
       pub stream_is : new.stream ≡ canary_stream p old.stream
       pub later : meaning.faults before ≤ meaning.faults now
@@ -124,7 +124,7 @@ module _ {P : Type 0} (meaning : pages.Ghosts P) (old new : Store) (before now :
   module _ (region : Identity) where
     -- the first available slot of slab n from the start was picked, and given or condemned; the slab went to the
     -- list of its kind
-    pub record Serve (n : ℕ) (r : Reply) : Type 0 where
+    pub record GivesOf (n : ℕ) (r : Reply) : Type 0 where
       pub index : ℕ
       pub first : first_at old.slabs.slabs n (start_from region.config region.shape old.stream) ≡ Some index
       pub gives : Gives meaning region old.slabs new.slabs before now (slot_in n index) r
@@ -135,10 +135,10 @@ module _ {P : Type 0} (meaning : pages.Ghosts P) (old new : Store) (before now :
       pub quarantine_same : new.quarantine ≡ old.quarantine
 
     -- where there is no slab all stays
-    abbrev pub Serves : NextSlab → Event → Type 0
-    Serves (next.Open n) e = Serve n e.reply × (e.choices ≡ no_choices)
+    abbrev pub GivesFrom : NextSlab → Event → Type 0
+    GivesFrom (next.Open n) e = GivesOf n e.reply × (e.choices ≡ no_choices)
         × (e.draws ≡ start_draws None (start_word region.config old.stream))
-    Serves (next.New n canary) e = Serve n e.reply × (e.choices ≡ chose_opened n canary)
+    GivesFrom (next.New n canary) e = GivesOf n e.reply × (e.choices ≡ chose_opened n canary)
         × (e.draws ≡ start_draws canary (start_word region.config old.stream))
-    Serves next.Exhausted e = (e ≡ plain reply.Exhausted) × Stays
-    Serves next.PagesFailed e = (e ≡ plain reply.PagesFailed) × Stays
+    GivesFrom next.Exhausted e = (e ≡ plain reply.Exhausted) × Stays
+    GivesFrom next.PagesFailed e = (e ≡ plain reply.PagesFailed) × Stays

@@ -21,12 +21,12 @@ use Rattle.hm_class.specs.Slabs.{Slabs, SameLists, Parks, list_of}
 use Rattle.hm_class.specs.Uses.{Uses, use_at, open_at, kind_at, with_use}
 
 -- ---- the array
--- the word that names a place of the array, where there is one; the place; and the stream after it
+-- the word that names an index of the array, where there is one; the index; and the stream after it
 abbrev pub array_word : Shape → ℕ → Option ℕ
 array_word p word = if p.array == 0 then None else Some word
 
-abbrev pub place_of_word : Shape → ℕ → ℕ
-place_of_word p word = if p.array == 0 then 0 else drawn p.array word
+abbrev pub index_of_word : Shape → ℕ → ℕ
+index_of_word p word = if p.array == 0 then 0 else drawn p.array word
 
 abbrev pub array_stream : Shape → Words → Words
 array_stream p stream = if p.array == 0 then stream else after_word stream
@@ -43,8 +43,8 @@ pub record Joins (n : ℕ) (uses : Uses) (old new : Slabs) : Type 0 where
   pub numbers : new.numbers ≡ old.numbers
 
 -- the runs once the pages of slab n went, where it has any
-abbrev pub dropped_runs : Shape → ℕ → PageRuns → PageRuns
-dropped_runs p n runs = if has_bytes p then map.remove runs (slab_at p n) else runs
+abbrev pub dropped_page_runs : Shape → ℕ → PageRuns → PageRuns
+dropped_page_runs p n runs = if has_bytes p then map.remove runs (slab_at p n) else runs
 
 -- the slot at b is free
 abbrev pub freed_uses : Shape → ℕ → Uses → Uses
@@ -68,7 +68,7 @@ module _ {P : Type 0} (meaning : pages.Ghosts P) where
   pub record CanRetire (region : Identity) (k : Slabs) (pages : P) (n : ℕ) : Type 0 where
     pub below : n < region.shape.limit
     pub on : open_at k.slabs n ≡ true
-    pub run : has_bytes region.shape ≡ true → IsTrue (meaning.told pages)
+    pub page_run : has_bytes region.shape ≡ true → IsTrue (meaning.told pages)
         → IsRun (meaning.runs pages) (slab_at region.shape n) region.shape.slab
     pub parking : length k.parking ≡ region.config.park_length
 
@@ -81,7 +81,7 @@ module _ {P : Type 0} (meaning : pages.Ghosts P) where
   -- the pages of slab n went, where it has any; or their bytes were made zero
   abbrev pub Drops : Shape → ℕ → P → P → Bool → Type 0
   Drops p n before now true =
-      (IsTrue (meaning.told before) → meaning.runs now ≡ dropped_runs p n (meaning.runs before))
+      (IsTrue (meaning.told before) → meaning.runs now ≡ dropped_page_runs p n (meaning.runs before))
       × (meaning.faults before ≤ meaning.faults now) × (meaning.told now ≡ meaning.told before)
   Drops p n before now false =
       (has_bytes p ≡ true)
@@ -96,15 +96,15 @@ module _ {P : Type 0} (meaning : pages.Ghosts P) (old new : Store) (before now :
     pub cleared : Clears meaning p before now a
     pub slabs : new.slabs.slabs ≡ with_use old.slabs.slabs s.slab s.index Held
     pub lists : SameLists old.slabs new.slabs
-    pub released : result.0 ≡ let_go old.quarantine a (place_of_word p (next_word old.stream))
+    pub released : result.0 ≡ let_go old.quarantine a (index_of_word p (next_word old.stream))
     pub word : result.1 ≡ array_word p (next_word old.stream)
-    pub quarantine_is : new.quarantine ≡ kept_with old.quarantine a (place_of_word p (next_word old.stream))
+    pub quarantine_is : new.quarantine ≡ kept_with old.quarantine a (index_of_word p (next_word old.stream))
     pub stream_is : new.stream ≡ array_stream p old.stream
 
-  -- the pages, the stream, the quarantine and the parking places are as before
-  pub record KeepsPlaces : Type 0 where
+  -- the pages, the stream, the quarantine and the parking array are as before
+  pub record KeepsParking : Type 0 where
     pub told_same : meaning.told now ≡ meaning.told before
-    pub runs_same : IsTrue (meaning.told before) → meaning.runs now ≡ meaning.runs before
+    pub page_runs_same : IsTrue (meaning.told before) → meaning.runs now ≡ meaning.runs before
     pub count_same : meaning.faults now ≡ meaning.faults before
     pub stream_is : new.stream ≡ old.stream
     pub quarantine_same : new.quarantine ≡ old.quarantine
@@ -113,7 +113,7 @@ module _ {P : Type 0} (meaning : pages.Ghosts P) (old new : Store) (before now :
   -- slab n joins the slabs of its kind
   pub record JoinsSlab (n : ℕ) : Type 0 where
     pub joins : Joins n old.slabs.slabs old.slabs new.slabs
-    pub places : KeepsPlaces
+    pub keeps : KeepsParking
 
   module _ (p : Shape) (n : ℕ) where
     -- slab n was retired
@@ -158,5 +158,5 @@ module _ {P : Type 0} (meaning : pages.Ghosts P) (old new : Store) (before now :
   -- what left the quarantine, if anything did, is released
   abbrev pub Settles : Option ℕ → Emptied → Type 0
   Settles None e = (e ≡ Kept) × (new.slabs.slabs ≡ old.slabs.slabs) × SameLists old.slabs new.slabs
-      × KeepsPlaces meaning old new before now
+      × KeepsParking meaning old new before now
   Settles (Some b) e = Releases b e

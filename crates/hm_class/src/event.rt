@@ -25,7 +25,7 @@ pub struct Canary {
 pub enum Emptied {
     /// It serves on, or no slot was released.
     Kept,
-    /// It is retired. `word` names its parking place, and `unparked` is the slab that stood there.
+    /// It is retired. `word` names its parking index, and `unparked` is the slab that stood there.
     Retired {
         slab: u64,
         word: u32,
@@ -89,8 +89,8 @@ fn freed_choices(released: Option<u64>, emptied: Emptied) -> Choices
     }
 }
 
-// The words that are drawn as a block is taken back: that of the array's place, where there is an array,
-// and that of the parking place.
+// The words that are drawn as a block is taken back: that of the array's index, where there is an array,
+// and that of the parking index.
 fn freed_draws(array: Option<u32>, emptied: Emptied) -> Draws
     ensures { result ≡ freed_draws array emptied }
 {
@@ -119,7 +119,7 @@ impl Event {
         }
     }
 
-    /// A block was taken back. `array` is the word of its place of the quarantine's array, and `released` the
+    /// A block was taken back. `array` is the word of its index of the quarantine's array, and `released` the
     /// slot that left the quarantine.
     pub fn freed(array: Option<u32>, released: Option<u64>, emptied: Emptied) -> Event
         ensures { result ≡ freed array released emptied }

@@ -306,7 +306,7 @@ impl Slabs {
         self.lists.after_release(slab);
     }
 
-    /// Retires an open slab to a parking place, and answers the slab that stood there.
+    /// Retires an open slab to an index of the parking array, and answers the slab that stood there.
     pub fn retire(&mut self, slab: u64, park: u32) -> Option<u64>
         requires open { open_at self.old.slabs slab ≡ true }
         requires park { park < length self.old.parking }
