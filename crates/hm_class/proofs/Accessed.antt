@@ -99,6 +99,11 @@ trap_on p uses a end q shape e is =
     trap_skip p uses a (q - a) (end - a) (λ j less. accessible_on p uses a (a + j) shape e (omega arith) (omega (arith, less, is)))
     ∙ ap (λ (x : ℕ). trap_in p uses x ((end - a) - (q - a))) (omega (arith, is)) ∙ ap (λ (n : ℕ). trap_in p uses q n) (omega (arith, is))
 
+-- an address that is not accessible is the first one
+pub trap_here : (p : Shape) (uses : Uses) (a n : ℕ) → 1 ≤ n → is_accessible p uses a ≡ false → trap_in p uses a n ≡ Some a
+trap_here p uses a zero some off = absurd (omega (arith, some))
+trap_here p uses a (suc n) some off = ap (λ (b : Bool). cond b (trap_in p uses (a + 1) n) (Some a)) off
+
 -- where there is no trap the first address is accessible
 pub begins_inside : (p : Shape) (uses : Uses) (a n : ℕ) → 1 ≤ n → trap_in p uses a n ≡ None → IsInside p uses a
 begins_inside p uses a zero some e = absurd (omega arith)

@@ -18,10 +18,10 @@ use Rattle.hm_class_rules.specs.Rules.{Terms}
 use Rattle.hm_class_rules.proofs.Alike.{drawn_below}
 use Rattle.hm_class_rules.proofs.Streams.{next_below}
 use Rattle.hm_class_rules.specs.Stepped.{Cells, front, IsSteppedEntry, IsSteppedEvent}
-use Rattle.hm_class.specs.declared.outcome.Canary.{Canary}
+use Rattle.hm_class.specs.declared.event.Canary.{Canary}
 use Rattle.hm_model.specs.Calls.{no_choices, entry_of}
 use Rattle.hm_class.specs.Finds.{drawn_canary, canary_stream, start_word, start_from, start_stream}
-use Rattle.hm_class.specs.Outcomes.{canary_value, chose_opened, start_draws}
+use Rattle.hm_class.specs.Events.{canary_value, chose_opened, start_draws}
 
 -- ---- the start slot
 pub start_below : (c : Config) (p : Shape) (stream : Words) → 0 < p.slots → start_from c p stream < p.slots

@@ -32,7 +32,7 @@ pub record IsLoose (lists : Lists) (n : ℕ) : Type 0 where
   pub once : times n lists.retired ≤ 1
 
 -- the lists, once slab n, which was `before`, is `after`
-pub record Moved (old new : Lists) (n : ℕ) (before after : Kind) : Type 0 where
+pub record Relisted (old new : Lists) (n : ℕ) (before after : Kind) : Type 0 where
   pub partial : new.partial ≡ listed Partial n before after old.partial
   pub empty : new.empty ≡ listed Empty n before after old.empty
   pub retired : new.retired ≡ old.retired
@@ -61,7 +61,7 @@ module _ (lists : Lists) (n : ℕ) where
   moves : (list : ListName) → among n (list_in lists list) ≡ false → placed list n lists ≡ headed list n (gone n lists)
   moves list e = cond-false (among n (list_in lists list)) lists (headed list n (gone n lists)) e
 
-  stayed : (list : ListName) (kind : Kind) → placed list n lists ≡ lists → Stands lists n kind → Moved lists (placed list n lists) n kind kind
+  stayed : (list : ListName) (kind : Kind) → placed list n lists ≡ lists → Stands lists n kind → Relisted lists (placed list n lists) n kind kind
   stayed list Partial is s = record { partial = ap (λ (l : Lists). l.partial) is; empty = ap (λ (l : Lists). l.empty) is; retired = ap (λ (l : Lists). l.retired) is }
   stayed list Empty is s = record { partial = ap (λ (l : Lists). l.partial) is; empty = ap (λ (l : Lists). l.empty) is; retired = ap (λ (l : Lists). l.retired) is }
   stayed list Neither is s = record { partial = ap (λ (l : Lists). l.partial) is; empty = ap (λ (l : Lists). l.empty) is; retired = ap (λ (l : Lists). l.retired) is }
@@ -89,7 +89,7 @@ module _ (lists : Lists) (n : ℕ) where
   left_empty Neither Partial s apart = without_none n lists.empty s.empty
   left_empty Neither Neither s apart = without_none n lists.empty s.empty
 
-  to_partial : (before : Kind) → same_kind before Partial ≡ false → Stands lists n before → Moved lists (placed name.Partial n lists) n before Partial
+  to_partial : (before : Kind) → same_kind before Partial ≡ false → Stands lists n before → Relisted lists (placed name.Partial n lists) n before Partial
   to_partial before other s =
       let is = moves name.Partial (s.partial ∙ other) in
       record {
@@ -103,7 +103,7 @@ module _ (lists : Lists) (n : ℕ) where
       joins Empty e = refl
       joins Neither e = refl
 
-  to_empty : (before : Kind) → same_kind before Empty ≡ false → Stands lists n before → Moved lists (placed name.Empty n lists) n before Empty
+  to_empty : (before : Kind) → same_kind before Empty ≡ false → Stands lists n before → Relisted lists (placed name.Empty n lists) n before Empty
   to_empty before other s =
       let is = moves name.Empty (s.empty ∙ other) in
       record {
@@ -117,7 +117,7 @@ module _ (lists : Lists) (n : ℕ) where
       joins Partial e = refl
       joins Neither e = refl
 
-  to_full : (before : Kind) → among n lists.full ≡ false → Stands lists n before → Moved lists (placed name.Full n lists) n before Neither
+  to_full : (before : Kind) → among n lists.full ≡ false → Stands lists n before → Relisted lists (placed name.Full n lists) n before Neither
   to_full before other s =
       let is = moves name.Full other in
       record {
@@ -126,18 +126,18 @@ module _ (lists : Lists) (n : ℕ) where
         retired = ap (λ (l : Lists). l.retired) is ∙ without_none n lists.retired s.retired;
       }
 
-  from_full : (before : Kind) → Stands lists n before → among n lists.full ≡ true → Moved lists (placed name.Full n lists) n before Neither
-  from_full before s e = subst (λ (k : Kind). Moved lists (placed name.Full n lists) n k Neither) (sym (s.full e))
+  from_full : (before : Kind) → Stands lists n before → among n lists.full ≡ true → Relisted lists (placed name.Full n lists) n before Neither
+  from_full before s e = subst (λ (k : Kind). Relisted lists (placed name.Full n lists) n k Neither) (sym (s.full e))
       (stayed name.Full Neither (stays name.Full e) (subst (λ (k : Kind). Stands lists n k) (s.full e) s))
 
-  pub placed_moved : (before after : Kind) → Stands lists n before → Moved lists (placed (list_of after) n lists) n before after
-  placed_moved Partial Partial s = stayed name.Partial Partial (stays name.Partial s.partial) s
-  placed_moved Empty Partial s = to_partial Empty refl s
-  placed_moved Neither Partial s = to_partial Neither refl s
-  placed_moved Empty Empty s = stayed name.Empty Empty (stays name.Empty s.empty) s
-  placed_moved Partial Empty s = to_empty Partial refl s
-  placed_moved Neither Empty s = to_empty Neither refl s
-  placed_moved before Neither s = ⊎_elim (from_full before s) (λ e. to_full before e s) (cases_Bool (among n lists.full))
+  pub placed_relisted : (before after : Kind) → Stands lists n before → Relisted lists (placed (list_of after) n lists) n before after
+  placed_relisted Partial Partial s = stayed name.Partial Partial (stays name.Partial s.partial) s
+  placed_relisted Empty Partial s = to_partial Empty refl s
+  placed_relisted Neither Partial s = to_partial Neither refl s
+  placed_relisted Empty Empty s = stayed name.Empty Empty (stays name.Empty s.empty) s
+  placed_relisted Partial Empty s = to_empty Partial refl s
+  placed_relisted Neither Empty s = to_empty Neither refl s
+  placed_relisted before Neither s = ⊎_elim (from_full before s) (λ e. to_full before e s) (cases_Bool (among n lists.full))
 
   -- ---- retired
   unparked_is : (u : Option ℕ) (l : Lists) → ((unparked u l).partial ≡ l.partial) × ((unparked u l).empty ≡ l.empty) × ((unparked u l).full ≡ l.full) × ((unparked u l).retired ≡ with_unparked l.retired u)

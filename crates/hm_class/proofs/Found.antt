@@ -10,9 +10,9 @@ use Rattle.hm_class.specs.Sources.{AreWhole, IsWithin}
 use Rattle.hm_class.specs.Uses.{Uses, SlabUse, slab_in}
 
 -- ---- positions
-no_place : (b : Bool) (k : ℕ) → cond b (Some k) None ≡ None → b ≡ false
-no_place true k e = absurd (none-some k (sym e))
-no_place false k e = refl
+no_index : (b : Bool) (k : ℕ) → cond b (Some k) None ≡ None → b ≡ false
+no_index true k e = absurd (none-some k (sym e))
+no_index false k e = refl
 
 not_below : (a b : ℕ) → nat_lt a b ≡ false → b ≤ a
 not_below a b e = grind (arith, nat_tests)
@@ -20,7 +20,7 @@ not_below a b e = grind (arith, nat_tests)
 -- none that passes stands anywhere
 pub position_none : {X : Type 0} (p : X → Bool) (xs : List X) → position p xs ≡ None → (i : ℕ) (x : X) → slice_get xs i ≡ Some x → p x ≡ true → ⊥
 position_none p xs e i x is passes =
-    let all : length xs ≤ position_or_len p xs = not_below _ _ (no_place _ _ e) in
+    let all : length xs ≤ position_or_len p xs = not_below _ _ (no_index _ _ e) in
     let fails = prefix_len_passes (λ y. not (p y)) xs i x (omega (arith, all, slice_get_within xs i x is)) in
     true≢false (sym fails ∙ ap (λ y. not (p y)) (get_or_from_slice_get xs i x x is) ∙ ap (λ (b : Bool). not b) passes)
 

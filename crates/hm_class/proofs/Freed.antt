@@ -14,11 +14,11 @@ use Rattle.hm_class_rules.specs.Rules.{Terms}
 use Rattle.hm_class_rules.specs.Stepped.{Cells, IsSteppedEntry}
 use Rattle.hm_class_rules.proofs.Alike.{drawn_below}
 use Rattle.hm_class_rules.proofs.Streams.{next_below}
-use Rattle.hm_class.specs.declared.outcome.Emptied.{Emptied}
-use Rattle.hm_class.specs.declared.outcome.Emptied.TheVariants as emptied
+use Rattle.hm_class.specs.declared.event.Emptied.{Emptied}
+use Rattle.hm_class.specs.declared.event.Emptied.TheVariants as emptied
 use Rattle.hm_model.specs.Calls.{entry_of}
-use Rattle.hm_class.specs.Frees.{array_word, place_of_word, array_stream}
-use Rattle.hm_class.specs.Outcomes.{freed_choices, freed_draws}
+use Rattle.hm_class.specs.Frees.{array_word, index_of_word, array_stream}
+use Rattle.hm_class.specs.Events.{freed_choices, freed_draws}
 
 -- the words of a retirement: its own is the next after the array's
 abbrev pub IsNextWord : Words → Bool → Emptied → Type 0
@@ -83,8 +83,8 @@ drawn_none n word e = ap (λ (x : ℕ). word * x / 2 ^ 32) e ∙ ap (λ (x : ℕ
     nothing : (w : ℕ) → w * 0 ≡ 0
     nothing w = omega arith
 
-pub place_drawn : (p : Shape) (stream : Words) (e : Emptied) → array_place p (freed_draws (array_word p (next_word stream)) e) ≡ place_of_word p (next_word stream)
-place_drawn p stream e = of (p.array == 0) refl e
+pub index_drawn : (p : Shape) (stream : Words) (e : Emptied) → array_place p (freed_draws (array_word p (next_word stream)) e) ≡ index_of_word p (next_word stream)
+index_drawn p stream e = of (p.array == 0) refl e
   where
     of : (none : Bool) → (p.array == 0) ≡ none → (e : Emptied) → array_place p (freed_draws (word_by stream none) e) ≡ cond none 0 (drawn p.array (next_word stream))
     of true is e = drawn_none p.array _ (is_zero p.array is)
@@ -92,8 +92,8 @@ place_drawn p stream e = of (p.array == 0) refl e
     of false is (emptied.Retired d w u) = refl
     of false is (emptied.Purged d) = refl
 
-pub place_fits : (p : Shape) (stream : Words) → IsArrayPlace p.array (place_of_word p (next_word stream))
-place_fits p stream = of p.array
+pub index_fits : (p : Shape) (stream : Words) → IsArrayPlace p.array (index_of_word p (next_word stream))
+index_fits p stream = of p.array
   where
     of : (n : ℕ) → IsArrayPlace n (cond (n == 0) 0 (drawn n (next_word stream)))
     of zero = refl
@@ -127,13 +127,13 @@ released_is released emptied.Kept = refl
 released_is released (emptied.Retired d w u) = refl
 released_is released (emptied.Purged d) = refl
 
-pub stepped_freed : (t : Terms) (c : Cells) (who : Who) (a f f' : ℕ) (stated released : Option ℕ) (e : Emptied) → IsNextWord c.stream (t.shape.array == 0) e → IsUnparked t c e → released ≡ let_go c.quarantine a (place_of_word t.shape (next_word c.stream))
+pub stepped_freed : (t : Terms) (c : Cells) (who : Who) (a f f' : ℕ) (stated released : Option ℕ) (e : Emptied) → IsNextWord c.stream (t.shape.array == 0) e → IsUnparked t c e → released ≡ let_go c.quarantine a (index_of_word t.shape (next_word c.stream))
     → IsSteppedEntry t c (entry_of who (GiveBack a stated) reply.Freed (freed_choices released e) (freed_draws (array_word t.shape (next_word c.stream)) e) f f')
 stepped_freed t c who a f f' stated released e next unparked is = record {
   count = count_by c.stream (t.shape.array == 0) released e;
   words = words_by c.stream (t.shape.array == 0) e next;
   choices = record {
-    released = released_is released e ∙ is ∙ ap (λ (i : ℕ). let_go c.quarantine a i) (sym (place_drawn t.shape c.stream e));
+    released = released_is released e ∙ is ∙ ap (λ (i : ℕ). let_go c.quarantine a i) (sym (index_drawn t.shape c.stream e));
     unparked = unparked_is t c released e unparked;
   };
 }

@@ -1,4 +1,4 @@
--- How the lists, the stream, the quarantine and the parking places follow the cells, entry by entry.
+-- How the lists, the stream, the quarantine and the parking parking follow the cells, entry by entry.
 use Rattle.std.proofs.Common.{◌≡◌, ℕ, Bool, true, false, cond, List, [], Option, sym, ◌∙◌, ap, subst, refl}
 use Rattle.hm_choice.specs.Stream.{Words}
 use Rattle.hm_quarantine.specs.Quarantine.{Kept, kept_with}
@@ -12,9 +12,9 @@ use Rattle.hm_class_rules.specs.Rules.{Terms}
 use Rattle.hm_class_rules.specs.Steps.{step}
 use Rattle.hm_class_rules.specs.Stepped.{Cells, next, listed, touched, quarantine_with, parking_after, parking_with, IsSteppedEntry, IsSteppedEvent}
 use Rattle.hm_class_rules.proofs.Changes.{kind_empty}
-use Rattle.hm_class.specs.Slabs.{Slabs}
+use Rattle.hm_class.specs.declared.store.Store.{Store}
 use Rattle.hm_class.specs.Uses.{kind_at}
-use Rattle.hm_class.specs.Kept.{Shows, cells_of, store}
+use Rattle.hm_class.specs.Kept.{Shows, cells_of}
 use Rattle.hm_class.proofs.Shown.{kind_is}
 
 -- ---- kinds
@@ -55,14 +55,14 @@ listed_as wanted p s after m n before then list list' same was is new =
     ∙ sym new
 
 -- ---- an entry that draws nothing
-pub next_undrawn : (t : Terms) (s : State) (k : Slabs) (stream : Words) (q : Kept) (parking : List (Option ℕ)) (e : Entry) → IsShape t.shape → event e ≡ Undrawn → e.draws.used ≡ 0 → Shows t.shape k.slabs s → Shows t.shape k.slabs (step t.shape s e)
-    → next t (cells_of s (store k stream q parking)) e ≡ cells_of (step t.shape s e) (store k stream q parking)
-next_undrawn t s k stream q parking e shape is none h h' =
-    let same : kind t.shape (step t.shape s e) 0 ≡ kind t.shape s 0 = kind_is t.shape k.slabs (step t.shape s e) 0 shape h' ∙ sym (kind_is t.shape k.slabs s 0 shape h) in
+pub next_undrawn : (t : Terms) (s : State) (store : Store) (e : Entry) → IsShape t.shape → event e ≡ Undrawn → e.draws.used ≡ 0 → Shows t.shape store.slabs.slabs s → Shows t.shape store.slabs.slabs (step t.shape s e)
+    → next t (cells_of s store) e ≡ cells_of (step t.shape s e) store
+next_undrawn t s store e shape is none h h' =
+    let same : kind t.shape (step t.shape s e) 0 ≡ kind t.shape s 0 = kind_is t.shape store.slabs.slabs (step t.shape s e) 0 shape h' ∙ sym (kind_is t.shape store.slabs.slabs s 0 shape h) in
     let at0 : (wanted : Kind) (list : List ℕ) → listed wanted 0 (kind t.shape s 0) (kind t.shape (step t.shape s e) 0) list ≡ list =
     λ wanted list. ap (λ (x : Kind). listed wanted 0 (kind t.shape s 0) x list) same ∙ listed_same wanted (kind t.shape s 0) 0 list in
-    next_is t (cells_of s (store k stream q parking)) e Undrawn is
-    ∙ same_cells (step t.shape s e) _ _ _ _ _ _ _ _ _ _ (ap (λ (n : ℕ). after_words stream n) none) (at0 Partial k.lists.partial) (at0 Empty k.lists.empty) refl refl
+    next_is t (cells_of s store) e Undrawn is
+    ∙ same_cells (step t.shape s e) _ _ _ _ _ _ _ _ _ _ (ap (λ (n : ℕ). after_words store.stream n) none) (at0 Partial store.slabs.lists.partial) (at0 Empty store.slabs.lists.empty) refl refl
 
 pub stepped_undrawn : (t : Terms) (c : Cells) (e : Entry) → event e ≡ Undrawn → e.draws.used ≡ 0 → words_of e.draws ≡ [] → IsSteppedEntry t c e
 stepped_undrawn t c e is none no_words = record {
@@ -72,29 +72,32 @@ stepped_undrawn t c e is none no_words = record {
 }
 
 -- ---- a slot was picked
-pub next_picked : (t : Terms) (s : State) (k k' : Slabs) (stream stream' : Words) (q : Kept) (parking : List (Option ℕ)) (e : Entry) (a n : ℕ) (before : Kind) → IsShape t.shape → event e ≡ Picked a → slab_of t.shape a ≡ n
-    → kind t.shape s n ≡ before → Shows t.shape k'.slabs (step t.shape s e) → after_words stream e.draws.used ≡ stream'
-    → k'.lists.partial ≡ listed Partial n before (kind_at k'.slabs n) k.lists.partial → k'.lists.empty ≡ listed Empty n before (kind_at k'.slabs n) k.lists.empty
-    → next t (cells_of s (store k stream q parking)) e ≡ cells_of (step t.shape s e) (store k' stream' q parking)
-next_picked t s k k' stream stream' q parking e a n before shape is slab was h' taken partial empty =
-    let now : kind t.shape (step t.shape s e) n ≡ kind_at k'.slabs n = kind_is t.shape k'.slabs (step t.shape s e) n shape h' in
-    next_is t (cells_of s (store k stream q parking)) e (Picked a) is
+pub next_picked : (t : Terms) (s : State) (store store' : Store) (e : Entry) (a n : ℕ) (before : Kind) → IsShape t.shape → event e ≡ Picked a → slab_of t.shape a ≡ n
+    → kind t.shape s n ≡ before → Shows t.shape store'.slabs.slabs (step t.shape s e) → after_words store.stream e.draws.used ≡ store'.stream
+    → store'.slabs.lists.partial ≡ listed Partial n before (kind_at store'.slabs.slabs n) store.slabs.lists.partial
+    → store'.slabs.lists.empty ≡ listed Empty n before (kind_at store'.slabs.slabs n) store.slabs.lists.empty
+    → store'.quarantine ≡ store.quarantine → store'.slabs.parking ≡ store.slabs.parking
+    → next t (cells_of s store) e ≡ cells_of (step t.shape s e) store'
+next_picked t s store store' e a n before shape is slab was h' taken partial empty quarantine parking =
+    let now : kind t.shape (step t.shape s e) n ≡ kind_at store'.slabs.slabs n = kind_is t.shape store'.slabs.slabs (step t.shape s e) n shape h' in
+    next_is t (cells_of s store) e (Picked a) is
     ∙ same_cells (step t.shape s e) _ _ _ _ _ _ _ _ _ _ taken
-    (listed_as Partial t.shape s (step t.shape s e) (slab_of t.shape a) n before (kind_at k'.slabs n) k.lists.partial k'.lists.partial slab was now partial)
-    (listed_as Empty t.shape s (step t.shape s e) (slab_of t.shape a) n before (kind_at k'.slabs n) k.lists.empty k'.lists.empty slab was now empty) refl refl
+    (listed_as Partial t.shape s (step t.shape s e) (slab_of t.shape a) n before (kind_at store'.slabs.slabs n) store.slabs.lists.partial store'.slabs.lists.partial slab was now partial)
+    (listed_as Empty t.shape s (step t.shape s e) (slab_of t.shape a) n before (kind_at store'.slabs.slabs n) store.slabs.lists.empty store'.slabs.lists.empty slab was now empty)
+    (sym quarantine) (sym parking)
 
 -- ---- a slot was freed
-pub next_freed : (t : Terms) (s : State) (k k' : Slabs) (stream stream' : Words) (q q' : Kept) (parking parking' : List (Option ℕ)) (e : Entry) (a n : ℕ) (before then : Kind) → event e ≡ Returned a → touched t.shape e.choices.released (Returned a) ≡ n
-    → kind t.shape s n ≡ before → kind t.shape (step t.shape s e) n ≡ then → after_words stream e.draws.used ≡ stream'
-    → k'.lists.partial ≡ listed Partial n before then k.lists.partial → k'.lists.empty ≡ listed Empty n before then k.lists.empty
-    → q' ≡ kept_with q a (array_place t.shape e.draws) → parking' ≡ parking_with (parking_place t e.draws) e.choices.retired parking
-    → next t (cells_of s (store k stream q parking)) e ≡ cells_of (step t.shape s e) (store k' stream' q' parking')
-next_freed t s k k' stream stream' q q' parking parking' e a n before then is slab was now taken partial empty kept places =
-    next_is t (cells_of s (store k stream q parking)) e (Returned a) is
+pub next_freed : (t : Terms) (s : State) (store store' : Store) (e : Entry) (a n : ℕ) (before then : Kind) → event e ≡ Returned a → touched t.shape e.choices.released (Returned a) ≡ n
+    → kind t.shape s n ≡ before → kind t.shape (step t.shape s e) n ≡ then → after_words store.stream e.draws.used ≡ store'.stream
+    → store'.slabs.lists.partial ≡ listed Partial n before then store.slabs.lists.partial → store'.slabs.lists.empty ≡ listed Empty n before then store.slabs.lists.empty
+    → store'.quarantine ≡ kept_with store.quarantine a (array_place t.shape e.draws) → store'.slabs.parking ≡ parking_with (parking_place t e.draws) e.choices.retired store.slabs.parking
+    → next t (cells_of s store) e ≡ cells_of (step t.shape s e) store'
+next_freed t s store store' e a n before then is slab was now taken partial empty kept parking =
+    next_is t (cells_of s store) e (Returned a) is
     ∙ same_cells (step t.shape s e) _ _ _ _ _ _ _ _ _ _ taken
-    (listed_as Partial t.shape s (step t.shape s e) (touched t.shape e.choices.released (Returned a)) n before then k.lists.partial k'.lists.partial slab was now partial)
-    (listed_as Empty t.shape s (step t.shape s e) (touched t.shape e.choices.released (Returned a)) n before then k.lists.empty k'.lists.empty slab was now empty)
-    (sym kept) (sym places)
+    (listed_as Partial t.shape s (step t.shape s e) (touched t.shape e.choices.released (Returned a)) n before then store.slabs.lists.partial store'.slabs.lists.partial slab was now partial)
+    (listed_as Empty t.shape s (step t.shape s e) (touched t.shape e.choices.released (Returned a)) n before then store.slabs.lists.empty store'.slabs.lists.empty slab was now empty)
+    (sym kept) (sym parking)
 
 -- a slab is partial where its kind is that
 pub partial_kind : (p : Shape) (s : State) (n : ℕ) → same_kind (kind p s n) Partial ≡ is_partial p s n

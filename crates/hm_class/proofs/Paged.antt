@@ -24,7 +24,7 @@ use Rattle.hm_class_rules.proofs.Whole.{over, at_over, over_at, at_removed}
 use Rattle.hm_class_rules.proofs.Zeroed.{opens_some, bytes_in}
 use Rattle.hm_class.specs.Region.{HoldsSlabs}
 use Rattle.hm_class.proofs.Entered.{at_put_same, at_put_other, has_removed_same}
-use Rattle.hm_class.specs.Finds.{made_runs}
+use Rattle.hm_class.specs.Finds.{made_page_runs}
 use Rattle.hm_class.proofs.Places.{slab_apart, slab_some}
 
 -- ---- finite maps
@@ -198,10 +198,10 @@ whole_put p opens n k off h m b is =
     (cases_eq n m)
 
 -- a slab was opened, with bytes or without
-pub holds_made : (p : Shape) (opens : List (ℕ × Slab)) (n k : ℕ) (runs : PageRuns) → IsShape p → HoldsSlabs p opens runs → HoldsSlabs p (put n (new_slab p k) opens) (made_runs p n runs)
+pub holds_made : (p : Shape) (opens : List (ℕ × Slab)) (n k : ℕ) (runs : PageRuns) → IsShape p → HoldsSlabs p opens runs → HoldsSlabs p (put n (new_slab p k) opens) (made_page_runs p n runs)
 holds_made p opens n k runs shape h = of (has_bytes p) refl
   where
-    of : (own : Bool) → has_bytes p ≡ own → HoldsSlabs p (put n (new_slab p k) opens) (made_runs p n runs)
+    of : (own : Bool) → has_bytes p ≡ own → HoldsSlabs p (put n (new_slab p k) opens) (made_page_runs p n runs)
     of true own = subst (λ (r : PageRuns). HoldsSlabs p (put n (new_slab p k) opens) r) (ap (λ (t : Bool). cond t (map.insert runs (slab_at p n) (zeros p.slab)) runs) (sym own)) (holds_opened p opens n k runs shape own h)
     of false off = subst (λ (r : PageRuns). HoldsSlabs p (put n (new_slab p k) opens) r) (ap (λ (t : Bool). cond t (map.insert runs (slab_at p n) (zeros p.slab)) runs) (sym off))
         (holds_without p opens (put n (new_slab p k) opens) runs off (whole_put p opens n k off h.whole) h)
@@ -221,8 +221,8 @@ module _ {X : Type 0} (m : FinMap nat_cmp X) (k q : ℕ) where
       apart q k ne = grind (arith, nat_tests)
 
 -- the bytes of an open slab are a run
-pub slab_run : (p : Shape) (opens : List (ℕ × Slab)) (n : ℕ) (runs : PageRuns) → has_bytes p ≡ true → has n opens ≡ true → HoldsSlabs p opens runs → IsRun runs (slab_at p n) p.slab
-slab_run p opens n runs own on h = let b = opens_some opens n on in (b.0.bytes, h.each own n b.0 b.1, all_bytes p opens runs h own n b.0 b.1)
+pub slab_page_run : (p : Shape) (opens : List (ℕ × Slab)) (n : ℕ) (runs : PageRuns) → has_bytes p ≡ true → has n opens ≡ true → HoldsSlabs p opens runs → IsRun runs (slab_at p n) p.slab
+slab_page_run p opens n runs own on h = let b = opens_some opens n on in (b.0.bytes, h.each own n b.0 b.1, all_bytes p opens runs h own n b.0 b.1)
 
 still : (n m : ℕ) (b : Slab) (opens : List (ℕ × Slab)) → at m (removed n opens) ≡ Some b → n ≢ m
 still n m b opens is e = true≢false (sym (ap (λ (o : Option Slab). is_some o) (ap (λ (x : ℕ). at x (removed n opens)) e ∙ is)) ∙ has_removed_same n opens)

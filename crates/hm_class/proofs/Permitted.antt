@@ -28,10 +28,9 @@ use Rattle.hm_class_rules.proofs.Sound.{has_times}
 use Rattle.hm_class_rules.proofs.Changes.{kind_partial, kind_empty}
 use Rattle.hm_slab_meta.specs.Uses.{SlotUse, was_given}
 use Rattle.hm_class.specs.declared.slabs.Slot.{Slot}
-use Rattle.hm_class.specs.declared.slabs.Refusal.TheVariants as refusal
-use Rattle.hm_class.specs.declared.slabs.Verdict.TheVariants as verdict
+use Rattle.hm_model.specs.declared.entry.Reply.TheVariants as reply
 use Rattle.hm_class.specs.Uses.{numbers_of, Uses, SlabUse, lives, occupied, has_available, is_partly, is_unused, has_occupied, kind_of, kind_at, slab_in, canary_at, taken_uses, with_slab, fresh_slab}
-use Rattle.hm_class.specs.Sources.{Refuses, Judges}
+use Rattle.hm_class.specs.Sources.{Refuses, IsLiveAt}
 use Rattle.hm_model.specs.Calls.{entry_of}
 use Rattle.hm_class.specs.Judgements.{other_number}
 use Rattle.hm_class.specs.Kept.{Shows}
@@ -184,13 +183,13 @@ kept_is p uses s n i shape lt h = ap (λ (m : ℕ). option_map_or (λ (b : Slab)
 
 -- ---- what is said of an address
 module _ (p : Shape) (uses : Uses) (s : State) (a : ℕ) (shape : IsShape p) (h : Shows p uses s) where
-  pub no_slot : Refuses p uses a refusal.NoSlot → IsNoSlot p s a
+  pub no_slot : Refuses p uses a reply.NoSlot → IsNoSlot p s a
   no_slot nowhere at = nowhere (slab_of p a) (slot_of p a) (place_is p a (slab_of p a) (slot_of p a) at)
 
-  pub unused : Refuses p uses a refusal.Unused → IsUnused p s a
+  pub unused : Refuses p uses a reply.Unused → IsUnused p s a
   unused r = (place_test p a r.0 r.1 shape r.2, ap (λ (q : ℕ). among q s.given) r.2.is ∙ h.given r.0 r.1 r.2.slot ∙ r.3)
 
-  pub double_free : Refuses p uses a refusal.DoubleFree → IsDoubleFree p s a
+  pub double_free : Refuses p uses a reply.DoubleFree → IsDoubleFree p s a
   double_free r = (
     place_test p a r.0 r.1 shape r.2,
     ap (λ (q : ℕ). among q s.given) r.2.is ∙ h.given r.0 r.1 r.2.slot ∙ r.3,
@@ -198,7 +197,7 @@ module _ (p : Shape) (uses : Uses) (s : State) (a : ℕ) (shape : IsShape p) (h 
   )
 
   -- the live block at the address
-  pub live_block : (slot : Slot) → Judges p uses a (verdict.Live slot) → IsLiveBlock p s a
+  pub live_block : (slot : Slot) → IsLiveAt p uses a slot → IsLiveBlock p s a
   live_block slot judged = record {
     place = place_test p a slot.slab slot.index shape judged.0;
     given = ap (λ (q : ℕ). among q s.given) judged.0.is ∙ h.given slot.slab slot.index judged.0.slot ∙ ap (λ (o : Option SlotUse). option_map_or was_given o false) judged.1;

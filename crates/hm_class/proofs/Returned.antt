@@ -1,19 +1,17 @@
 -- A block was taken back: what is kept follows.
-use Rattle.std.proofs.Common.{◌≡◌, ℕ, zero, suc, ◌<◌, ◌≤◌, Bool, true, false, IsTrue, IfSome, cond, not, ◌||◌, ◌&&◌, List, [], ◌∷◌, slice_get, slice_set, Option, Some, None, sym, ◌∙◌, ap, subst, refl, arith, true≢false}
+use Rattle.std.proofs.Common.{◌≡◌, ℕ, zero, suc, ◌<◌, ◌≤◌, Bool, true, false, IsTrue, IfSome, cond, not, ◌||◌, ◌&&◌, List, [], ◌∷◌, length, slice_get, slice_set, Option, Some, None, sym, ◌∙◌, ap, subst, refl, arith, true≢false}
 use Rattle.std.specs.List.{list_any}
 use Rattle.std.specs.Option.{option_map_or}
 use Rattle.std.proofs.lemmas.List.{length-replicate}
 use Rattle.std.proofs.lemmas.Option.{none-some, same_Some}
-use Rattle.hm_choice.specs.Stream.{Words, next_word}
-use Rattle.hm_quarantine.specs.Quarantine.{Kept, let_go}
+use Rattle.hm_choice.specs.Stream.{next_word}
+use Rattle.hm_quarantine.specs.Quarantine.{let_go}
 use Rattle.hm_outside.specs.declared.pages.Pages as pages
 use Rattle.hm_base.specs.Lists.{zeros}
 use Rattle.hm_outside.specs.PageRuns.{PageRuns, IsHeld}
 use Rattle.hm_model.specs.Maps.{among}
 use Rattle.hm_model.proofs.Lists.{times_among}
 use Rattle.hm_model.specs.declared.entry.Entry.{Entry}
-use Rattle.hm_sizes.specs.declared.config.Config.{Config}
-use Rattle.hm_sizes.specs.declared.shape.Shape.{Shape}
 use Rattle.hm_sizes.specs.Shapes.{place, slab_of, slot_of, has_bytes, usable}
 use Rattle.hm_class_rules.specs.State.{State, is_open, is_live}
 use Rattle.hm_class_rules.specs.Kinds.{Kind, Partial, Empty, Neither, kind}
@@ -23,19 +21,22 @@ use Rattle.hm_class_rules.specs.Rules.{Releases, state}
 use Rattle.hm_class_rules.proofs.Sound.{sound_takes_back}
 use Rattle.hm_class_rules.proofs.Whole.{whole_write}
 use Rattle.hm_slab_meta.specs.Uses.{SlotUse, Never, Free, Live, Held, Condemned, is_available}
-use Rattle.hm_class.specs.Slabs.{Slabs}
+use Rattle.hm_class.specs.declared.slabs.Slot.{Slot}
+use Rattle.hm_class.specs.Sources.{IsLiveAt}
 use Rattle.hm_class.specs.Uses.{Uses, SlabUse, lives, occupied, has_occupied, has_available, is_held, kind_of, kind_at, use_at, passes_at, with_slot, with_use}
-use Rattle.hm_class.specs.Frees.{place_of_word, Clears, CanRelease}
+use Rattle.hm_class.specs.Frees.{index_of_word, CanRelease, Holds}
 use Rattle.hm_class.specs.Region.{HoldsSlabs}
-use Rattle.hm_class.specs.Kept.{Shows, IsKept, terms_of, identity, store}
+use Rattle.hm_class.specs.declared.identity.Identity.{Identity}
+use Rattle.hm_class.specs.declared.store.Store.{Store}
+use Rattle.hm_class.specs.Kept.{Shows, IsKept, terms_in}
 use Rattle.hm_class.proofs.Followed.{shows_held}
-use Rattle.hm_class.proofs.Freed.{place_fits}
-use Rattle.hm_class.proofs.Paged.{holds_write, holds_without, slab_run}
+use Rattle.hm_class.proofs.Freed.{index_fits}
+use Rattle.hm_class.proofs.Paged.{holds_write, holds_without, slab_page_run}
 use Rattle.hm_class.proofs.Permitted.{usable_held, live_open}
 use Rattle.hm_class.proofs.Places.{slab_of_place, slot_of_place}
 use Rattle.hm_class.proofs.Shown.{kind_is, available_test}
 use Rattle.hm_class.proofs.Used.{found, each_slab}
-use Rattle.hm_class.proofs.Entries.{sound_now, allows_now}
+use Rattle.hm_class.proofs.Entries.{sound_now, allows_now, kept_now}
 
 -- ---- a slot that is held is occupied, as it was
 module _ (test : SlotUse → Bool) where
@@ -60,62 +61,61 @@ kind_held all n i u v was same =
     (kind_set f.slab i u v f.is_use same ∙ ap (λ (o : Option SlabUse). option_map_or kind_of o Neither) (sym f.is_slab)) (λ m ne. refl)
 
 -- ---- the slot is held
-module _ (told : Bool) (runs : PageRuns) (faults : ℕ) (c : Config) (number arena : ℕ) (p : Shape) (es : List Entry) (k : Slabs) (stream : Words) (quarantine : Kept) (parking : List (Option ℕ))
-    (kept : IsKept told runs faults (identity c number arena p) es (store k stream quarantine parking))
-    {P : Type 0} (meaning : pages.Ghosts P) (begun half : P) (k₁ : Slabs) (a n i : ℕ) (told_is : meaning.told begun ≡ told) (runs_is : meaning.runs begun ≡ runs)
-    (is : a ≡ place p n i) (lt : i < p.slots) (was : use_at k.slabs n i ≡ Some Live) (items : k₁.slabs ≡ with_use k.slabs n i Held)
-    (cleared : Clears meaning p begun half a) where
+module _ {told : Bool} {runs : PageRuns} {faults : ℕ} {region : Identity} {es : List Entry} {store : Store}
+    (kept : IsKept told runs faults region es store)
+    {P : Type 0} {meaning : pages.Ghosts P} {begun half : P} {store₁ : Store} {a : ℕ} {live : Slot} {result : Option ℕ × Option ℕ} (told_is : meaning.told begun ≡ told) (runs_is : meaning.runs begun ≡ runs)
+    (at_live : IsLiveAt region.shape store.slabs.slabs a live) (holds : Holds meaning store store₁ begun half region.shape a live result) where
   abbrev first : State
-  first = state (terms_of told c p) es
+  first = state (terms_in told region) es
 
   abbrev taken : State
-  taken = takes_back p a first
+  taken = takes_back region.shape a first
 
   pub was_live : is_live first a ≡ true
-  was_live = ap (λ (q : ℕ). is_live first q) is ∙ kept.follows.shows.live n i lt ∙ ap (λ (o : Option SlotUse). option_map_or lives o false) was
+  was_live = ap (λ (q : ℕ). is_live first q) at_live.0.is ∙ kept.follows.shows.live live.slab live.index at_live.0.slot ∙ ap (λ (o : Option SlotUse). option_map_or lives o false) at_live.1
 
-  pub held_shows : Shows p k₁.slabs taken
+  pub held_shows : Shows region.shape store₁.slabs.slabs taken
   held_shows =
-      let f = found k.slabs n i Live was in
-      subst (λ (q : ℕ). Shows p k₁.slabs (takes_back p q first)) (sym is)
-      (subst (λ (u : Uses). Shows p u (takes_back p (place p n i) first)) (sym items) (shows_held p k.slabs first n i f.slab Live kept.served.shape lt f.is_slab was kept.follows.shows refl))
+      let f = found store.slabs.slabs live.slab live.index Live at_live.1 in
+      subst (λ (q : ℕ). Shows region.shape store₁.slabs.slabs (takes_back region.shape q first)) (sym at_live.0.is)
+      (subst (λ (u : Uses). Shows region.shape u (takes_back region.shape (place region.shape live.slab live.index) first)) (sym holds.slabs) (shows_held region.shape store.slabs.slabs first live.slab live.index f.slab Live region.served.shape at_live.0.slot f.is_slab at_live.1 kept.follows.shows refl))
 
-  was_open : is_open first n ≡ true
-  was_open = live_open p first n i kept.served.shape (sound_now told runs faults c number arena p es k stream quarantine parking kept) lt (ap (λ (q : ℕ). is_live first q) (sym is) ∙ was_live)
+  was_open : is_open first live.slab ≡ true
+  was_open = live_open region.shape first live.slab live.index region.served.shape (sound_now kept) at_live.0.slot (ap (λ (q : ℕ). is_live first q) (sym at_live.0.is) ∙ was_live)
 
-  pub held_slabs : IsTrue told → HoldsSlabs p taken.opens (meaning.runs half)
-  held_slabs y = of (has_bytes p) refl
+  pub held_slabs : IsTrue told → HoldsSlabs region.shape taken.opens (meaning.runs half)
+  held_slabs y = of (has_bytes region.shape) refl
     where
       w : List ℕ
-      w = zeros (usable p)
+      w = zeros (usable region.shape)
 
-      before : HoldsSlabs p first.opens (meaning.runs begun)
-      before = subst (λ (r : PageRuns). HoldsSlabs p first.opens r) (sym runs_is) (kept.slabs y)
+      before : HoldsSlabs region.shape first.opens (meaning.runs begun)
+      before = subst (λ (r : PageRuns). HoldsSlabs region.shape first.opens r) (sym runs_is) (kept.slabs y)
 
-      of : (own : Bool) → has_bytes p ≡ own → HoldsSlabs p taken.opens (meaning.runs half)
-      of true own = holds_write p first.opens a (usable p) w (meaning.runs begun) (meaning.runs half) kept.served.shape (length-replicate (usable p) 0) before
-          (cleared.some own (told_is ∙ y) (subst (λ (q : ℕ). IsHeld (meaning.runs begun) q (usable p)) (sym is) (usable_held p first n i (meaning.runs begun) kept.served.shape own was_open lt before)))
-      of false off = subst (λ (r : PageRuns). HoldsSlabs p taken.opens r) (sym (cleared.none off (told_is ∙ y)))
-          (holds_without p first.opens taken.opens (meaning.runs begun) off (whole_write (bytes_of_slab p) p a w first.opens before.whole) before)
+      of : (own : Bool) → has_bytes region.shape ≡ own → HoldsSlabs region.shape taken.opens (meaning.runs half)
+      of true own = holds_write region.shape first.opens a (usable region.shape) w (meaning.runs begun) (meaning.runs half) region.served.shape (length-replicate (usable region.shape) 0) before
+          (holds.cleared.some own (told_is ∙ y) (subst (λ (q : ℕ). IsHeld (meaning.runs begun) q (usable region.shape)) (sym at_live.0.is) (usable_held region.shape first live.slab live.index (meaning.runs begun) region.served.shape own was_open at_live.0.slot before)))
+      of false off = subst (λ (r : PageRuns). HoldsSlabs region.shape taken.opens r) (sym (holds.cleared.none off (told_is ∙ y)))
+          (holds_without region.shape first.opens taken.opens (meaning.runs begun) off (whole_write (bytes_of_slab region.shape) region.shape a w first.opens before.whole) before)
 
-  pub held_sound : IsSound p taken
-  held_sound = sound_takes_back p first a (sound_now told runs faults c number arena p es k stream quarantine parking kept) was_live
+  pub held_sound : IsSound region.shape taken
+  held_sound = sound_takes_back region.shape first a (sound_now kept) was_live
 
-  pub kind_then : (m : ℕ) → kind p first m ≡ kind_at k₁.slabs m
-  kind_then m = kind_is p k.slabs first m kept.served.shape kept.follows.shows ∙ sym (ap (λ (u : Uses). kind_at u m) items ∙ kind_held k.slabs n i Held Live was refl m)
+  pub kind_then : (m : ℕ) → kind region.shape first m ≡ kind_at store₁.slabs.slabs m
+  kind_then m = kind_is region.shape store.slabs.slabs first m region.served.shape kept.follows.shows ∙ sym (ap (λ (u : Uses). kind_at u m) holds.slabs ∙ kind_held store.slabs.slabs live.slab live.index Held Live at_live.1 refl m)
 
   -- what leaves the quarantine
-  pub release_now : Releases p taken (let_go quarantine a (place_of_word p (next_word stream)))
-  release_now = (allows_now told runs faults c number arena p es k stream quarantine parking kept).release a (place_of_word p (next_word stream)) was_live (place_fits p stream)
+  pub release_now : Releases region.shape taken (let_go store.quarantine a (index_of_word region.shape (next_word store.stream)))
+  release_now = (allows_now kept).release a (index_of_word region.shape (next_word store.stream)) was_live (index_fits region.shape store.stream)
 
   -- the slot of what is released
   pub record IsReleased (b : ℕ) : Type 0 where
-    pub from : p.first ≤ b
-    pub slot : slot_of p b < p.slots
-    pub is_place : b ≡ place p (slab_of p b) (slot_of p b)
-    pub open_slab : is_open taken (slab_of p b) ≡ true
-    pub below : slab_of p b < p.limit
-    pub used : use_at k₁.slabs (slab_of p b) (slot_of p b) ≡ Some Held
+    pub from : region.shape.first ≤ b
+    pub slot : slot_of region.shape b < region.shape.slots
+    pub is_place : b ≡ place region.shape (slab_of region.shape b) (slot_of region.shape b)
+    pub open_slab : is_open taken (slab_of region.shape b) ≡ true
+    pub below : slab_of region.shape b < region.shape.limit
+    pub used : use_at store₁.slabs.slabs (slab_of region.shape b) (slot_of region.shape b) ≡ Some Held
 
   held_use : (all : Uses) (m j : ℕ) → passes_at is_held all m j ≡ true → use_at all m j ≡ Some Held
   held_use all m j e = of (use_at all m j) e
@@ -131,33 +131,39 @@ module _ (told : Bool) (runs : PageRuns) (faults : ℕ) (c : Config) (number are
   pub is_released : (b : ℕ) → among b taken.held ≡ true → IsReleased b
   is_released b at_b =
       let r = held_sound.placed b (omega (arith, times_among b taken.held at_b)) in
-      let slab : slab_of p b ≡ r.slab = ap (λ (q : ℕ). slab_of p q) r.is_place.is ∙ slab_of_place p r.slab r.slot kept.served.shape r.is_place.slot in
-      let slot : slot_of p b ≡ r.slot = ap (λ (q : ℕ). slot_of p q) r.is_place.is ∙ slot_of_place p r.slab r.slot kept.served.shape r.is_place.slot in
+      let slab : slab_of region.shape b ≡ r.slab = ap (λ (q : ℕ). slab_of region.shape q) r.is_place.is ∙ slab_of_place region.shape r.slab r.slot region.served.shape r.is_place.slot in
+      let slot : slot_of region.shape b ≡ r.slot = ap (λ (q : ℕ). slot_of region.shape q) r.is_place.is ∙ slot_of_place region.shape r.slab r.slot region.served.shape r.is_place.slot in
       record {
         from = omega (arith, r.is_place.is);
         slot = omega (arith, slot, r.is_place.slot);
-        is_place = r.is_place.is ∙ ap (λ (m : ℕ). place p m r.slot) (sym slab) ∙ ap (λ (j : ℕ). place p (slab_of p b) j) (sym slot);
+        is_place = r.is_place.is ∙ ap (λ (m : ℕ). place region.shape m r.slot) (sym slab) ∙ ap (λ (j : ℕ). place region.shape (slab_of region.shape b) j) (sym slot);
         open_slab = ap (λ (m : ℕ). is_open taken m) slab ∙ r.open_slab;
         below = omega (arith, slab, r.is_place.below);
-        used = ap (λ (m : ℕ). use_at k₁.slabs m (slot_of p b)) slab ∙ ap (λ (j : ℕ). use_at k₁.slabs r.slab j) slot
-            ∙ held_use k₁.slabs r.slab r.slot (sym (held_shows.held r.slab r.slot r.is_place.slot) ∙ ap (λ (q : ℕ). among q taken.held) (sym r.is_place.is) ∙ at_b);
+        used = ap (λ (m : ℕ). use_at store₁.slabs.slabs m (slot_of region.shape b)) slab ∙ ap (λ (j : ℕ). use_at store₁.slabs.slabs r.slab j) slot
+            ∙ held_use store₁.slabs.slabs r.slab r.slot (sym (held_shows.held r.slab r.slot r.is_place.slot) ∙ ap (λ (q : ℕ). among q taken.held) (sym r.is_place.is) ∙ at_b);
       }
 
-  pub can_release : (b : ℕ) (told_half : meaning.told half ≡ told) → among b taken.held ≡ true → CanRelease meaning p k₁ half b
-  can_release b told_half at_b =
+  pub can_release : (b : ℕ) → among b taken.held ≡ true → CanRelease meaning region store₁.slabs half b
+  can_release b at_b =
       let r = is_released b at_b in
       record {
         from = r.from;
-        below = r.below;
-        on = sym (held_shows.opens (slab_of p b)) ∙ r.open_slab;
         held = r.used;
-        run = λ own y. slab_run p taken.opens (slab_of p b) (meaning.runs half) own r.open_slab (held_slabs (sym told_half ∙ y));
+        slab = record {
+          below = r.below;
+          on = sym (held_shows.opens (slab_of region.shape b)) ∙ r.open_slab;
+          page_run = λ own y. slab_page_run region.shape taken.opens (slab_of region.shape b) (meaning.runs half) own r.open_slab (held_slabs (sym told_is ∙ sym holds.cleared.pages.told ∙ y));
+          parking = ap (λ (l : List (Option ℕ)). length l) holds.lists.parking ∙ (kept_now kept).parking_length;
+        };
       }
 
-  at_released : (o : Option ℕ) (b : ℕ) → Releases p taken o → o ≡ Some b → among b taken.held ≡ true
+  at_released : (o : Option ℕ) (b : ℕ) → Releases region.shape taken o → o ≡ Some b → among b taken.held ≡ true
   at_released None b r e = absurd (none-some b e)
   at_released (Some x) b r e = ap (λ (q : ℕ). among q taken.held) (sym (same_Some x b e)) ∙ r.0
 
-  pub release_ready : (o : Option ℕ) → o ≡ let_go quarantine a (place_of_word p (next_word stream)) → meaning.told half ≡ told → IfSome o (λ b. CanRelease meaning p k₁ half b)
-  release_ready None e told_half = tt
-  release_ready (Some b) e told_half = can_release b told_half (at_released (let_go quarantine a (place_of_word p (next_word stream))) b release_now (sym e))
+  pub release_ready : IfSome result.0 (CanRelease meaning region store₁.slabs half)
+  release_ready = of result.0 holds.released
+    where
+      of : (o : Option ℕ) → o ≡ let_go store.quarantine a (index_of_word region.shape (next_word store.stream)) → IfSome o (CanRelease meaning region store₁.slabs half)
+      of None e = tt
+      of (Some b) e = can_release b (at_released (let_go store.quarantine a (index_of_word region.shape (next_word store.stream))) b release_now (sym e))

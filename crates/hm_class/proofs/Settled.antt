@@ -2,8 +2,8 @@
 use Rattle.std.proofs.Common.{◌≡◌, ◌≢◌, inl, inr, ℕ, ◌+◌, ◌*◌, ◌^◌, ◌<◌, ◌≤◌, ◌==◌, Bool, true, false, IsTrue, cond, not, ◌&&◌, nat_lt, List, [], ◌∷◌, ◌++◌, length, slice_set, slice_index_or, Option, Some, None, sym, ◌∙◌, ap, subst, refl, arith}
 use Rattle.std.specs.FinMap as map
 use Rattle.std.proofs.lemmas.Option.{none-some, same_Some, slice_get_within}
-use Rattle.hm_choice.specs.Stream.{Words, next_word, drawn}
-use Rattle.hm_quarantine.specs.Quarantine.{Kept, let_go, kept_with}
+use Rattle.hm_choice.specs.Stream.{Words, next_word, after_word, drawn}
+use Rattle.hm_quarantine.specs.Quarantine.{let_go, kept_with}
 use Rattle.hm_outside.specs.declared.pages.Pages as pages
 use Rattle.hm_base.specs.Lists.{zeros}
 use Rattle.hm_outside.specs.PageRuns.{PageRuns}
@@ -12,7 +12,6 @@ use Rattle.hm_model.specs.declared.entry.Entry.{Entry}
 use Rattle.hm_model.specs.declared.entry.Who.{Who}
 use Rattle.hm_model.specs.declared.entry.Call.TheVariants.{GiveBack}
 use Rattle.hm_model.specs.declared.entry.Reply.TheVariants as reply
-use Rattle.hm_sizes.specs.declared.config.Config.{Config}
 use Rattle.hm_sizes.specs.declared.shape.Shape.{Shape}
 use Rattle.hm_sizes.specs.Shapes.{slab_at, slab_of, slot_of, has_bytes, usable}
 use Rattle.hm_class_rules.specs.State.{State, Slab, is_open, is_live, is_empty, empty_slabs}
@@ -27,8 +26,8 @@ use Rattle.hm_class_rules.proofs.Emptied.{one_more_empty}
 use Rattle.hm_class_rules.proofs.Changes.{kind_empty}
 use Rattle.hm_class_rules.proofs.Alike.{drawn_below}
 use Rattle.hm_class_rules.proofs.Streams.{next_below}
-use Rattle.hm_class.specs.declared.outcome.Emptied.{Emptied}
-use Rattle.hm_class.specs.declared.outcome.Emptied.TheVariants as emptied
+use Rattle.hm_class.specs.declared.event.Emptied.{Emptied}
+use Rattle.hm_class.specs.declared.event.Emptied.TheVariants as emptied
 use Rattle.hm_slab_meta.specs.Uses.{Free, Live, Held}
 use Rattle.hm_class.specs.Slabs.{Slabs}
 use Rattle.hm_class.specs.declared.slabs.Slot.{Slot}
@@ -36,16 +35,18 @@ use Rattle.hm_class.specs.Uses.{numbers_of, open_at, Uses, SlabUse, lives, kind_
 use Rattle.hm_class.specs.Slabs.{SameLists, Parks, list_of}
 use Rattle.hm_slab_lists.specs.Lists.{Lists, gone, placed}
 use Rattle.hm_slab_lists.specs.Table.{unparked}
-use Rattle.hm_class.proofs.Filing.{Stands, Moved, with_unparked, placed_moved, placed_full, retired_partial, retired_empty, retired_shut, retired_full, same_full}
+use Rattle.hm_class.proofs.Filing.{Stands, Relisted, with_unparked, placed_relisted, placed_full, retired_partial, retired_empty, retired_shut, retired_full, same_full}
 use Rattle.hm_model.specs.Calls.{entry_of, no_choices}
-use Rattle.hm_class.specs.Outcomes.{freed_choices, freed_draws}
+use Rattle.hm_class.specs.Events.{freed_choices, freed_draws}
 use Rattle.hm_class.specs.Frees as frees
-use Rattle.hm_class.specs.Frees.{array_word, place_of_word, array_stream, Clears, Settles, is_surplus, freed_uses}
+use Rattle.hm_class.specs.Frees.{array_word, index_of_word, array_stream, Holds, Settles, is_surplus, freed_uses}
 use Rattle.hm_class.specs.Region.{HoldsSlabs}
-use Rattle.hm_class.specs.Kept.{Shows, AreFull, IsKept, terms_of, cells_of, identity, store}
+use Rattle.hm_class.specs.declared.identity.Identity.{Identity}
+use Rattle.hm_class.specs.declared.store.Store.{Store}
+use Rattle.hm_class.specs.Kept.{Shows, AreFull, IsKept, terms_in, cells_of}
 use Rattle.hm_class.proofs.Entered.{length_taken, has_removed_same, has_overlaid}
 use Rattle.hm_class.proofs.Followed.{shows_count, shows_released, shows_retired, shows_unparked, shows_written}
-use Rattle.hm_class.proofs.Freed.{released_is, draws_are, stepped_freed, after_freed, stream_after, IsNextWord, IsUnparked, place_drawn, parking_drawn}
+use Rattle.hm_class.proofs.Freed.{released_is, draws_are, stepped_freed, after_freed, stream_after, IsNextWord, IsUnparked, index_drawn, parking_drawn}
 use Rattle.hm_class.proofs.Listed.{next_freed, listed_same, empty_kind}
 use Rattle.hm_class.proofs.Paged.{holds_retired, holds_purged}
 use Rattle.hm_class.proofs.Permitted.{allowed_of, told_pair}
@@ -94,344 +95,354 @@ chosen_is released (emptied.Purged d) = refl
 clean_without : (p : Shape) (s : State) (a : ℕ) → has_bytes p ≡ false → wrong_canary p s a ≡ None
 clean_without p s a off = ap (λ (b : Bool). cond (b && not (found_canary p s a == kept_canary p s a)) (told_pair (kept_canary p s a) (found_canary p s a)) None) off
 
-module _ (told : Bool) (runs : PageRuns) (faults : ℕ) (c : Config) (number arena : ℕ) (p : Shape) (es : List Entry) (k : Slabs) (stream : Words) (quarantine : Kept)
-    (kept : IsKept told runs faults (identity c number arena p) es (store k stream quarantine k.parking))
-    {P : Type 0} (meaning : pages.Ghosts P) (begun half now : P) (k₁ k' : Slabs) (stream' : Words) (a : ℕ) (slot : Slot) (stated : Option ℕ) (who : Who) (f f' : ℕ)
-    (told_is : meaning.told begun ≡ told) (runs_is : meaning.runs begun ≡ runs) (accepts : Accepts meaning p k begun a stated slot)
-    (items : k₁.slabs ≡ with_use k.slabs slot.slab slot.index Held) (cleared : Clears meaning p begun half a) (lists : SameLists k k₁)
-    (is : f ≡ faults) (later : f ≤ f') where
+module _ {P : Type 0} {meaning : pages.Ghosts P} {begun half : P} {region : Identity} {es : List Entry} {store store₁ : Store} {a : ℕ} {slot : Slot} {stated : Option ℕ} {result : Option ℕ × Option ℕ}
+    (kept : IsKept (meaning.told begun) (meaning.runs begun) (meaning.faults begun) region es store) (now : P) (store' : Store) (who : Who) (f f' : ℕ)
+    (accepts : Accepts meaning region.shape store.slabs begun a stated slot) (holds : Holds meaning store store₁ begun half region.shape a slot result)
+    (is : f ≡ meaning.faults begun) (later : f ≤ f') where
   abbrev t : Terms
-  t = terms_of told c p
+  t = terms_in (meaning.told begun) region
 
   abbrev first : State
-  first = state (terms_of told c p) es
+  first = state (terms_in (meaning.told begun) region) es
 
   abbrev taken : State
-  taken = takes_back p a first
+  taken = takes_back region.shape a first
 
-  clean : IsTrue told → wrong_canary p first a ≡ None
-  clean y = of (has_bytes p) refl
+  clean : IsTrue (meaning.told begun) → wrong_canary region.shape first a ≡ None
+  clean y = of (has_bytes region.shape) refl
     where
-      slabs : HoldsSlabs p first.opens (meaning.runs begun)
-      slabs = subst (λ (r : PageRuns). HoldsSlabs p first.opens r) (sym runs_is) (kept.slabs y)
+      slabs : HoldsSlabs region.shape first.opens (meaning.runs begun)
+      slabs = kept.slabs y
 
       on : is_open first slot.slab ≡ true
-      on = live_open p first slot.slab slot.index kept.served.shape (sound_now told runs faults c number arena p es k stream quarantine k.parking kept) accepts.judged.0.slot
-          (ap (λ (q : ℕ). is_live first q) (sym accepts.judged.0.is) ∙ (live_block p k.slabs first a kept.served.shape kept.follows.shows slot accepts.judged).live)
+      on = live_open region.shape first slot.slab slot.index region.served.shape (sound_now kept) accepts.judged.0.slot
+          (ap (λ (q : ℕ). is_live first q) (sym accepts.judged.0.is) ∙ (live_block region.shape store.slabs.slabs first a region.served.shape kept.follows.shows slot accepts.judged).live)
 
-      of : (own : Bool) → has_bytes p ≡ own → wrong_canary p first a ≡ None
-      of true own = canary_found p k.slabs first slot.slab slot.index a (meaning.runs begun) None kept.served.shape own accepts.judged.0 on kept.follows.shows slabs (accepts.canary own (told_is ∙ y))
-      of false off = clean_without p first a off
+      of : (own : Bool) → has_bytes region.shape ≡ own → wrong_canary region.shape first a ≡ None
+      of true own = canary_found region.shape store.slabs.slabs first slot.slab slot.index a (meaning.runs begun) None region.served.shape own accepts.judged.0 on kept.follows.shows slabs (accepts.canary own y)
+      of false off = clean_without region.shape first a off
 
   -- once the slabs, the pages and the lists follow
-  finish : (released : Option ℕ) (m : ℕ) (e : Emptied) (final : State) (kb ka : Kind) → released ≡ let_go quarantine a (place_of_word p (next_word stream))
-      → step p first (entry_freed p stream who a stated released e f f') ≡ record final { faults = f' }
-      → Empties t (releases released taken) f f' (freed_choices released e) (surplus p (releases released taken) released)
-      → IsNextWord stream (p.array == 0) e → IsUnparked t (cells_of first (store k stream quarantine k.parking)) e
-      → Shows p k'.slabs final → k'.lists.retired ≡ final.shut → AreFull k'.slabs k'.lists.full → k'.numbers ≡ numbers_of p → length final.live ≤ live_count k'.slabs → (IsTrue told → HoldsSlabs p final.opens (meaning.runs now))
-      → touched p released (Returned a) ≡ m → kind p first m ≡ kb → kind p final m ≡ ka
-      → k'.lists.partial ≡ listed Partial m kb ka k.lists.partial → k'.lists.empty ≡ listed Empty m kb ka k.lists.empty
-      → stream' ≡ stream_after (array_stream p stream) e → k'.parking ≡ parking_with (parking_place t (freed_draws (array_word p (next_word stream)) e)) (freed_choices released e).retired k.parking
-      → IsKept told (meaning.runs now) f' (identity c number arena p) (es ++ entry_freed p stream who a stated released e f f' ∷ []) (store k' stream' (kept_with quarantine a (place_of_word p (next_word stream))) k'.parking)
-  finish released m e final kb ka let_is after empties next unparked shows shut full numbers live slabs at was now_is partial empty taken_words places =
-      let x : Entry = entry_freed p stream who a stated released e f f' in
+  finish : (released : Option ℕ) (m : ℕ) (e : Emptied) (final : State) (kb ka : Kind) → released ≡ let_go store.quarantine a (index_of_word region.shape (next_word store.stream))
+      → step region.shape first (entry_freed region.shape store.stream who a stated released e f f') ≡ record final { faults = f' }
+      → Empties t (releases released taken) f f' (freed_choices released e) (surplus region.shape (releases released taken) released)
+      → IsNextWord store.stream (region.shape.array == 0) e → IsUnparked t (cells_of first store) e
+      → Shows region.shape store'.slabs.slabs final → store'.slabs.lists.retired ≡ final.shut → AreFull store'.slabs.slabs store'.slabs.lists.full → store'.slabs.numbers ≡ numbers_of region.shape → length final.live ≤ live_count store'.slabs.slabs → (IsTrue (meaning.told begun) → HoldsSlabs region.shape final.opens (meaning.runs now))
+      → touched region.shape released (Returned a) ≡ m → kind region.shape first m ≡ kb → kind region.shape final m ≡ ka
+      → store'.slabs.lists.partial ≡ listed Partial m kb ka store.slabs.lists.partial → store'.slabs.lists.empty ≡ listed Empty m kb ka store.slabs.lists.empty
+      → store'.stream ≡ stream_after (array_stream region.shape store.stream) e → store'.slabs.parking ≡ parking_with (parking_place t (freed_draws (array_word region.shape (next_word store.stream)) e)) (freed_choices released e).retired store.slabs.parking
+      → store'.quarantine ≡ kept_with store.quarantine a (index_of_word region.shape (next_word store.stream))
+      → IsKept (meaning.told begun) (meaning.runs now) f' region (es ++ entry_freed region.shape store.stream who a stated released e f f' ∷ []) store'
+  finish released m e final kb ka let_is after empties next unparked shows shut full numbers live slabs at was now_is partial empty taken_words parking quarantine =
+      let x : Entry = entry_freed region.shape store.stream who a stated released e f f' in
       let same : (freed_choices released e).released ≡ released = released_is released e in
-      let release : Releases p taken released = subst (λ (o : Option ℕ). Releases p taken o) (sym let_is)
-      (release_now told runs faults c number arena p es k stream quarantine k.parking kept meaning begun half k₁ a slot.slab slot.index told_is runs_is accepts.judged.0.is accepts.judged.0.slot accepts.judged.1 items cleared) in
-      pushed told runs faults c number arena p es k stream quarantine k.parking kept (meaning.runs now) f' k' stream' (kept_with quarantine a (place_of_word p (next_word stream))) k'.parking x
-      (allowed_of t first who (GiveBack a stated) reply.Freed (freed_choices released e) (freed_draws (array_word p (next_word stream)) e) f f' (draws_are p stream e) tt (is ∙ kept.count) later (record {
-        block = live_block p k.slabs first a kept.served.shape kept.follows.shows slot accepts.judged;
+      let release : Releases region.shape taken released = subst (λ (o : Option ℕ). Releases region.shape taken o) (sym let_is)
+      (release_now kept refl refl accepts.judged holds) in
+      pushed kept (meaning.runs now) f' store' x
+      (allowed_of t first who (GiveBack a stated) reply.Freed (freed_choices released e) (freed_draws (array_word region.shape (next_word store.stream)) e) f f' (draws_are region.shape store.stream e) tt (is ∙ kept.count) later (record {
+        block = live_block region.shape store.slabs.slabs first a region.served.shape kept.follows.shows slot accepts.judged;
         size = accepts.size;
         canary = clean;
-        release = subst (λ (o : Option ℕ). Releases p taken o) (sym same) release;
-        emptied = subst (λ (o : Option ℕ). Empties t (releases o taken) f f' (freed_choices released e) (surplus p (releases o taken) o)) (sym same) empties;
+        release = subst (λ (o : Option ℕ). Releases region.shape taken o) (sym same) release;
+        emptied = subst (λ (o : Option ℕ). Empties t (releases o taken) f f' (freed_choices released e) (surplus region.shape (releases o taken) o)) (sym same) empties;
         choices = chosen_is released e;
       }))
-      (stepped_freed t (cells_of first (store k stream quarantine k.parking)) who a f f' stated released e next unparked let_is) refl
+      (stepped_freed t (cells_of first store) who a f f' stated released e next unparked let_is) refl
       (record {
-        shows = subst (λ (s : State). Shows p k'.slabs s) (sym after) (shows_count p k'.slabs final f' shows);
+        shows = subst (λ (s : State). Shows region.shape store'.slabs.slabs s) (sym after) (shows_count region.shape store'.slabs.slabs final f' shows);
         shut = shut ∙ ap (λ (s : State). s.shut) (sym after);
         full = full;
         numbers = numbers;
         live_all = omega (arith, live, ap (λ (s : State). length s.live) after);
       })
-      (λ y. subst (λ (s : State). HoldsSlabs p s.opens (meaning.runs now)) (sym after) (slabs y))
-      (next_freed t first k k' stream stream' quarantine (kept_with quarantine a (place_of_word p (next_word stream))) k.parking k'.parking x a m kb ka refl (ap (λ (o : Option ℕ). touched p o (Returned a)) same ∙ at) was
-      (ap (λ (s : State). kind p s m) after ∙ now_is) (after_freed p stream e ∙ sym taken_words) partial empty
-      (ap (λ (i : ℕ). kept_with quarantine a i) (sym (place_drawn p stream e))) places)
+      (λ y. subst (λ (s : State). HoldsSlabs region.shape s.opens (meaning.runs now)) (sym after) (slabs y))
+      (next_freed t first store store' x a m kb ka refl (ap (λ (o : Option ℕ). touched region.shape o (Returned a)) same ∙ at) was
+      (ap (λ (s : State). kind region.shape s m) after ∙ now_is) (after_freed region.shape store.stream e ∙ sym taken_words) partial empty
+      (quarantine ∙ ap (λ (i : ℕ). kept_with store.quarantine a i) (sym (index_drawn region.shape store.stream e))) parking)
 
   -- the slots with the freed one held
-  shows₁ : Shows p k₁.slabs taken
-  shows₁ = held_shows told runs faults c number arena p es k stream quarantine k.parking kept meaning begun half k₁ a slot.slab slot.index told_is runs_is accepts.judged.0.is accepts.judged.0.slot accepts.judged.1 items cleared
+  shows₁ : Shows region.shape store₁.slabs.slabs taken
+  shows₁ = held_shows kept refl refl accepts.judged holds
 
-  slabs₁ : IsTrue told → HoldsSlabs p taken.opens (meaning.runs half)
-  slabs₁ = held_slabs told runs faults c number arena p es k stream quarantine k.parking kept meaning begun half k₁ a slot.slab slot.index told_is runs_is accepts.judged.0.is accepts.judged.0.slot accepts.judged.1 items cleared
+  slabs₁ : IsTrue (meaning.told begun) → HoldsSlabs region.shape taken.opens (meaning.runs half)
+  slabs₁ = held_slabs kept refl refl accepts.judged holds
 
-  kind₁ : (m : ℕ) → kind p first m ≡ kind_at k₁.slabs m
-  kind₁ = kind_then told runs faults c number arena p es k stream quarantine k.parking kept meaning begun half k₁ a slot.slab slot.index told_is runs_is accepts.judged.0.is accepts.judged.0.slot accepts.judged.1 items cleared
+  kind₁ : (m : ℕ) → kind region.shape first m ≡ kind_at store₁.slabs.slabs m
+  kind₁ = kind_then kept refl refl accepts.judged holds
 
   live : is_live first a ≡ true
-  live = was_live told runs faults c number arena p es k stream quarantine k.parking kept meaning begun half k₁ a slot.slab slot.index told_is runs_is accepts.judged.0.is accepts.judged.0.slot accepts.judged.1 items cleared
+  live = was_live kept refl refl accepts.judged holds
 
-  live_taken : length taken.live ≤ live_count k₁.slabs
-  live_taken = omega (arith, kept.follows.live_all, ap live_count items, counted lives k.slabs slot.slab slot.index Held Live accepts.judged.1, length_taken a first.live live)
+  live_taken : length taken.live ≤ live_count store₁.slabs.slabs
+  live_taken = omega (arith, kept.follows.live_all, ap live_count holds.slabs, counted lives store.slabs.slabs slot.slab slot.index Held Live accepts.judged.1, length_taken a first.live live)
 
   -- what was open is open, and slabs are what they were
   open₁ : (m : ℕ) → is_open taken m ≡ is_open first m
-  open₁ m = has_overlaid p a (zeros (usable p)) m first.opens
+  open₁ m = has_overlaid region.shape a (zeros (usable region.shape)) m first.opens
 
-  same_kind₁ : (m : ℕ) → kind_at k.slabs m ≡ kind_at k₁.slabs m
-  same_kind₁ m = sym (kind_is p k.slabs first m kept.served.shape kept.follows.shows) ∙ kind₁ m
+  same_kind₁ : (m : ℕ) → kind_at store.slabs.slabs m ≡ kind_at store₁.slabs.slabs m
+  same_kind₁ m = sym (kind_is region.shape store.slabs.slabs first m region.served.shape kept.follows.shows) ∙ kind₁ m
 
-  full₁ : AreFull k₁.slabs k.lists.full
+  full₁ : AreFull store₁.slabs.slabs store.slabs.lists.full
   full₁ m at =
       let is = kept.follows.full m at in
       (sym (shows₁.opens m) ∙ open₁ m ∙ kept.follows.shows.opens m ∙ is.0, sym (same_kind₁ m) ∙ is.1)
 
   abbrev Ends : Option ℕ → Emptied → Type 0
-  Ends released e = IsKept told (meaning.runs now) f' (identity c number arena p) (es ++ entry_freed p stream who a stated released e f f' ∷ []) (store k' stream' (kept_with quarantine a (place_of_word p (next_word stream))) k'.parking)
+  Ends released e = IsKept (meaning.told begun) (meaning.runs now) f' region (es ++ entry_freed region.shape store.stream who a stated released e f f' ∷ []) store'
 
   -- nothing left the quarantine
-  pub kept_held : (e : Emptied) → None ≡ let_go quarantine a (place_of_word p (next_word stream)) → e ≡ emptied.Kept → k'.slabs ≡ k₁.slabs → SameLists k₁ k' → (IsTrue told → meaning.runs now ≡ meaning.runs half) → stream' ≡ array_stream p stream → k'.parking ≡ k.parking
-      → Ends None e
-  kept_held e none e_is same same_lists same_runs words places =
-      let m : ℕ = slab_of p a in
-      let ka : Kind = kind p first m in
-      let all_lists : k'.lists ≡ k.lists = same_lists.lists ∙ lists.lists in
+  pub kept_held : (e : Emptied) → None ≡ let_go store.quarantine a (index_of_word region.shape (next_word store.stream)) → e ≡ emptied.Kept → store'.slabs.slabs ≡ store₁.slabs.slabs → SameLists store₁.slabs store'.slabs → (IsTrue (meaning.told begun) → meaning.runs now ≡ meaning.runs half) → store'.stream ≡ array_stream region.shape store.stream → store'.slabs.parking ≡ store.slabs.parking
+      → store'.quarantine ≡ store₁.quarantine → Ends None e
+  kept_held e none e_is same same_lists same_runs words parking quarantine =
+      let m : ℕ = slab_of region.shape a in
+      let ka : Kind = kind region.shape first m in
+      let all_lists : store'.slabs.lists ≡ store.slabs.lists = same_lists.lists ∙ holds.lists.lists in
       subst (λ (x : Emptied). Ends None x) (sym e_is)
       (finish None m emptied.Kept taken ka ka none refl (refl, refl, refl) tt tt
-      (subst (λ (u : Uses). Shows p u taken) (sym same) shows₁) (ap (λ (l : Lists). l.retired) all_lists ∙ kept.follows.shut)
-      (same_full k₁.slabs k'.slabs k.lists.full k'.lists.full same (ap (λ (l : Lists). l.full) all_lists) full₁) (same_lists.numbers ∙ lists.numbers ∙ kept.follows.numbers)
+      (subst (λ (u : Uses). Shows region.shape u taken) (sym same) shows₁) (ap (λ (l : Lists). l.retired) all_lists ∙ kept.follows.shut)
+      (same_full store₁.slabs.slabs store'.slabs.slabs store.slabs.lists.full store'.slabs.lists.full same (ap (λ (l : Lists). l.full) all_lists) full₁) (same_lists.numbers ∙ holds.lists.numbers ∙ kept.follows.numbers)
       (omega (arith, live_taken, ap live_count same))
-      (λ y. subst (λ (r : PageRuns). HoldsSlabs p taken.opens r) (sym (same_runs y)) (slabs₁ y))
-      refl refl (kind_is p k₁.slabs taken m kept.served.shape shows₁ ∙ sym (kind₁ m))
-      (ap (λ (l : Lists). l.partial) all_lists ∙ sym (listed_same Partial ka m k.lists.partial))
-      (ap (λ (l : Lists). l.empty) all_lists ∙ sym (listed_same Empty ka m k.lists.empty))
-      words places)
+      (λ y. subst (λ (r : PageRuns). HoldsSlabs region.shape taken.opens r) (sym (same_runs y)) (slabs₁ y))
+      refl refl (kind_is region.shape store₁.slabs.slabs taken m region.served.shape shows₁ ∙ sym (kind₁ m))
+      (ap (λ (l : Lists). l.partial) all_lists ∙ sym (listed_same Partial ka m store.slabs.lists.partial))
+      (ap (λ (l : Lists). l.empty) all_lists ∙ sym (listed_same Empty ka m store.slabs.lists.empty))
+      words parking (quarantine ∙ holds.quarantine_is))
 
   -- ---- slot b left the quarantine
-  module _ (b : ℕ) (let_is : Some b ≡ let_go quarantine a (place_of_word p (next_word stream))) where
+  module _ (b : ℕ) (let_is : Some b ≡ let_go store.quarantine a (index_of_word region.shape (next_word store.stream))) where
     abbrev m : ℕ
-    m = slab_of p b
+    m = slab_of region.shape b
 
     abbrev freed : State
     freed = releases (Some b) taken
 
     abbrev uses₂ : Uses
-    uses₂ = freed_uses p b k₁.slabs
+    uses₂ = freed_uses region.shape b store₁.slabs.slabs
 
-    release : Releases p taken (Some b)
-    release = subst (λ (o : Option ℕ). Releases p taken o) (sym let_is)
-        (release_now told runs faults c number arena p es k stream quarantine k.parking kept meaning begun half k₁ a slot.slab slot.index told_is runs_is accepts.judged.0.is accepts.judged.0.slot accepts.judged.1 items cleared)
+    release : Releases region.shape taken (Some b)
+    release = subst (λ (o : Option ℕ). Releases region.shape taken o) (sym let_is)
+        (release_now kept refl refl accepts.judged holds)
 
-    place_b : IsReleased told runs faults c number arena p es k stream quarantine k.parking kept meaning begun half k₁ a slot.slab slot.index told_is runs_is accepts.judged.0.is accepts.judged.0.slot accepts.judged.1 items cleared b
-    place_b = is_released told runs faults c number arena p es k stream quarantine k.parking kept meaning begun half k₁ a slot.slab slot.index told_is runs_is accepts.judged.0.is accepts.judged.0.slot accepts.judged.1 items cleared b release.0
+    place_b : IsReleased kept refl refl accepts.judged holds b
+    place_b = is_released kept refl refl accepts.judged holds b release.0
 
-    shows₂ : Shows p uses₂ freed
+    shows₂ : Shows region.shape uses₂ freed
     shows₂ =
         let r = place_b in
-        let g = found k₁.slabs m (slot_of p b) Held r.used in
-        subst (λ (q : ℕ). Shows p uses₂ (releases (Some q) taken)) (sym r.is_place) (shows_released p k₁.slabs taken m (slot_of p b) g.slab Held kept.served.shape r.slot g.is_slab r.used shows₁ refl)
+        let g = found store₁.slabs.slabs m (slot_of region.shape b) Held r.used in
+        subst (λ (q : ℕ). Shows region.shape uses₂ (releases (Some q) taken)) (sym r.is_place) (shows_released region.shape store₁.slabs.slabs taken m (slot_of region.shape b) g.slab Held region.served.shape r.slot g.is_slab r.used shows₁ refl)
 
     -- whether the slab is one too many
-    surplus_is : is_surplus p uses₂ (length k₁.lists.empty) m ≡ (is_empty p freed m && nat_lt 131072 (length (empty_slabs p freed) * p.slab))
+    surplus_is : is_surplus region.shape uses₂ (length store₁.slabs.lists.empty) m ≡ (is_empty region.shape freed m && nat_lt 131072 (length (empty_slabs region.shape freed) * region.shape.slab))
     surplus_is =
-        ap (λ (x : Bool). x && nat_lt 131072 ((length k₁.lists.empty + 1) * p.slab)) (ap (λ (x : Kind). same_kind x Empty) (sym (kind_is p uses₂ freed m kept.served.shape shows₂)) ∙ empty_kind p freed m)
-        ∙ of (is_empty p freed m) refl
+        ap (λ (x : Bool). x && nat_lt 131072 ((length store₁.slabs.lists.empty + 1) * region.shape.slab)) (ap (λ (x : Kind). same_kind x Empty) (sym (kind_is region.shape uses₂ freed m region.served.shape shows₂)) ∙ empty_kind region.shape freed m)
+        ∙ of (is_empty region.shape freed m) refl
       where
-        now_kept : AreKept t first (cells_of first (store k stream quarantine k.parking))
-        now_kept = kept_now told runs faults c number arena p es k stream quarantine k.parking kept
+        now_kept : AreKept t first (cells_of first store)
+        now_kept = kept_now kept
 
-        of : (x : Bool) → is_empty p freed m ≡ x → (x && nat_lt 131072 ((length k₁.lists.empty + 1) * p.slab)) ≡ (x && nat_lt 131072 (length (empty_slabs p freed) * p.slab))
-        of true e = ap (λ (n : ℕ). nat_lt 131072 (n * p.slab))
-            (omega (arith, one_more_empty p first a b kept.served.shape (sound_now told runs faults c number arena p es k stream quarantine k.parking kept) live release e, now_kept.empty_count, ap (λ (l : Lists). length l.empty) lists.lists))
+        of : (x : Bool) → is_empty region.shape freed m ≡ x → (x && nat_lt 131072 ((length store₁.slabs.lists.empty + 1) * region.shape.slab)) ≡ (x && nat_lt 131072 (length (empty_slabs region.shape freed) * region.shape.slab))
+        of true e = ap (λ (n : ℕ). nat_lt 131072 (n * region.shape.slab))
+            (omega (arith, one_more_empty region.shape first a b region.served.shape (sound_now kept) live release e, now_kept.empty_count, ap (λ (l : Lists). length l.empty) holds.lists.lists))
         of false e = refl
 
-    surplus_when : (x : Bool) → is_surplus p uses₂ (length k₁.lists.empty) m ≡ x → surplus p freed (Some b) ≡ cond x (Some m) None
+    surplus_when : (x : Bool) → is_surplus region.shape uses₂ (length store₁.slabs.lists.empty) m ≡ x → surplus region.shape freed (Some b) ≡ cond x (Some m) None
     surplus_when x e = ap (λ (y : Bool). cond y (Some m) None) (sym surplus_is ∙ e)
 
-    free_live : live_count uses₂ ≡ live_count k₁.slabs
-    free_live = omega (arith, counted lives k₁.slabs m (slot_of p b) Free Held place_b.used)
+    free_live : live_count uses₂ ≡ live_count store₁.slabs.slabs
+    free_live = omega (arith, counted lives store₁.slabs.slabs m (slot_of region.shape b) Free Held place_b.used)
 
     -- where the slab stands
-    stands : Stands k.lists m (kind_at k₁.slabs m)
-    stands = subst (λ (x : Kind). Stands k.lists m x) (same_kind₁ m) (stands_now told runs faults c number arena p es k stream quarantine k.parking kept m (sym (open₁ m) ∙ place_b.open_slab))
+    stands : Stands store.slabs.lists m (kind_at store₁.slabs.slabs m)
+    stands = subst (λ (x : Kind). Stands store.slabs.lists m x) (same_kind₁ m) (stands_now kept m (sym (open₁ m) ∙ place_b.open_slab))
 
     -- the slabs before the lists follow
-    module _ (mid : Slabs) (mid_slabs : mid.slabs ≡ uses₂) (mid_lists : SameLists k₁ mid) where
-      all_mid : mid.lists ≡ k.lists
-      all_mid = mid_lists.lists ∙ lists.lists
+    module _ (mid : Slabs) (mid_slabs : mid.slabs ≡ uses₂) (mid_lists : SameLists store₁.slabs mid) where
+      all_mid : mid.lists ≡ store.slabs.lists
+      all_mid = mid_lists.lists ∙ holds.lists.lists
 
-      beside₂ : (n : ℕ) → n ≢ m → slab_in uses₂ n ≡ slab_in k₁.slabs n
+      beside₂ : (n : ℕ) → n ≢ m → slab_in uses₂ n ≡ slab_in store₁.slabs.slabs n
       beside₂ n ne =
-          let g = found k₁.slabs m (slot_of p b) Held place_b.used in
-          slab_beside k₁.slabs m (with_slot (slot_of p b) Free) g.slab g.is_slab n ne
+          let g = found store₁.slabs.slabs m (slot_of region.shape b) Held place_b.used in
+          slab_beside store₁.slabs.slabs m (with_slot (slot_of region.shape b) Free) g.slab g.is_slab n ne
 
       open₂ : open_at uses₂ m ≡ true
       open₂ =
-          let g = found k₁.slabs m (slot_of p b) Held place_b.used in
-          open_changed k₁.slabs m (with_slot (slot_of p b) Free) g.slab g.is_slab refl ∙ sym (shows₁.opens m) ∙ place_b.open_slab
+          let g = found store₁.slabs.slabs m (slot_of region.shape b) Held place_b.used in
+          open_changed store₁.slabs.slabs m (with_slot (slot_of region.shape b) Free) g.slab g.is_slab refl ∙ sym (shows₁.opens m) ∙ place_b.open_slab
 
       -- it goes to the list of its kind
-      module _ (ka : Kind) (joins : frees.Joins m mid.slabs mid k') (is_ka : kind_at uses₂ m ≡ ka) where
-        lists_are : k'.lists ≡ placed (list_of ka) m k.lists
+      module _ (ka : Kind) (joins : frees.Joins m mid.slabs mid store'.slabs) (is_ka : kind_at uses₂ m ≡ ka) where
+        lists_are : store'.slabs.lists ≡ placed (list_of ka) m store.slabs.lists
         lists_are = joins.lists ∙ ap (λ (u : Uses). placed (list_of (kind_at u m)) m mid.lists) mid_slabs
             ∙ ap (λ (x : Kind). placed (list_of x) m mid.lists) is_ka ∙ ap (λ (l : Lists). placed (list_of ka) m l) all_mid
 
-        slabs_are : k'.slabs ≡ uses₂
+        slabs_are : store'.slabs.slabs ≡ uses₂
         slabs_are = joins.slabs ∙ mid_slabs
 
-        moved_to : Moved k.lists (placed (list_of ka) m k.lists) m (kind_at k₁.slabs m) ka
-        moved_to = placed_moved k.lists m (kind_at k₁.slabs m) ka stands
+        relisted : Relisted store.slabs.lists (placed (list_of ka) m store.slabs.lists) m (kind_at store₁.slabs.slabs m) ka
+        relisted = placed_relisted store.slabs.lists m (kind_at store₁.slabs.slabs m) ka stands
 
-        joined_full : AreFull k'.slabs k'.lists.full
-        joined_full = subst (λ (u : Uses). AreFull u k'.lists.full) (sym slabs_are) (subst (λ (l : Lists). AreFull uses₂ l.full) (sym lists_are)
-            (placed_full k₁.slabs uses₂ k.lists m (kind_at k₁.slabs m) ka stands full₁ open₂ is_ka beside₂))
+        joined_full : AreFull store'.slabs.slabs store'.slabs.lists.full
+        joined_full = subst (λ (u : Uses). AreFull u store'.slabs.lists.full) (sym slabs_are) (subst (λ (l : Lists). AreFull uses₂ l.full) (sym lists_are)
+            (placed_full store₁.slabs.slabs uses₂ store.slabs.lists m (kind_at store₁.slabs.slabs m) ka stands full₁ open₂ is_ka beside₂))
 
-        joined_shut : k'.lists.retired ≡ first.shut
-        joined_shut = ap (λ (l : Lists). l.retired) lists_are ∙ moved_to.retired ∙ kept.follows.shut
+        joined_shut : store'.slabs.lists.retired ≡ first.shut
+        joined_shut = ap (λ (l : Lists). l.retired) lists_are ∙ relisted.retired ∙ kept.follows.shut
 
-        joined_partial : k'.lists.partial ≡ listed Partial m (kind_at k₁.slabs m) ka k.lists.partial
-        joined_partial = ap (λ (l : Lists). l.partial) lists_are ∙ moved_to.partial
+        joined_partial : store'.slabs.lists.partial ≡ listed Partial m (kind_at store₁.slabs.slabs m) ka store.slabs.lists.partial
+        joined_partial = ap (λ (l : Lists). l.partial) lists_are ∙ relisted.partial
 
-        joined_empty : k'.lists.empty ≡ listed Empty m (kind_at k₁.slabs m) ka k.lists.empty
-        joined_empty = ap (λ (l : Lists). l.empty) lists_are ∙ moved_to.empty
+        joined_empty : store'.slabs.lists.empty ≡ listed Empty m (kind_at store₁.slabs.slabs m) ka store.slabs.lists.empty
+        joined_empty = ap (λ (l : Lists). l.empty) lists_are ∙ relisted.empty
 
-        joined_numbers : k'.numbers ≡ numbers_of p
-        joined_numbers = joins.numbers ∙ mid_lists.numbers ∙ lists.numbers ∙ kept.follows.numbers
+        joined_numbers : store'.slabs.numbers ≡ numbers_of region.shape
+        joined_numbers = joins.numbers ∙ mid_lists.numbers ∙ holds.lists.numbers ∙ kept.follows.numbers
 
       -- it is retired
-      module _ (w : ℕ) (u : Option ℕ) (parks : Parks m (drawn (length mid.parking) w) mid k') (was_there : u ≡ slice_index_or mid.parking (drawn (length mid.parking) w) None) where
-        parked_lists : k'.lists ≡ unparked u (gone m k.lists)
+      module _ (w : ℕ) (u : Option ℕ) (parks : Parks m (drawn (length mid.parking) w) mid store'.slabs) (was_there : u ≡ slice_index_or mid.parking (drawn (length mid.parking) w) None) where
+        parked_lists : store'.slabs.lists ≡ unparked u (gone m store.slabs.lists)
         parked_lists = parks.lists ∙ ap (λ (o : Option ℕ). unparked o (gone m mid.lists)) (sym was_there) ∙ ap (λ (l : Lists). unparked u (gone m l)) all_mid
 
-        parked_slabs : k'.slabs ≡ with_shut uses₂ m
+        parked_slabs : store'.slabs.slabs ≡ with_shut uses₂ m
         parked_slabs = parks.slabs ∙ ap (λ (l : Uses). with_shut l m) mid_slabs
 
-        parked_beside : (n : ℕ) → n ≢ m → slab_in k'.slabs n ≡ slab_in k₁.slabs n
+        parked_beside : (n : ℕ) → n ≢ m → slab_in store'.slabs.slabs n ≡ slab_in store₁.slabs.slabs n
         parked_beside n ne =
-            let f = found uses₂ m (slot_of p b) Free (freed_use k₁.slabs m (slot_of p b) place_b.used) in
+            let f = found uses₂ m (slot_of region.shape b) Free (freed_use store₁.slabs.slabs m (slot_of region.shape b) place_b.used) in
             ap (λ (l : Uses). slab_in l n) parked_slabs ∙ slab_beside uses₂ m shut_slab f.slab f.is_slab n ne ∙ beside₂ n ne
 
-        parked_full : AreFull k'.slabs k'.lists.full
-        parked_full = subst (λ (l : Lists). AreFull k'.slabs l.full) (sym parked_lists) (retired_full k₁.slabs k'.slabs k.lists m u full₁ parked_beside)
+        parked_full : AreFull store'.slabs.slabs store'.slabs.lists.full
+        parked_full = subst (λ (l : Lists). AreFull store'.slabs.slabs l.full) (sym parked_lists) (retired_full store₁.slabs.slabs store'.slabs.slabs store.slabs.lists m u full₁ parked_beside)
 
-        parked_shut : k'.lists.retired ≡ with_unparked first.shut u
-        parked_shut = ap (λ (l : Lists). l.retired) parked_lists ∙ retired_shut k.lists m u (kind_at k₁.slabs m) stands
+        parked_shut : store'.slabs.lists.retired ≡ with_unparked first.shut u
+        parked_shut = ap (λ (l : Lists). l.retired) parked_lists ∙ retired_shut store.slabs.lists m u (kind_at store₁.slabs.slabs m) stands
             ∙ ap (λ (l : List ℕ). with_unparked l u) kept.follows.shut
 
-        parked_numbers : k'.numbers ≡ numbers_of p
-        parked_numbers = parks.numbers ∙ mid_lists.numbers ∙ lists.numbers ∙ kept.follows.numbers
+        parked_numbers : store'.slabs.numbers ≡ numbers_of region.shape
+        parked_numbers = parks.numbers ∙ mid_lists.numbers ∙ holds.lists.numbers ∙ kept.follows.numbers
 
-    pub kept_released : (e : Emptied) → frees.Releases meaning k₁ k' half now (array_stream p stream) stream' p b e → meaning.told half ≡ told → f ≡ meaning.faults half → f' ≡ meaning.faults now → Ends (Some b) e
-    kept_released e v told_half half_is now_is = by_end e v.empties
+    pub kept_released : (e : Emptied) → frees.Releases meaning store₁ store' half now region.shape b e → f' ≡ meaning.faults now → Ends (Some b) e
+    kept_released e v now_is = by_end e v.empties
       where
         mid : Slabs
         mid = v.mid
 
-        places : mid.parking ≡ k.parking
-        places = v.lists.parking ∙ lists.parking
+        parking : mid.parking ≡ store.slabs.parking
+        parking = v.lists.parking ∙ holds.lists.parking
 
         over : Bool → Type 0
-        over x = is_surplus p mid.slabs (length mid.lists.empty) m ≡ x
+        over x = is_surplus region.shape mid.slabs (length mid.lists.empty) m ≡ x
 
-        surplus_by : (x : Bool) → over x → is_surplus p uses₂ (length k₁.lists.empty) m ≡ x
-        surplus_by x e = ap (λ (u : Uses). is_surplus p u (length k₁.lists.empty) m) (sym v.slabs)
-            ∙ ap (λ (l : Lists). is_surplus p mid.slabs (length l.empty) m) (sym v.lists.lists) ∙ e
+        surplus_by : (x : Bool) → over x → is_surplus region.shape uses₂ (length store₁.slabs.lists.empty) m ≡ x
+        surplus_by x e = ap (λ (u : Uses). is_surplus region.shape u (length store₁.slabs.lists.empty) m) (sym v.slabs)
+            ∙ ap (λ (l : Lists). is_surplus region.shape mid.slabs (length l.empty) m) (sym v.lists.lists) ∙ e
 
-        by_end : (e : Emptied) → frees.Empties meaning mid k' half now (array_stream p stream) stream' p m e → Ends (Some b) e
+        by_end : (e : Emptied) → frees.Empties meaning (record store₁ { slabs = mid }) store' half now region.shape m e → Ends (Some b) e
         by_end emptied.Kept w =
             let ka : Kind = kind_at uses₂ m in
             let j = w.1.joins in
-            let q = w.1.places in
-            finish (Some b) m emptied.Kept freed (kind_at k₁.slabs m) ka let_is refl
+            let q = w.1.keeps in
+            finish (Some b) m emptied.Kept freed (kind_at store₁.slabs.slabs m) ka let_is refl
             (subst (λ (o : Option ℕ). Empties t freed f f' (freed_choices (Some b) emptied.Kept) o) (sym (surplus_when false (surplus_by false w.0))) (refl, refl, refl)) tt tt
-            (subst (λ (u : Uses). Shows p u freed) (sym (slabs_are mid v.slabs v.lists ka j refl)) shows₂) (joined_shut mid v.slabs v.lists ka j refl)
+            (subst (λ (u : Uses). Shows region.shape u freed) (sym (slabs_are mid v.slabs v.lists ka j refl)) shows₂) (joined_shut mid v.slabs v.lists ka j refl)
             (joined_full mid v.slabs v.lists ka j refl) (joined_numbers mid v.slabs v.lists ka j refl)
             (omega (arith, live_taken, ap live_count (slabs_are mid v.slabs v.lists ka j refl), free_live))
-            (λ y. subst (λ (r : PageRuns). HoldsSlabs p taken.opens r) (sym (q.runs_same (told_half ∙ y))) (slabs₁ y))
-            refl (kind₁ m) (kind_is p uses₂ freed m kept.served.shape shows₂)
+            (λ y. subst (λ (r : PageRuns). HoldsSlabs region.shape taken.opens r) (sym (q.page_runs_same (holds.cleared.pages.told ∙ y))) (slabs₁ y))
+            refl (kind₁ m) (kind_is region.shape uses₂ freed m region.served.shape shows₂)
             (joined_partial mid v.slabs v.lists ka j refl) (joined_empty mid v.slabs v.lists ka j refl)
-            q.stream_is (q.parking_is ∙ places)
+            (q.stream_is ∙ holds.stream_is) (q.parking_is ∙ parking) (q.quarantine_same ∙ holds.quarantine_is)
         by_end (emptied.Retired d w u) x =
             let j = x.1 in
             let r = place_b in
-            let g = found uses₂ m (slot_of p b) Free (freed_use k₁.slabs m (slot_of p b) r.used) in
-            let length_is : length mid.parking ≡ c.park_length =
-            ap (λ (l : List (Option ℕ)). length l) places ∙ (kept_now told runs faults c number arena p es k stream quarantine k.parking kept).parking_length in
-            let some : 0 < c.park_length = omega (arith, kept.served.valid.park_some) in
-            let word_low : w < 2 ^ 32 = subst (λ (x : ℕ). x < 2 ^ 32) (sym j.word_is) (next_below (array_stream p stream)) in
-            let here : u ≡ slice_index_or k.parking (drawn c.park_length w) None =
-            j.unparked_is ∙ ap (λ (x : ℕ). slice_index_or mid.parking (drawn x w) None) length_is ∙ ap (λ (l : List (Option ℕ)). slice_index_or l (drawn c.park_length w) None) places in
-            let allowed : Unparks c.park_length first.parked u = subst (λ (o : Option ℕ). Unparks c.park_length first.parked o) (sym here)
-            ((allows_now told runs faults c number arena p es k stream quarantine k.parking kept).unparked (drawn c.park_length w) (drawn_below c.park_length w some word_low)) in
+            let g = found uses₂ m (slot_of region.shape b) Free (freed_use store₁.slabs.slabs m (slot_of region.shape b) r.used) in
+            let length_is : length mid.parking ≡ region.config.park_length =
+            ap (λ (l : List (Option ℕ)). length l) parking ∙ (kept_now kept).parking_length in
+            let some : 0 < region.config.park_length = omega (arith, region.served.valid.park_some) in
+            let word_low : w < 2 ^ 32 = subst (λ (x : ℕ). x < 2 ^ 32) (sym j.word_is) (next_below store₁.stream) in
+            let here : u ≡ slice_index_or store.slabs.parking (drawn region.config.park_length w) None =
+            j.unparked_is ∙ ap (λ (x : ℕ). slice_index_or mid.parking (drawn x w) None) length_is ∙ ap (λ (l : List (Option ℕ)). slice_index_or l (drawn region.config.park_length w) None) parking in
+            let allowed : Unparks region.config.park_length first.parked u = subst (λ (o : Option ℕ). Unparks region.config.park_length first.parked o) (sym here)
+            ((allows_now kept).unparked (drawn region.config.park_length w) (drawn_below region.config.park_length w some word_low)) in
             let s₃ : State = unparks u freed in
-            let shows₃ : Shows p uses₂ s₃ = shows_unparked p uses₂ freed u (was_parked c.park_length first.parked u allowed) shows₂ in
-            let slabs : k'.slabs ≡ with_shut uses₂ m = parked_slabs mid v.slabs v.lists w u j.parks j.unparked_is in
-            let all : k'.lists ≡ unparked u (gone m k.lists) = parked_lists mid v.slabs v.lists w u j.parks j.unparked_is in
+            let shows₃ : Shows region.shape uses₂ s₃ = shows_unparked region.shape uses₂ freed u (was_parked region.config.park_length first.parked u allowed) shows₂ in
+            let slabs : store'.slabs.slabs ≡ with_shut uses₂ m = parked_slabs mid v.slabs v.lists w u j.parks j.unparked_is in
+            let all : store'.slabs.lists ≡ unparked u (gone m store.slabs.lists) = parked_lists mid v.slabs v.lists w u j.parks j.unparked_is in
             subst (λ (d : ℕ). Ends (Some b) (emptied.Retired d w u)) (sym j.slab_is)
-            (finish (Some b) m (emptied.Retired m w u) (retires (Some m) s₃) (kind_at k₁.slabs m) Neither let_is refl
+            (finish (Some b) m (emptied.Retired m w u) (retires (Some m) s₃) (kind_at store₁.slabs.slabs m) Neither let_is refl
             (subst (λ (o : Option ℕ). Empties t freed f f' (freed_choices (Some b) (emptied.Retired m w u)) o) (sym (surplus_when true (surplus_by true x.0))) (inl (refl, refl, allowed)))
-            (j.word_is) here
-            (subst (λ (x : Uses). Shows p x (retires (Some m) s₃)) (sym slabs) (shows_retired p uses₂ s₃ m g.slab g.is_slab shows₃))
+            (j.word_is ∙ ap next_word holds.stream_is) here
+            (subst (λ (x : Uses). Shows region.shape x (retires (Some m) s₃)) (sym slabs) (shows_retired region.shape uses₂ s₃ m g.slab g.is_slab shows₃))
             (parked_shut mid v.slabs v.lists w u j.parks j.unparked_is ∙ shut_with u freed)
             (parked_full mid v.slabs v.lists w u j.parks j.unparked_is) (parked_numbers mid v.slabs v.lists w u j.parks j.unparked_is)
             (omega (arith, live_taken, ap live_count slabs, shut_live uses₂ m g.slab g.is_slab, free_live, ap (λ (l : List (ℕ × ℕ)). length l) (unparked_live u freed)))
-            (λ y. subst (λ (r : PageRuns). HoldsSlabs p (retires (Some m) s₃).opens r) (sym (j.dropped.0 (told_half ∙ y)))
-            (subst (λ (l : List (ℕ × Slab)). HoldsSlabs p (removed m l) (cond (has_bytes p) (map.remove (meaning.runs half) (slab_at p m)) (meaning.runs half))) (sym (unparked_opens u freed)) (holds_retired p taken.opens m (meaning.runs half) kept.served.shape (slabs₁ y))))
-            refl (kind₁ m) (kind_shut p (retires (Some m) s₃) m kept.served.shape (has_removed_same m s₃.opens))
-            (ap (λ (l : Lists). l.partial) all ∙ retired_partial k.lists m u (kind_at k₁.slabs m) stands)
-            (ap (λ (l : Lists). l.empty) all ∙ retired_empty k.lists m u (kind_at k₁.slabs m) stands)
-            j.stream_is
-            (j.parks.parking ∙ ap (λ (x : ℕ). slice_set mid.parking (drawn x w) (Some m)) length_is ∙ ap (λ (l : List (Option ℕ)). slice_set l (drawn c.park_length w) (Some m)) places
-            ∙ ap (λ (i : ℕ). slice_set k.parking i (Some m)) (sym (parking_drawn t stream m w u))))
+            (λ y. subst (λ (r : PageRuns). HoldsSlabs region.shape (retires (Some m) s₃).opens r) (sym (j.dropped.0 (holds.cleared.pages.told ∙ y)))
+            (subst (λ (l : List (ℕ × Slab)). HoldsSlabs region.shape (removed m l) (cond (has_bytes region.shape) (map.remove (meaning.runs half) (slab_at region.shape m)) (meaning.runs half))) (sym (unparked_opens u freed)) (holds_retired region.shape taken.opens m (meaning.runs half) region.served.shape (slabs₁ y))))
+            refl (kind₁ m) (kind_shut region.shape (retires (Some m) s₃) m region.served.shape (has_removed_same m s₃.opens))
+            (ap (λ (l : Lists). l.partial) all ∙ retired_partial store.slabs.lists m u (kind_at store₁.slabs.slabs m) stands)
+            (ap (λ (l : Lists). l.empty) all ∙ retired_empty store.slabs.lists m u (kind_at store₁.slabs.slabs m) stands)
+            (j.stream_is ∙ ap after_word holds.stream_is)
+            (j.parks.parking ∙ ap (λ (x : ℕ). slice_set mid.parking (drawn x w) (Some m)) length_is ∙ ap (λ (l : List (Option ℕ)). slice_set l (drawn region.config.park_length w) (Some m)) parking
+            ∙ ap (λ (i : ℕ). slice_set store.slabs.parking i (Some m)) (sym (parking_drawn t store.stream m w u)))
+            (j.quarantine_same ∙ holds.quarantine_is))
         by_end (emptied.Purged d) w =
             let q = w.1 in
             let j = q.joins in
-            let final : State = purges p (Some m) freed in
-            let rose : f < f' = omega (arith, q.dropped.2, half_is, now_is) in
-            let shows₃ : Shows p uses₂ final = shows_written p uses₂ freed (slab_at p m) (zeros p.slab) shows₂ in
-            let empty₂ : kind p freed m ≡ Empty = kind_empty p freed m (first_of _ _ (sym surplus_is ∙ surplus_by true w.0)) in
-            let is : kind_at uses₂ m ≡ Empty = sym (kind_is p uses₂ freed m kept.served.shape shows₂) ∙ empty₂ in
+            let final : State = purges region.shape (Some m) freed in
+            let rose : f < f' = omega (arith, q.dropped.2, (is ∙ sym holds.cleared.pages.count), now_is) in
+            let shows₃ : Shows region.shape uses₂ final = shows_written region.shape uses₂ freed (slab_at region.shape m) (zeros region.shape.slab) shows₂ in
+            let empty₂ : kind region.shape freed m ≡ Empty = kind_empty region.shape freed m (first_of _ _ (sym surplus_is ∙ surplus_by true w.0)) in
+            let is : kind_at uses₂ m ≡ Empty = sym (kind_is region.shape uses₂ freed m region.served.shape shows₂) ∙ empty₂ in
             subst (λ (d : ℕ). Ends (Some b) (emptied.Purged d)) (sym q.slab_is)
-            (finish (Some b) m (emptied.Purged m) final (kind_at k₁.slabs m) Empty let_is refl
+            (finish (Some b) m (emptied.Purged m) final (kind_at store₁.slabs.slabs m) Empty let_is refl
             (subst (λ (o : Option ℕ). Empties t freed f f' (freed_choices (Some b) (emptied.Purged m)) o) (sym (surplus_when true (surplus_by true w.0))) (inr (refl, refl, refl, q.dropped.0, rose))) tt tt
-            (subst (λ (x : Uses). Shows p x final) (sym (slabs_are mid v.slabs v.lists Empty j is)) shows₃) (joined_shut mid v.slabs v.lists Empty j is)
+            (subst (λ (x : Uses). Shows region.shape x final) (sym (slabs_are mid v.slabs v.lists Empty j is)) shows₃) (joined_shut mid v.slabs v.lists Empty j is)
             (joined_full mid v.slabs v.lists Empty j is) (joined_numbers mid v.slabs v.lists Empty j is)
             (omega (arith, live_taken, ap live_count (slabs_are mid v.slabs v.lists Empty j is), free_live))
-            (λ y. subst (λ (r : PageRuns). HoldsSlabs p final.opens r) (sym (q.dropped.1 (told_half ∙ y))) (holds_purged p taken.opens m (meaning.runs half) kept.served.shape q.dropped.0 place_b.open_slab (slabs₁ y)))
-            refl (kind₁ m) (kind_is p uses₂ final m kept.served.shape shows₃ ∙ is)
+            (λ y. subst (λ (r : PageRuns). HoldsSlabs region.shape final.opens r) (sym (q.dropped.1 (holds.cleared.pages.told ∙ y))) (holds_purged region.shape taken.opens m (meaning.runs half) region.served.shape q.dropped.0 place_b.open_slab (slabs₁ y)))
+            refl (kind₁ m) (kind_is region.shape uses₂ final m region.served.shape shows₃ ∙ is)
             (joined_partial mid v.slabs v.lists Empty j is) (joined_empty mid v.slabs v.lists Empty j is)
-            q.stream_is (q.parking_is ∙ places))
+            (q.stream_is ∙ holds.stream_is) (q.parking_is ∙ parking) (q.quarantine_same ∙ holds.quarantine_is))
 
   -- what was released, if anything
-  pub kept_ended : (released : Option ℕ) (e : Emptied) → released ≡ let_go quarantine a (place_of_word p (next_word stream)) → Settles meaning k₁ k' half now (array_stream p stream) stream' p released e
-      → meaning.told half ≡ told → f ≡ meaning.faults half → f' ≡ meaning.faults now → Ends released e
-  kept_ended None e let_is v told_half half_is now_is = kept_held e let_is v.0 v.1 v.2 (λ y. v.3.runs_same (told_half ∙ y)) v.3.stream_is (v.3.parking_is ∙ lists.parking)
-  kept_ended (Some b) e let_is v told_half half_is now_is = kept_released b let_is e v told_half half_is now_is
+  pub kept_ended : (released : Option ℕ) (e : Emptied) → released ≡ let_go store.quarantine a (index_of_word region.shape (next_word store.stream)) → Settles meaning store₁ store' half now region.shape released e
+      → f' ≡ meaning.faults now → Ends released e
+  kept_ended None e let_is v now_is = kept_held e let_is v.0 v.1 v.2 (λ y. v.3.page_runs_same (holds.cleared.pages.told ∙ y)) (v.3.stream_is ∙ holds.stream_is) (v.3.parking_is ∙ holds.lists.parking) v.3.quarantine_same
+  kept_ended (Some b) e let_is v now_is = kept_released b let_is e v now_is
 
   -- what is released was not live, and no fault is taken back
-  pub live_ended : (released : Option ℕ) (e : Emptied) → released ≡ let_go quarantine a (place_of_word p (next_word stream)) → Settles meaning k₁ k' half now (array_stream p stream) stream' p released e
-      → live_count k'.slabs + 1 ≡ live_count k.slabs
-  live_ended released e let_is v = omega (arith, same released e let_is v, ap live_count items, counted lives k.slabs slot.slab slot.index Held Live accepts.judged.1)
+  pub live_ended : (released : Option ℕ) (e : Emptied) → released ≡ let_go store.quarantine a (index_of_word region.shape (next_word store.stream)) → Settles meaning store₁ store' half now region.shape released e
+      → live_count store'.slabs.slabs + 1 ≡ live_count store.slabs.slabs
+  live_ended released e let_is v = omega (arith, same released e let_is v, ap live_count holds.slabs, counted lives store.slabs.slabs slot.slab slot.index Held Live accepts.judged.1)
     where
-      same : (released : Option ℕ) (e : Emptied) → released ≡ let_go quarantine a (place_of_word p (next_word stream)) → Settles meaning k₁ k' half now (array_stream p stream) stream' p released e → live_count k'.slabs ≡ live_count k₁.slabs
+      same : (released : Option ℕ) (e : Emptied) → released ≡ let_go store.quarantine a (index_of_word region.shape (next_word store.stream)) → Settles meaning store₁ store' half now region.shape released e → live_count store'.slabs.slabs ≡ live_count store₁.slabs.slabs
       same None e let_is v = ap live_count v.1
       same (Some b) e let_is v = by_end e v.empties
         where
-          by_end : (e : Emptied) → frees.Empties meaning v.mid k' half now (array_stream p stream) stream' p (slab_of p b) e → live_count k'.slabs ≡ live_count k₁.slabs
+          by_end : (e : Emptied) → frees.Empties meaning (record store₁ { slabs = v.mid }) store' half now region.shape (slab_of region.shape b) e → live_count store'.slabs.slabs ≡ live_count store₁.slabs.slabs
           by_end emptied.Kept w = ap live_count (w.1.joins.slabs ∙ v.slabs) ∙ free_live b let_is
           by_end (emptied.Retired d w u) x =
-              let g = found (uses₂ b let_is) (slab_of p b) (slot_of p b) Free (freed_use k₁.slabs (slab_of p b) (slot_of p b) (place_b b let_is).used) in
-              ap live_count (x.1.parks.slabs ∙ ap (λ (l : Uses). with_shut l (slab_of p b)) v.slabs) ∙ shut_live (uses₂ b let_is) (slab_of p b) g.slab g.is_slab ∙ free_live b let_is
+              let g = found (uses₂ b let_is) (slab_of region.shape b) (slot_of region.shape b) Free (freed_use store₁.slabs.slabs (slab_of region.shape b) (slot_of region.shape b) (place_b b let_is).used) in
+              ap live_count (x.1.parks.slabs ∙ ap (λ (l : Uses). with_shut l (slab_of region.shape b)) v.slabs) ∙ shut_live (uses₂ b let_is) (slab_of region.shape b) g.slab g.is_slab ∙ free_live b let_is
           by_end (emptied.Purged d) w = ap live_count (w.1.joins.slabs ∙ v.slabs) ∙ free_live b let_is
 
-pub settled_later : {P : Type 0} (meaning : pages.Ghosts P) (p : Shape) (k₁ k' : Slabs) (half now : P) (stream stream' : Words) (released : Option ℕ) (e : Emptied)
-    → Settles meaning k₁ k' half now stream stream' p released e → meaning.faults half ≤ meaning.faults now
-settled_later meaning p k₁ k' half now stream stream' None e v = omega (arith, v.3.count_same)
-settled_later meaning p k₁ k' half now stream stream' (Some b) e v = by_end e v.empties
+pub settled_later : {P : Type 0} (meaning : pages.Ghosts P) (p : Shape) (old new : Store) (half now : P) (released : Option ℕ) (e : Emptied) → Settles meaning old new half now p released e
+    → meaning.faults half ≤ meaning.faults now
+settled_later meaning p old new half now None e v = omega (arith, v.3.count_same)
+settled_later meaning p old new half now (Some b) e v = by_end e v.empties
   where
-    by_end : (e : Emptied) → frees.Empties meaning v.mid k' half now stream stream' p (slab_of p b) e → meaning.faults half ≤ meaning.faults now
-    by_end emptied.Kept w = omega (arith, w.1.places.count_same)
+    by_end : (e : Emptied) → frees.Empties meaning (record old { slabs = v.mid }) new half now p (slab_of p b) e → meaning.faults half ≤ meaning.faults now
+    by_end emptied.Kept w = omega (arith, w.1.keeps.count_same)
     by_end (emptied.Retired d w u) x = x.1.dropped.1
     by_end (emptied.Purged d) w = omega (arith, w.1.dropped.2)
+
+pub settled_told : {P : Type 0} (meaning : pages.Ghosts P) (p : Shape) (old new : Store) (half now : P) (released : Option ℕ) (e : Emptied) → Settles meaning old new half now p released e
+    → meaning.told now ≡ meaning.told half
+settled_told meaning p old new half now None e v = v.3.told_same
+settled_told meaning p old new half now (Some b) e v = by_end e v.empties
+  where
+    by_end : (e : Emptied) → frees.Empties meaning (record old { slabs = v.mid }) new half now p (slab_of p b) e → meaning.told now ≡ meaning.told half
+    by_end emptied.Kept w = w.1.keeps.told_same
+    by_end (emptied.Retired d w u) x = x.1.dropped.2
+    by_end (emptied.Purged d) w = w.1.dropped.3

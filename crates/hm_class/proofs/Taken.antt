@@ -4,8 +4,6 @@ use Rattle.std.specs.Option.{option_map_or}
 use Rattle.std.proofs.lemmas.Option.{none-some}
 use Rattle.std.specs.Int.{to_le_bytes}
 use mir.Syntax.{w64}
-use Rattle.hm_choice.specs.Stream.{Words}
-use Rattle.hm_quarantine.specs.Quarantine.{Kept}
 use Rattle.hm_outside.specs.declared.pages.Pages as pages
 use Rattle.hm_outside.specs.PageRuns.{PageRuns, IsHeld, Reads, Writes}
 use Rattle.hm_model.specs.declared.entry.Entry.{Entry}
@@ -29,18 +27,16 @@ use Rattle.hm_class_rules.specs.Rules.{Terms, Picks, state, reuse_finds}
 use Rattle.hm_class_rules.specs.Stepped.{IsSteppedEntry, listed}
 use Rattle.hm_class_rules.specs.Laws.{bytes_of_slab}
 use Rattle.hm_class_rules.proofs.Whole.{whole_write}
-use Rattle.hm_class.specs.declared.outcome.Outcome.{Outcome}
-use Rattle.hm_class.specs.declared.outcome.Outcome.TheVariants as outcome
 use Rattle.hm_slab_meta.specs.Uses.{SlotUse}
 use Rattle.hm_slab_meta.specs.Uses.{Live, Condemned, was_given}
-use Rattle.hm_class.specs.Slabs.{Slabs}
 use Rattle.hm_class.specs.Uses.{numbers_of, Uses, SlabUse, slab_in, lives, occupied, kind_at, use_at, passes_at, canary_at, with_use, live_count}
 use Rattle.hm_model.specs.Calls.{entry_of}
-use Rattle.hm_class.specs.Outcomes.{reply_of}
 use Rattle.hm_class.specs.Gives.{Gives, Stains, Seals}
 use Rattle.hm_class.specs.Finds.{slot_in}
 use Rattle.hm_class.specs.Region.{HoldsSlabs}
-use Rattle.hm_class.specs.Kept.{Shows, AreFull, IsKept, terms_of, cells_of, identity, store}
+use Rattle.hm_class.specs.declared.identity.Identity.{Identity}
+use Rattle.hm_class.specs.declared.store.Store.{Store}
+use Rattle.hm_class.specs.Kept.{Shows, AreFull, IsKept, terms_in, cells_of}
 use Rattle.hm_class.proofs.Counts.{weight}
 use Rattle.hm_class.proofs.Entered.{length_removed}
 use Rattle.hm_class.proofs.Followed.{shows_count, shows_given, shows_condemned, available_is}
@@ -104,76 +100,89 @@ more_live : (all all' : Uses) (n i : ℕ) (u v : SlotUse) → use_at all n i ≡
 more_live all all' n i u v was items = omega (arith, ap live_count items, counted lives all n i u v was)
 
 -- ---- a slot of slab n is given, or condemned
-module _ (told : Bool) (runs : PageRuns) (faults : ℕ) (c : Config) (number arena : ℕ) (p : Shape) (es : List Entry) (k : Slabs) (stream : Words) (quarantine : Kept) (parking : List (Option ℕ))
-    (kept : IsKept told runs faults (identity c number arena p) es (store k stream quarantine parking))
-    {P : Type 0} (meaning : pages.Ghosts P) (mid now : P) (k₁ k' : Slabs) (stream' : Words) (n i : ℕ) (kind₀ : Kind) (b : SlabUse) (choices : Choices) (draws : Draws) (who : Who) (asked f f' : ℕ)
-    (tell : IsTrue told → IsTrue (meaning.told mid)) (asks : raised asked ≤ class_size_of p) (is : f ≡ faults) (later : f ≤ f')
-    (lt : i < p.slots) (is_slab : slab_in k₁.slabs n ≡ Some b) (v : SlotUse) (was : use_at k₁.slabs n i ≡ Some v) (free : occupied v ≡ false)
-    (on : is_open (opened p choices.opened choices.canary (state (terms_of told c p) es)) n ≡ true)
-    (shows : Shows p k₁.slabs (opened p choices.opened choices.canary (state (terms_of told c p) es)))
-    (slabs : IsTrue told → HoldsSlabs p (opened p choices.opened choices.canary (state (terms_of told c p) es)).opens (meaning.runs mid))
-    (live_all : length (opened p choices.opened choices.canary (state (terms_of told c p) es)).live ≤ live_count k₁.slabs)
-    (shut : k'.lists.retired ≡ (opened p choices.opened choices.canary (state (terms_of told c p) es)).shut)
-    (partial : k'.lists.partial ≡ listed Partial n kind₀ (kind_at k'.slabs n) k.lists.partial)
-    (empty : k'.lists.empty ≡ listed Empty n kind₀ (kind_at k'.slabs n) k.lists.empty)
-    (full : AreFull k'.slabs k'.lists.full) (numbers : k'.numbers ≡ numbers_of p)
-    (was_kind : kind p (state (terms_of told c p) es) n ≡ kind₀)
-    (are : AreDraws draws) (taken : after_words stream draws.used ≡ stream')
-    (picks : Picks p (state (terms_of told c p) es) (opened p choices.opened choices.canary (state (terms_of told c p) es)) choices (place p n i))
-    (stepped : (r : Reply) → event_of (Allot asked 1) r ≡ Picked (place p n i) → IsSteppedEntry (terms_of told c p) (cells_of (state (terms_of told c p) es) (store k stream quarantine parking)) (entry_of who (Allot asked 1) r choices draws f f'))
-  where
-    abbrev then : State
-    then = opened p choices.opened choices.canary (state (terms_of told c p) es)
+-- slot i of slab n was picked, and its slab went to the list of its kind
+pub record IsPicked {P : Type 0} (meaning : pages.Ghosts P) (told : Bool) (faults : ℕ) (region : Identity) (es : List Entry) (store : Store) (mid now : P) (store₁ store' : Store) (n i : ℕ) (kind₀ : Kind) (b : SlabUse) (choices : Choices) (draws : Draws) (who : Who) (asked f f' : ℕ) (v : SlotUse) : Type 0 where
+  pub tell : IsTrue told → IsTrue (meaning.told mid)
+  pub asks : raised asked ≤ class_size_of region.shape
+  pub is : f ≡ faults
+  pub later : f ≤ f'
+  pub lt : i < region.shape.slots
+  pub is_slab : slab_in store₁.slabs.slabs n ≡ Some b
+  pub was : use_at store₁.slabs.slabs n i ≡ Some v
+  pub free : occupied v ≡ false
+  pub on : is_open (opened region.shape choices.opened choices.canary (state (terms_in told region) es)) n ≡ true
+  pub shows : Shows region.shape store₁.slabs.slabs (opened region.shape choices.opened choices.canary (state (terms_in told region) es))
+  pub slabs : IsTrue told → HoldsSlabs region.shape (opened region.shape choices.opened choices.canary (state (terms_in told region) es)).opens (meaning.runs mid)
+  pub live_all : length (opened region.shape choices.opened choices.canary (state (terms_in told region) es)).live ≤ live_count store₁.slabs.slabs
+  pub shut : store'.slabs.lists.retired ≡ (opened region.shape choices.opened choices.canary (state (terms_in told region) es)).shut
+  pub partial : store'.slabs.lists.partial ≡ listed Partial n kind₀ (kind_at store'.slabs.slabs n) store.slabs.lists.partial
+  pub empty : store'.slabs.lists.empty ≡ listed Empty n kind₀ (kind_at store'.slabs.slabs n) store.slabs.lists.empty
+  pub full : AreFull store'.slabs.slabs store'.slabs.lists.full
+  pub numbers : store'.slabs.numbers ≡ numbers_of region.shape
+  pub was_kind : kind region.shape (state (terms_in told region) es) n ≡ kind₀
+  pub are : AreDraws draws
+  pub taken : after_words store.stream draws.used ≡ store'.stream
+  pub quarantine : store'.quarantine ≡ store.quarantine
+  pub parking : store'.slabs.parking ≡ store.slabs.parking
+  pub picks : Picks region.shape (state (terms_in told region) es) (opened region.shape choices.opened choices.canary (state (terms_in told region) es)) choices (place region.shape n i)
+  pub stepped : (r : Reply) → event_of (Allot asked 1) r ≡ Picked (place region.shape n i) → IsSteppedEntry (terms_in told region) (cells_of (state (terms_in told region) es) store) (entry_of who (Allot asked 1) r choices draws f f')
 
-    pub kept_gives : (o : Outcome) → Gives meaning c p k₁ k' mid now (slot_in n i) o
-        → IsKept told (meaning.runs now) f' (identity c number arena p) (es ++ entry_of who (Allot asked 1) (reply_of o) choices draws f f' ∷ []) (store k' stream' quarantine parking)
-    kept_gives (outcome.Given a size) g =
-        let t : Terms = terms_of told c p in
-        let q : ℕ = place p n i in
-        let e : Entry = entry_of who (Allot asked 1) (reply.Given q size) choices draws f f' in
-        let off = available_is v free in
-        let dead : weight lives v ≡ 0 = ap (λ (b : Bool). cond {A = ℕ} b 1 0) off.0 in
-        let shows' : Shows p k'.slabs (record (gives p q asked then) { faults = f' }) = shows_count p k'.slabs (gives p q asked then) f'
-        (subst (λ (u : Uses). Shows p u (gives p q asked then)) (sym g.slabs) (shows_given p k₁.slabs then n i b v kept.served.shape lt is_slab was shows asked free)) in
-        subst (λ (x : ℕ). IsKept told (meaning.runs now) f' (identity c number arena p) (es ++ entry_of who (Allot asked 1) (reply.Given x size) choices draws f f' ∷ []) (store k' stream' quarantine parking)) (sym g.addr_is)
-        (pushed told runs faults c number arena p es k stream quarantine parking kept (meaning.runs now) f' k' stream' quarantine parking e
-        (allowed_of t (state t es) who (Allot asked 1) (reply.Given q size) choices draws f f' are (asks, refl) (is ∙ kept.count) later
-        (picks, g.size_is, λ y. ap (λ (x : ℕ). reuse_finds c p then x) (sym g.addr_is) ∙ found_told meaning p k₁.slabs then n i mid now told tell kept.served.shape on lt shows slabs c a None g.addr_is g.clean y))
-        (stepped (reply.Given q size) refl) refl
-        (record {
-          shows = shows';
-          shut = shut;
-          full = full;
-          numbers = numbers;
-          live_all = omega (arith, live_all, more_live k₁.slabs k'.slabs n i Live v was g.slabs, dead, length_removed q then.live);
-        })
-        (given_slabs meaning p k₁.slabs then n i mid now told tell kept.served.shape on lt shows slabs a asked g.addr_is g.written)
-        (next_picked t (state t es) k k' stream stream' quarantine parking e q n kind₀ kept.served.shape refl (slab_of_place p n i kept.served.shape lt) was_kind shows' taken partial empty))
-    kept_gives (outcome.Overwritten a at found) g =
-        let t : Terms = terms_of told c p in
-        let q : ℕ = place p n i in
-        let e : Entry = entry_of who (Allot asked 1) (reply.Overwritten q at found) choices draws f f' in
-        let off = available_is v free in
-        let dead : weight lives v ≡ 0 = ap (λ (b : Bool). cond {A = ℕ} b 1 0) off.0 in
-        let given : passes_at was_given k₁.slabs n i ≡ was_given v = ap (λ (o : Option SlotUse). option_map_or was_given o false) was in
-        let items : k'.slabs ≡ with_use k₁.slabs n i (Condemned (was_given v)) = g.slabs ∙ ap (λ (b : Bool). with_use k₁.slabs n i (Condemned b)) given in
-        let shows' : Shows p k'.slabs (record (condemns q then) { faults = f' }) = shows_count p k'.slabs (condemns q then) f'
-        (subst (λ (u : Uses). Shows p u (condemns q then)) (sym items) (shows_condemned p k₁.slabs then n i b v kept.served.shape lt is_slab was shows free)) in
-        subst (λ (x : ℕ). IsKept told (meaning.runs now) f' (identity c number arena p) (es ++ entry_of who (Allot asked 1) (reply.Overwritten x at found) choices draws f f' ∷ []) (store k' stream' quarantine parking)) (sym g.addr_is)
-        (pushed told runs faults c number arena p es k stream quarantine parking kept (meaning.runs now) f' k' stream' quarantine parking e
-        (allowed_of t (state t es) who (Allot asked 1) (reply.Overwritten q at found) choices draws f f' are (asks, refl) (is ∙ kept.count) later (
-          picks,
-          is_checked meaning p k₁.slabs then n i mid now told tell kept.served.shape on lt shows slabs c a (at, found) g.stained,
-          λ y. ap (λ (x : ℕ). reuse_finds c p then x) (sym g.addr_is) ∙ found_told meaning p k₁.slabs then n i mid now told tell kept.served.shape on lt shows slabs c a (Some (at, found)) g.addr_is g.stained y,
-        ))
-        (stepped (reply.Overwritten q at found) refl) refl
-        (record {
-          shows = shows';
-          shut = shut;
-          full = full;
-          numbers = numbers;
-          live_all = omega (arith, live_all, more_live k₁.slabs k'.slabs n i (Condemned (was_given v)) v was items, dead);
-        })
-        (λ y. subst (λ (r : PageRuns). HoldsSlabs p then.opens r) (sym (g.same (tell y))) (slabs y))
-        (next_picked t (state t es) k k' stream stream' quarantine parking e q n kind₀ kept.served.shape refl (slab_of_place p n i kept.served.shape lt) was_kind shows' taken partial empty))
-    kept_gives other g = absurd g
+module _ {told : Bool} {runs : PageRuns} {faults : ℕ} {region : Identity} {es : List Entry} {store : Store}
+    (kept : IsKept told runs faults region es store)
+    {P : Type 0} {meaning : pages.Ghosts P} {mid now : P} {store₁ store' : Store} {n i : ℕ} {kind₀ : Kind} {b : SlabUse} {choices : Choices} {draws : Draws} {who : Who} {asked f f' : ℕ} {v : SlotUse}
+    (ready : IsPicked meaning told faults region es store mid now store₁ store' n i kind₀ b choices draws who asked f f' v) where
+  abbrev then : State
+  then = opened region.shape choices.opened choices.canary (state (terms_in told region) es)
+
+  pub kept_gives : (o : Reply) → Gives meaning region store₁.slabs store'.slabs mid now (slot_in n i) o
+      → IsKept told (meaning.runs now) f' region (es ++ entry_of who (Allot asked 1) o choices draws f f' ∷ []) store'
+  kept_gives (reply.Given a size) g =
+      let t : Terms = terms_in told region in
+      let q : ℕ = place region.shape n i in
+      let e : Entry = entry_of who (Allot asked 1) (reply.Given q size) choices draws f f' in
+      let off = available_is v ready.free in
+      let dead : weight lives v ≡ 0 = ap (λ (b : Bool). cond {A = ℕ} b 1 0) off.0 in
+      let shows' : Shows region.shape store'.slabs.slabs (record (gives region.shape q asked then) { faults = f' }) = shows_count region.shape store'.slabs.slabs (gives region.shape q asked then) f'
+      (subst (λ (u : Uses). Shows region.shape u (gives region.shape q asked then)) (sym g.slabs) (shows_given region.shape store₁.slabs.slabs then n i b v region.served.shape ready.lt ready.is_slab ready.was ready.shows asked ready.free)) in
+      subst (λ (x : ℕ). IsKept told (meaning.runs now) f' region (es ++ entry_of who (Allot asked 1) (reply.Given x size) choices draws f f' ∷ []) store') (sym g.addr_is)
+      (pushed kept (meaning.runs now) f' store' e
+      (allowed_of t (state t es) who (Allot asked 1) (reply.Given q size) choices draws f f' ready.are (ready.asks, refl) (ready.is ∙ kept.count) ready.later
+      (ready.picks, g.size_is, λ y. ap (λ (x : ℕ). reuse_finds region.config region.shape then x) (sym g.addr_is) ∙ found_told meaning region.shape store₁.slabs.slabs then n i mid now told ready.tell region.served.shape ready.on ready.lt ready.shows ready.slabs region.config a None g.addr_is g.clean y))
+      (ready.stepped (reply.Given q size) refl) refl
+      (record {
+        shows = shows';
+        shut = ready.shut;
+        full = ready.full;
+        numbers = ready.numbers;
+        live_all = omega (arith, ready.live_all, more_live store₁.slabs.slabs store'.slabs.slabs n i Live v ready.was g.slabs, dead, length_removed q then.live);
+      })
+      (given_slabs meaning region.shape store₁.slabs.slabs then n i mid now told ready.tell region.served.shape ready.on ready.lt ready.shows ready.slabs a asked g.addr_is g.written)
+      (next_picked t (state t es) store store' e q n kind₀ region.served.shape refl (slab_of_place region.shape n i region.served.shape ready.lt) ready.was_kind shows' ready.taken ready.partial ready.empty ready.quarantine ready.parking))
+  kept_gives (reply.Overwritten a at found) g =
+      let t : Terms = terms_in told region in
+      let q : ℕ = place region.shape n i in
+      let e : Entry = entry_of who (Allot asked 1) (reply.Overwritten q at found) choices draws f f' in
+      let off = available_is v ready.free in
+      let dead : weight lives v ≡ 0 = ap (λ (b : Bool). cond {A = ℕ} b 1 0) off.0 in
+      let given : passes_at was_given store₁.slabs.slabs n i ≡ was_given v = ap (λ (o : Option SlotUse). option_map_or was_given o false) ready.was in
+      let items : store'.slabs.slabs ≡ with_use store₁.slabs.slabs n i (Condemned (was_given v)) = g.slabs ∙ ap (λ (b : Bool). with_use store₁.slabs.slabs n i (Condemned b)) given in
+      let shows' : Shows region.shape store'.slabs.slabs (record (condemns q then) { faults = f' }) = shows_count region.shape store'.slabs.slabs (condemns q then) f'
+      (subst (λ (u : Uses). Shows region.shape u (condemns q then)) (sym items) (shows_condemned region.shape store₁.slabs.slabs then n i b v region.served.shape ready.lt ready.is_slab ready.was ready.shows ready.free)) in
+      subst (λ (x : ℕ). IsKept told (meaning.runs now) f' region (es ++ entry_of who (Allot asked 1) (reply.Overwritten x at found) choices draws f f' ∷ []) store') (sym g.addr_is)
+      (pushed kept (meaning.runs now) f' store' e
+      (allowed_of t (state t es) who (Allot asked 1) (reply.Overwritten q at found) choices draws f f' ready.are (ready.asks, refl) (ready.is ∙ kept.count) ready.later (
+        ready.picks,
+        is_checked meaning region.shape store₁.slabs.slabs then n i mid now told ready.tell region.served.shape ready.on ready.lt ready.shows ready.slabs region.config a (at, found) g.stained,
+        λ y. ap (λ (x : ℕ). reuse_finds region.config region.shape then x) (sym g.addr_is) ∙ found_told meaning region.shape store₁.slabs.slabs then n i mid now told ready.tell region.served.shape ready.on ready.lt ready.shows ready.slabs region.config a (Some (at, found)) g.addr_is g.stained y,
+      ))
+      (ready.stepped (reply.Overwritten q at found) refl) refl
+      (record {
+        shows = shows';
+        shut = ready.shut;
+        full = ready.full;
+        numbers = ready.numbers;
+        live_all = omega (arith, ready.live_all, more_live store₁.slabs.slabs store'.slabs.slabs n i (Condemned (was_given v)) v ready.was items, dead);
+      })
+      (λ y. subst (λ (r : PageRuns). HoldsSlabs region.shape then.opens r) (sym (g.same (ready.tell y))) (ready.slabs y))
+      (next_picked t (state t es) store store' e q n kind₀ region.served.shape refl (slab_of_place region.shape n i region.served.shape ready.lt) ready.was_kind shows' ready.taken ready.partial ready.empty ready.quarantine ready.parking))
+  kept_gives other g = absurd g

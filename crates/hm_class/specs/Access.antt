@@ -4,6 +4,7 @@ use Rattle.hm_model.specs.Ranges.{first_failing}
 use Rattle.hm_model.specs.Runs.{expand}
 use Rattle.hm_model.specs.declared.entry.Reply.{Reply}
 use Rattle.hm_model.specs.declared.entry.Reply.TheVariants as reply
+use Rattle.hm_outside.specs.declared.pages.Pages as pages
 use Rattle.hm_outside.specs.PageRuns.{PageRuns}
 use Rattle.hm_sizes.specs.declared.shape.Shape.{Shape}
 use Rattle.hm_sizes.specs.Shapes.{has_bytes, slab_of}
@@ -11,10 +12,9 @@ use Rattle.hm_class_rules.specs.State.{State, is_open}
 use Rattle.hm_class_rules.specs.Bytes.{first_trap, bytes_read, write}
 use Rattle.hm_class.specs.declared.access.Fetched.{Fetched}
 use Rattle.hm_class.specs.declared.access.Fetched.TheVariants.{Bytes, Trap}
-use Rattle.hm_class.specs.declared.outcome.Outcome.{Outcome}
-use Rattle.hm_class.specs.declared.outcome.Outcome.TheVariants as outcome
 use Rattle.hm_class.specs.Kept.{Shows}
 use Rattle.hm_class.specs.Region.{HoldsSlabs}
+use Rattle.hm_class.specs.SlotBytes.{KeepsPages}
 use Rattle.hm_class.specs.Uses.{Uses, open_at}
 
 -- the address lies in an open slab, and slabs have bytes
@@ -49,12 +49,24 @@ pub record HasByte (p : Shape) (s : State) (q : ℕ) : Type 0 where
 abbrev pub HaveBytes : Shape → State → ℕ → ℕ → Type 0
 HaveBytes p s a len = (q : ℕ) → a ≤ q → q < a + len → HasByte p s q
 
--- writing changes the bytes of the state, or nothing and names the first address that is not accessible
-abbrev pub Fills : Bool → PageRuns → PageRuns → Shape → Uses → ℕ → List ℕ → Outcome → Type 0
-Fills told before now p uses a bytes outcome.Filled =
+-- what came of writing: the bytes of the state, or nothing and the first address that is not accessible
+abbrev pub Filled : Bool → PageRuns → PageRuns → Shape → Uses → ℕ → List ℕ → Reply → Type 0
+Filled told before now p uses a bytes reply.Filled =
     IsTrue told → (s : State) → Shows p uses s → HoldsSlabs p s.opens before
     → (first_trap p s a (length bytes) ≡ None) × HoldsSlabs p (write p a bytes s).opens now
-Fills told before now p uses a bytes (outcome.Trap q) =
+Filled told before now p uses a bytes (reply.Trap q) =
     IsTrue told → (now ≡ before)
     × ((s : State) → Shows p uses s → HoldsSlabs p s.opens before → first_trap p s a (length bytes) ≡ Some q)
-Fills told before now p uses a bytes other = ⊥
+Filled told before now p uses a bytes other = ⊥
+
+module _ {P : Type 0} (meaning : pages.Ghosts P) (p : Shape) (before now : P) where
+  -- these len bytes were written from a on, where they lie in open slabs
+  pub record Overwrites (a len : ℕ) (bytes : List ℕ) : Type 0 where
+    pub pages : KeepsPages meaning before now
+    pub written : IsTrue (meaning.told before) → (s : State) → HoldsSlabs p s.opens (meaning.runs before)
+        → HaveBytes p s a len → HoldsSlabs p (write p a bytes s).opens (meaning.runs now)
+
+  -- so were these where all of them are accessible, and else none
+  pub record Fills (uses : Uses) (a : ℕ) (bytes : List ℕ) (reply : Reply) : Type 0 where
+    pub pages : KeepsPages meaning before now
+    pub filled : Filled (meaning.told before) (meaning.runs before) (meaning.runs now) p uses a bytes reply

@@ -1,22 +1,19 @@
 -- What a class region keeps between two calls.
-use Rattle.std.specs.Prelude.{◌≡◌, ℕ, ◌<◌, ◌≤◌, Bool, true, IsTrue, List, length, Option, Some, is_some}
+use Rattle.std.specs.Prelude.{◌≡◌, ℕ, ◌<◌, ◌≤◌, Bool, true, IsTrue, List, length, Some, is_some}
 use Rattle.std.specs.Option.{option_map_or}
-use Rattle.hm_choice.specs.Stream.{Words}
 use Rattle.hm_outside.specs.PageRuns.{PageRuns}
-use Rattle.hm_quarantine.specs.Quarantine.{Kept}
 use Rattle.hm_model.specs.declared.entry.Entry.{Entry}
 use Rattle.hm_model.specs.Maps.{among, at}
-use Rattle.hm_sizes.specs.Classes.{class_count}
-use Rattle.hm_sizes.specs.Configs.{IsValid}
 use Rattle.hm_sizes.specs.declared.config.Config.{Config}
 use Rattle.hm_sizes.specs.declared.shape.Shape.{Shape}
-use Rattle.hm_sizes.specs.Shapes.{IsShape, place}
-use Rattle.hm_class_rules.specs.Draws.{drawn_shape}
+use Rattle.hm_sizes.specs.Shapes.{place}
 use Rattle.hm_class_rules.specs.Kinds.{Neither}
 use Rattle.hm_class_rules.specs.State.{State, Slab, is_open, is_live}
 use Rattle.hm_class_rules.specs.Stepped.{Cells, cells, IsStepped}
 use Rattle.hm_class_rules.specs.Rules.{Terms, IsLegal, state}
 use Rattle.hm_slab_meta.specs.Uses.{was_given}
+use Rattle.hm_class.specs.declared.identity.Identity.{Identity}
+use Rattle.hm_class.specs.declared.store.Store.{Store}
 use Rattle.hm_class.specs.Slabs.{Slabs}
 use Rattle.hm_class.specs.Uses.{Uses, SlabUse, lives, is_condemned, is_held, slab_in, open_at, kind_at, passes_at, canary_at, live_count, numbers_of}
 use Rattle.hm_class.specs.Region.{HoldsSlabs}
@@ -50,62 +47,30 @@ pub record Follows (p : Shape) (s : State) (k : Slabs) : Type 0 where
   pub numbers : k.numbers ≡ numbers_of p
   pub live_all : length s.live ≤ live_count k.slabs
 
--- which region it is: what no call changes
-pub record Identity : Type 0 where
-  pub config : Config
-  pub number : ℕ
-  pub arena : ℕ
-  pub shape : Shape
-
-abbrev pub identity : Config → ℕ → ℕ → Shape → Identity
-identity c number arena p = record { config = c; number = number; arena = arena; shape = p }
-
--- what it keeps beside its pages and its history
-pub record Store : Type 0 where
-  pub slabs : Slabs
-  pub stream : Words
-  pub quarantine : Kept
-  pub parking : List (Option ℕ)
-
-abbrev pub store : Slabs → Words → Kept → List (Option ℕ) → Store
-store k stream quarantine parking = record {
-  slabs = k;
-  stream = stream;
-  quarantine = quarantine;
-  parking = parking;
-}
-
 -- what is kept, as cells
 abbrev pub cells_of : State → Store → Cells
-cells_of s k = record {
+cells_of s store = record {
   state = s;
-  stream = k.stream;
-  partial = k.slabs.lists.partial;
-  empty = k.slabs.lists.empty;
-  quarantine = k.quarantine;
-  parking = k.parking;
+  stream = store.stream;
+  partial = store.slabs.lists.partial;
+  empty = store.slabs.lists.empty;
+  quarantine = store.quarantine;
+  parking = store.slabs.parking;
 }
 
 abbrev pub terms_of : Bool → Config → Shape → Terms
 terms_of told c p = record { config = c; shape = p; told = told }
 
 abbrev pub terms_in : Bool → Identity → Terms
-terms_in told own = terms_of told own.config own.shape
-
-pub record IsServed (own : Identity) : Type 0 where
-  pub valid : IsValid own.config
-  pub arena_below : own.arena < own.config.arenas
-  pub class_below : own.shape.class.0 < class_count
-  pub is : own.shape ≡ drawn_shape own.number own.config own.arena own.shape.class
-  pub shape : IsShape own.shape
+terms_in told region = terms_of told region.config region.shape
 
 -- the history is legal and drawn, and the pages and what is kept are what it says
-pub record IsKept (told : Bool) (runs : PageRuns) (faults : ℕ) (own : Identity) (es : List Entry)
-    (k : Store) : Type 0 where
-  pub served : IsServed own
-  pub legal : IsLegal (terms_in told own) es
-  pub stepped : IsStepped own.number own.arena (terms_in told own) es
-  pub count : faults ≡ (state (terms_in told own) es).faults
-  pub follows : Follows own.shape (state (terms_in told own) es) k.slabs
-  pub slabs : IsTrue told → HoldsSlabs own.shape (state (terms_in told own) es).opens runs
-  pub lists : cells own.number own.arena (terms_in told own) es ≡ cells_of (state (terms_in told own) es) k
+pub record IsKept (told : Bool) (runs : PageRuns) (faults : ℕ) (region : Identity) (es : List Entry)
+    (store : Store) : Type 0 where
+  pub legal : IsLegal (terms_in told region) es
+  pub stepped : IsStepped region.number region.arena (terms_in told region) es
+  pub count : faults ≡ (state (terms_in told region) es).faults
+  pub follows : Follows region.shape (state (terms_in told region) es) store.slabs
+  pub slabs : IsTrue told → HoldsSlabs region.shape (state (terms_in told region) es).opens runs
+  pub lists : cells region.number region.arena (terms_in told region) es
+      ≡ cells_of (state (terms_in told region) es) store

@@ -13,7 +13,7 @@ use Rattle.hm_class.specs.Uses.{Uses, SlabUse, Numbers, with_shut, taken_uses}
 pub record Slabs : Type 0 where
   -- how the slots of each slab are used
   pub slabs : Uses
-  -- the lists of slab numbers, each with its front first, and the parking places
+  -- the lists of slab numbers, each with its front first, and the parking array
   pub lists : Lists
   pub parking : List (Option ℕ)
   -- room for further fresh slabs
@@ -68,7 +68,7 @@ pub record SameSlots (old new : Slabs) : Type 0 where
   pub parking : new.parking ≡ old.parking
   pub numbers : new.numbers ≡ old.numbers
 
--- slab n was shut, and stands in a parking place; what stood there ends the list of those that are shut
+-- slab n was shut, and stands in the parking array; what stood there ends the list of those that are shut
 pub record Parks (n park : ℕ) (old new : Slabs) : Type 0 where
   pub slabs : new.slabs ≡ with_shut old.slabs n
   pub lists : new.lists ≡ unparked (slice_index_or old.parking park None) (gone n old.lists)

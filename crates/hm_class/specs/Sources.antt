@@ -1,19 +1,16 @@
 -- Where a block comes from, and what is said of one that is given back.
-use Rattle.std.specs.Prelude.{◌≡◌, ℕ, true, false, Option, Some, None, length, option_map, IfSome, ◌<◌}
+use Rattle.std.specs.Prelude.{◌≡◌, ℕ, true, false, Option, Some, None, Result, Ok, Err, length, option_map, IfSome, ◌<◌}
+use Rattle.hm_model.specs.declared.entry.Reply.{Reply}
+use Rattle.hm_model.specs.declared.entry.Reply.TheVariants as reply
 use Rattle.hm_sizes.specs.declared.shape.Shape.{Shape}
 use Rattle.hm_sizes.specs.Shapes.{IsPlaceOf}
 use Rattle.hm_class_rules.specs.State.{unopened_below}
 use Rattle.hm_class_rules.specs.Stepped.{front}
+use Rattle.hm_slab_lists.specs.declared.slab_lists.Place.{Place}
+use Rattle.hm_slab_lists.specs.declared.slab_lists.Place.TheVariants.{Partial, Empty, Retired, Fresh, Exhausted}
 use Rattle.hm_slab_meta.specs.Uses.{Live, was_given}
 use Rattle.hm_class.specs.Slabs.{Slabs}
 use Rattle.hm_class.specs.declared.slabs.Slot.{Slot}
-use Rattle.hm_class.specs.declared.slabs.Source.{Source}
-use Rattle.hm_class.specs.declared.slabs.Source.TheVariants.{Open, New, Exhausted}
-use Rattle.hm_class.specs.declared.slabs.Verdict.{Verdict}
-use Rattle.hm_class.specs.declared.slabs.Verdict.TheVariants as verdict
-use Rattle.hm_class.specs.declared.slabs.Verdict.TheVariants.{Refused}
-use Rattle.hm_class.specs.declared.slabs.Refusal.{Refusal}
-use Rattle.hm_class.specs.declared.slabs.Refusal.TheVariants as refusal
 use Rattle.hm_class.specs.Uses.{Uses, SlabUse, slab_in, occupied, lives, use_at, passes_at}
 
 -- an available slot
@@ -36,18 +33,30 @@ front_of k = front k.lists.partial k.lists.empty
 abbrev pub new_of : Slabs → Option ℕ
 new_of k = unopened_below k.numbers.limit k.lists.retired (length k.slabs)
 
-abbrev pub Sources : Slabs → Source → Type 0
-Sources k (Open n) = front_of k ≡ Some n
-Sources k (New n) = (front_of k ≡ None) × (new_of k ≡ Some n)
+-- slab n is opened next: no open slab serves
+abbrev pub OpensNext : Slabs → ℕ → Type 0
+OpensNext k n = (front_of k ≡ None) × (new_of k ≡ Some n)
+
+-- where the next block comes from
+abbrev pub Sources : Slabs → Place → Type 0
+Sources k (Partial n) = front_of k ≡ Some n
+Sources k (Empty n) = front_of k ≡ Some n
+Sources k (Retired n) = OpensNext k n
+Sources k (Fresh n) = OpensNext k n
 Sources k Exhausted = (front_of k ≡ None) × (new_of k ≡ None)
 
--- why the address starts no live block
-abbrev pub Refuses : Shape → Uses → ℕ → Refusal → Type 0
-Refuses p uses a refusal.NoSlot = (n i : ℕ) → IsPlaceOf p a n i → ⊥
-Refuses p uses a refusal.Unused = (n : ℕ) × (i : ℕ) × IsPlaceOf p a n i × (passes_at was_given uses n i ≡ false)
-Refuses p uses a refusal.DoubleFree = (n : ℕ) × (i : ℕ) × IsPlaceOf p a n i × (passes_at was_given uses n i ≡ true)
-    × (passes_at lives uses n i ≡ false)
+-- slot s starts at the address, and is live
+abbrev pub IsLiveAt : Shape → Uses → ℕ → Slot → Type 0
+IsLiveAt p uses a s = IsPlaceOf p a s.slab s.index × (use_at uses s.slab s.index ≡ Some Live)
 
-abbrev pub Judges : Shape → Uses → ℕ → Verdict → Type 0
-Judges p uses a (Refused r) = Refuses p uses a r
-Judges p uses a (verdict.Live s) = IsPlaceOf p a s.slab s.index × (use_at uses s.slab s.index ≡ Some Live)
+-- why the address starts no live block
+abbrev pub Refuses : Shape → Uses → ℕ → Reply → Type 0
+Refuses p uses a reply.NoSlot = (n i : ℕ) → IsPlaceOf p a n i → ⊥
+Refuses p uses a reply.Unused = (n : ℕ) × (i : ℕ) × IsPlaceOf p a n i × (passes_at was_given uses n i ≡ false)
+Refuses p uses a reply.DoubleFree = (n : ℕ) × (i : ℕ) × IsPlaceOf p a n i × (passes_at was_given uses n i ≡ true)
+    × (passes_at lives uses n i ≡ false)
+Refuses p uses a other = ⊥
+
+abbrev pub Judges : Shape → Uses → ℕ → Result Slot Reply → Type 0
+Judges p uses a (Ok s) = IsLiveAt p uses a s
+Judges p uses a (Err r) = Refuses p uses a r

@@ -1,37 +1,15 @@
 //! What is said of a block that is given back, before anything is changed.
 ghost use Rattle.std.specs.Prelude.{◌≡◌};
-ghost use Rattle.hm_model.specs.Replies.{IsMeasureReply};
-ghost use Rattle.hm_sizes.specs.Shapes.{IsShape, usable};
 ghost use Rattle.hm_class_rules.specs.Rules.{wrong_size};
-ghost use Rattle.hm_class.specs.Judgements.{refused_outcome, Judgements, RefusesWith, Measures};
-ghost use Rattle.hm_class.specs.Outcomes.{reply_of};
+ghost use Rattle.hm_class.specs.Judgements.{Judgements, Measures};
 ghost use Rattle.hm_class.specs.Sources.{AreWhole};
 
-use crate::outcome::Outcome;
-use crate::slabs::{Refusal, Slabs, Slot, Verdict};
+use crate::identity::Identity;
+use crate::slabs::{Slabs, Slot};
 use crate::slot_bytes::other_canary;
+use hm_model::Reply;
 use hm_outside::Pages;
 use hm_sizes::{Shape, block_size};
-
-/// What becomes of a block that is given back.
-#[derive(Clone, Copy, Drop)]
-pub enum Judgement {
-    Refused(Outcome),
-    Accepted(Slot),
-}
-
-impl Refusal {
-    /// The outcome of the same name.
-    pub fn outcome(self) -> Outcome
-        ensures { result ≡ refused_outcome self }
-    {
-        match self {
-            Refusal::NoSlot => Outcome::NoSlot,
-            Refusal::Unused => Outcome::Unused,
-            Refusal::DoubleFree => Outcome::DoubleFree,
-        }
-    }
-}
 
 // The size of the blocks and that of the stated size, where they differ.
 fn wrong_size(shape: &Shape, stated: Option<u64>) -> Option<(u64, u64)>
@@ -50,40 +28,33 @@ fn wrong_size(shape: &Shape, stated: Option<u64>) -> Option<(u64, u64)>
 pub fn judge<P: Pages>(
     slabs: &Slabs,
     pages: &P,
-    shape: &Shape,
+    identity: &Identity,
     addr: u64,
     stated: Option<u64>,
-) -> Judgement
-    requires shape { IsShape shape.now }
-    requires whole { AreWhole shape.now slabs.now.slabs }
-    ensures judged { Judgements P.Pages shape.now slabs.now pages.now addr stated result }
-    ensures replies { RefusesWith result }
+) -> Result<Slot, Reply>
+    requires whole { AreWhole identity.now.shape slabs.now.slabs }
+    ensures { Judgements P.Pages identity.now.shape slabs.now pages.now addr stated result }
 {
-    let slot = match slabs.judge(shape, addr) {
-        Verdict::Refused(refusal) => return Judgement::Refused(refusal.outcome()),
-        Verdict::Live(slot) => slot,
-    };
-    if let Some((block, stated)) = wrong_size(shape, stated) {
-        return Judgement::Refused(Outcome::WrongSize { block, stated });
+    let slot = slabs.judge(identity, addr)?;
+    if let Some((block, stated)) = wrong_size(&identity.shape, stated) {
+        return Err(Reply::WrongSize { block, stated });
     }
-    if shape.has_bytes() {
+    if identity.shape.has_bytes() {
         let kept = slabs.canary_of(slot.slab);
-        if let Some(found) = other_canary(pages, addr + shape.usable(), kept) {
-            return Judgement::Refused(Outcome::Canary { kept, found });
+        if let Some(found) = other_canary(pages, addr + identity.shape.usable(), kept) {
+            return Err(Reply::Canary { kept, found });
         }
     }
-    Judgement::Accepted(slot)
+    Ok(slot)
 }
 
 /// The usable size of the live block at an address, or why none is live there.
-pub fn measure(slabs: &Slabs, shape: &Shape, addr: u64) -> Outcome
-    requires shape { IsShape shape.now }
-    requires whole { AreWhole shape.now slabs.now.slabs }
-    ensures measured { Measures shape.now slabs.now addr result }
-    ensures replies { IsMeasureReply (usable shape.now) (reply_of result) }
+pub fn measure(slabs: &Slabs, identity: &Identity, addr: u64) -> Reply
+    requires whole { AreWhole identity.now.shape slabs.now.slabs }
+    ensures { Measures identity.now.shape slabs.now addr result }
 {
-    match slabs.judge(shape, addr) {
-        Verdict::Refused(refusal) => refusal.outcome(),
-        Verdict::Live(_) => Outcome::Usable(shape.usable()),
+    match slabs.judge(identity, addr) {
+        Err(refusal) => refusal,
+        Ok(_) => Reply::Usable(identity.shape.usable()),
     }
 }

@@ -1,16 +1,18 @@
 //! The slabs of a region by number, the lists in which they stand, and how many of their slots are live; and
 //! what stands at an address.
 ghost use Rattle.std.specs.Prelude.{◌≡◌, ℕ, ◌+◌, ◌<◌, ◌≤◌, ◌^◌, Some, None, true, is_some, length, slice_index_or, IfOk, IsOk, OnOk, OnErr};
-ghost use Rattle.hm_sizes.specs.Shapes.{IsShape, place, slab_of, slot_of};
+ghost use Rattle.hm_sizes.specs.Shapes.{place, slab_of, slot_of};
 ghost use Rattle.hm_class_rules.specs.Kinds.{Empty, same_kind};
 ghost use Rattle.hm_slab_lists.specs.Lists.{placed};
 ghost use Rattle.hm_slab_meta.specs.Uses.{Live, Held, Free, was_given};
 ghost use Rattle.hm_class.specs.Slabs.{HasRoom, no_slabs, with_spare, taken_of, list_of, opened_lists, SameLists, SameSlots, Parks};
-ghost use Rattle.hm_class.specs.Sources.{IsAvailable, IsWithin, AreWhole, Sources, Judges};
+ghost use Rattle.hm_class.specs.Sources.{IsAvailable, IsWithin, AreWhole, OpensNext, Sources, Judges};
 ghost use Rattle.hm_class.specs.Uses.{numbers_of, slab_in, open_at, kind_at, use_at, passes_at, lives, canary_at, first_at, with_use, with_condemned, with_open, with_canary_at, live_count};
 
+use crate::identity::Identity;
 use hm_base::NoMemory;
-use hm_sizes::{Shape, place_of};
+use hm_model::Reply;
+use hm_sizes::place_of;
 use hm_slab_lists::{Place, SlabLists};
 use hm_slab_meta::SlotState;
 use std::alloc::Global;
@@ -21,31 +23,6 @@ use std::marker::Model;
 pub struct Slot {
     pub slab: u64,
     pub index: u32,
-}
-
-/// Where a block comes from.
-#[derive(Clone, Copy, Drop)]
-pub enum Source {
-    /// An open slab.
-    Open(u64),
-    /// A slab that is to be opened.
-    New(u64),
-    Exhausted,
-}
-
-/// Why a block is not taken back.
-#[derive(Clone, Copy, Drop)]
-pub enum Refusal {
-    NoSlot,
-    Unused,
-    DoubleFree,
-}
-
-/// What is said of a block that is given back.
-#[derive(Clone, Copy, Drop)]
-pub enum Verdict {
-    Refused(Refusal),
-    Live(Slot),
 }
 
 /// The slabs of a region.
@@ -69,43 +46,40 @@ impl Model for Slabs {
 }
 
 /// The address of a slot.
-pub fn address_of(shape: &Shape, slot: Slot) -> u64
-    requires shape { IsShape shape.now }
-    requires slab { slot.slab < shape.now.limit }
-    requires index { slot.index < shape.now.slots }
-    ensures { result ≡ place shape.now slot.slab slot.index }
+pub fn address_of(identity: &Identity, slot: Slot) -> u64
+    requires slab { slot.slab < identity.now.shape.limit }
+    requires index { slot.index < identity.now.shape.slots }
+    ensures { result ≡ place identity.now.shape slot.slab slot.index }
 {
-    shape.first + slot.slab * shape.slab + u64::from(slot.index) * shape.slot
+    identity.shape.first
+        + slot.slab * identity.shape.slab
+        + u64::from(slot.index) * identity.shape.slot
 }
 
 /// The slot at an address.
-pub fn slot_at(shape: &Shape, addr: u64) -> Slot
-    requires shape { IsShape shape.now }
-    requires from { shape.now.first ≤ addr }
-    ensures slab { result.slab ≡ slab_of shape.now addr }
-    ensures index { result.index ≡ slot_of shape.now addr }
+pub fn slot_at(identity: &Identity, addr: u64) -> Slot
+    requires from { identity.now.shape.first ≤ addr }
+    ensures slab { result.slab ≡ slab_of identity.now.shape addr }
+    ensures index { result.index ≡ slot_of identity.now.shape addr }
 {
-    let offset = addr - shape.first;
+    let offset = addr - identity.shape.first;
     Slot {
-        slab: offset / shape.slab,
-        index: (offset % shape.slab / shape.slot) as u32,
+        slab: offset / identity.shape.slab,
+        index: (offset % identity.shape.slab / identity.shape.slot) as u32,
     }
 }
 
 impl Slabs {
     /// No slab, and an empty parking array.
-    pub fn build(alloc: Global, shape: &Shape, park_length: u32) -> Result<Slabs, NoMemory>
-        requires shape { IsShape shape.now }
-        requires park_some { 1 ≤ park_length }
-        requires park_most { park_length ≤ 32 }
-        ensures { IfOk result (λ k. k ≡ no_slabs (numbers_of shape.now) park_length) }
+    pub fn build(alloc: Global, identity: &Identity) -> Result<Slabs, NoMemory>
+        ensures { IfOk result (λ k. k ≡ no_slabs (numbers_of identity.now.shape) identity.now.config.park_length) }
     {
         let lists = SlabLists::build(
             alloc,
-            shape.limit,
-            shape.guard_interval,
-            park_length,
-            shape.slots,
+            identity.shape.limit,
+            identity.shape.guard_interval,
+            identity.config.park_length,
+            identity.shape.slots,
         )?;
         Ok(Slabs { lists, live: 0 })
     }
@@ -118,16 +92,10 @@ impl Slabs {
     }
 
     /// Where the next block comes from.
-    pub fn source(&self) -> Source
+    pub fn source(&self) -> Place
         ensures { Sources self.now result }
     {
-        match self.lists.next_source() {
-            Place::Partial(slab) => Source::Open(slab),
-            Place::Empty(slab) => Source::Open(slab),
-            Place::Retired(slab) => Source::New(slab),
-            Place::Fresh(slab) => Source::New(slab),
-            Place::Exhausted => Source::Exhausted,
-        }
+        self.lists.next_source()
     }
 
     /// Whether a slab is open.
@@ -194,28 +162,27 @@ impl Slabs {
         }
     }
 
-    /// What is said of a block that is given back.
-    pub fn judge(&self, shape: &Shape, addr: u64) -> Verdict
-        requires shape { IsShape shape.now }
-        requires whole { AreWhole shape.now self.now.slabs }
-        ensures { Judges shape.now self.now.slabs addr result }
+    /// The live slot that starts at an address, or why none does.
+    pub fn judge(&self, identity: &Identity, addr: u64) -> Result<Slot, Reply>
+        requires whole { AreWhole identity.now.shape self.now.slabs }
+        ensures { Judges identity.now.shape self.now.slabs addr result }
     {
-        let Some((slab, index)) = place_of(shape, addr) else {
-            return Verdict::Refused(Refusal::NoSlot);
+        let Some((slab, index)) = place_of(&identity.shape, addr) else {
+            return Err(Reply::NoSlot);
         };
         let slot = Slot { slab, index };
         if self.is_live(slot) {
-            Verdict::Live(slot)
+            Ok(slot)
         } else if self.was_given(slot) {
-            Verdict::Refused(Refusal::DoubleFree)
+            Err(Reply::DoubleFree)
         } else {
-            Verdict::Refused(Refusal::Unused)
+            Err(Reply::Unused)
         }
     }
 
     /// Makes room for the slab that comes next: a fresh one takes some, a retired one has its own.
     pub fn reserve(&mut self) -> Result<(), NoMemory>
-        requires { (n : ℕ) × Sources self.old (Source.New n) }
+        requires { (n : ℕ) × OpensNext self.old n }
         ensures rest { self.new ≡ with_spare self.new.spare self.old }
         ensures room { OnOk result (HasRoom self.new) }
         ensures more { self.old.spare ≤ self.new.spare }
@@ -243,7 +210,7 @@ impl Slabs {
 
     // Opens the first of the slabs that are shut, or a fresh one. It takes no memory.
     fn take_new(&mut self, slab: u64)
-        requires source { Sources self.old (Source.New slab) }
+        requires source { OpensNext self.old slab }
         requires there { is_some (slab_in (taken_of self.old) slab) ≡ true }
         requires room { HasRoom self.old }
         ensures slabs { self.new.slabs ≡ with_open (taken_of self.old) slab (canary_at self.old.slabs slab) }
@@ -262,7 +229,7 @@ impl Slabs {
 
     /// Opens the slab that comes next, with a canary. It takes no memory.
     pub fn open(&mut self, slab: u64, canary: u64)
-        requires source { Sources self.old (Source.New slab) }
+        requires source { OpensNext self.old slab }
         requires there { is_some (slab_in (taken_of self.old) slab) ≡ true }
         requires room { HasRoom self.old }
         ensures slabs { self.new.slabs ≡ with_open (taken_of self.old) slab canary }
@@ -339,7 +306,7 @@ impl Slabs {
         self.lists.after_release(slab);
     }
 
-    /// Retires an open slab to a parking place, and answers the slab that stood there.
+    /// Retires an open slab to an index of the parking array, and answers the slab that stood there.
     pub fn retire(&mut self, slab: u64, park: u32) -> Option<u64>
         requires open { open_at self.old.slabs slab ≡ true }
         requires park { park < length self.old.parking }

@@ -7,11 +7,11 @@ use Rattle.hm_class.proofs.Accessed.{holds_nothing, still_have, written_behind}
 use Rattle.hm_class.proofs.access.write.Goals as goal
 
 pub loop-byte-init : goal.loop-byte-init
-loop-byte-init g c = record { later = omega arith; left = refl; told = refl; count = refl; written = λ told s h have. ([], refl, omega arith, holds_nothing c.args.shape.now c.args.addr s _ h) }
+loop-byte-init g c = record { later = omega arith; left = refl; told = refl; count = refl; written = λ told s h have. ([], refl, omega arith, holds_nothing c.args.identity.now.shape c.args.addr s _ h) }
 
 pub loop-byte-preserved : goal.loop-byte-preserved
 loop-byte-preserved g c =
-    let p = c.args.shape.now in
+    let p = c.args.identity.now.shape in
     let pairs : List (ℕ × ℕ) = c.args.pairs.now in
     let i : ℕ = c.loop-byte.byte-index in
     let run : ℕ × ℕ = get_or pairs i (0, 0) in
@@ -20,8 +20,8 @@ loop-byte-preserved g c =
     let left : c.loop-byte.at + (run.1 + total rest) ≡ c.args.addr + total pairs = ap (λ (l : List (ℕ × ℕ)). c.loop-byte.at + total l) (sym split) ∙ c.loop-byte.invariant.left in record {
       later = omega (arith, c.loop-byte.invariant.later);
       left = omega (arith, left);
-      told = c.write_run.ensures.told ∙ c.loop-byte.invariant.told;
-      count = c.write_run.ensures.count ∙ c.loop-byte.invariant.count;
+      told = c.write_run.ensures.pages.told ∙ c.loop-byte.invariant.told;
+      count = c.write_run.ensures.pages.count ∙ c.loop-byte.invariant.count;
       written = λ told s h have.
           (let before = c.loop-byte.invariant.written told s h have in
           let w : List ℕ = before.0 in
@@ -36,9 +36,12 @@ loop-byte-preserved g c =
           ));
     }
 
-pub returns-clause-written : goal.returns-clause-written
-returns-clause-written g c = λ told s h have.
-    (let last = c.loop-byte.invariant.written told s h have in
-    let none : drop c.loop-byte.byte-index c.args.pairs.now ≡ [] = drop_all c.loop-byte.byte-index c.args.pairs.now (omega (arith, c.loop-byte-test.false)) in
-    subst (λ (l : List ℕ). HoldsSlabs c.args.shape.now (write c.args.shape.now c.args.addr l s).opens (g.P.Pages.runs c.loop-byte.pages))
-    (sym (append-nil last.0) ∙ ap (λ (l : List (ℕ × ℕ)). last.0 ++ expand l) (sym none) ∙ last.1) last.3)
+pub returns : goal.returns
+returns g c = record {
+  pages = record { told = c.loop-byte.invariant.told; count = c.loop-byte.invariant.count };
+  written = λ told s h have.
+      (let last = c.loop-byte.invariant.written told s h have in
+      let none : drop c.loop-byte.byte-index c.args.pairs.now ≡ [] = drop_all c.loop-byte.byte-index c.args.pairs.now (omega (arith, c.loop-byte-test.false)) in
+      subst (λ (l : List ℕ). HoldsSlabs c.args.identity.now.shape (write c.args.identity.now.shape c.args.addr l s).opens (g.P.Pages.runs c.loop-byte.pages))
+      (sym (append-nil last.0) ∙ ap (λ (l : List (ℕ × ℕ)). last.0 ++ expand l) (sym none) ∙ last.1) last.3);
+}

@@ -12,6 +12,6 @@ invariant-loop-byte g l = record {
   left : l.at + total (drop l.byte-index l.pairs) ≡ l.addr + total l.pairs;
   told : g.P.Pages.told l.pages ≡ g.P.Pages.told l.fn.pages;
   count : g.P.Pages.faults l.pages ≡ g.P.Pages.faults l.fn.pages;
-  written : IsTrue (g.P.Pages.told l.fn.pages) → (s : State) → HoldsSlabs l.shape s.opens (g.P.Pages.runs l.fn.pages) → HaveBytes l.shape s l.addr (total l.pairs)
-      → (w : List ℕ) × (w ++ expand (drop l.byte-index l.pairs) ≡ expand l.pairs) × (l.addr + length w ≡ l.at) × HoldsSlabs l.shape (write l.shape l.addr w s).opens (g.P.Pages.runs l.pages);
+  written : IsTrue (g.P.Pages.told l.fn.pages) → (s : State) → HoldsSlabs l.identity.shape s.opens (g.P.Pages.runs l.fn.pages) → HaveBytes l.identity.shape s l.addr (total l.pairs)
+      → (w : List ℕ) × (w ++ expand (drop l.byte-index l.pairs) ≡ expand l.pairs) × (l.addr + length w ≡ l.at) × HoldsSlabs l.identity.shape (write l.identity.shape l.addr w s).opens (g.P.Pages.runs l.pages);
 }

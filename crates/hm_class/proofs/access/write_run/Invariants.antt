@@ -14,6 +14,6 @@ invariant-loop-at g l = record {
   within : l.at ≤ l.end;
   told : g.P.Pages.told l.pages ≡ g.P.Pages.told l.fn.pages;
   count : g.P.Pages.faults l.pages ≡ g.P.Pages.faults l.fn.pages;
-  written : IsTrue (g.P.Pages.told l.fn.pages) → (s : State) → HoldsSlabs l.shape s.opens (g.P.Pages.runs l.fn.pages) → HaveBytes l.shape s l.addr l.len
-      → HoldsSlabs l.shape (write l.shape l.addr (replicate (l.at - l.addr) l.byte) s).opens (g.P.Pages.runs l.pages);
+  written : IsTrue (g.P.Pages.told l.fn.pages) → (s : State) → HoldsSlabs l.identity.shape s.opens (g.P.Pages.runs l.fn.pages) → HaveBytes l.identity.shape s l.addr l.len
+      → HoldsSlabs l.identity.shape (write l.identity.shape l.addr (replicate (l.at - l.addr) l.byte) s).opens (g.P.Pages.runs l.pages);
 }

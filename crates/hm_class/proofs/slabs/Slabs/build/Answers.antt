@@ -9,7 +9,7 @@ pub invariant_of-result : goal.invariant_of-result
 unfolding uses_of
 invariant_of-result c =
     subst (λ (t : Table). IsFiled t × (0 ≡ live_count (uses_of t))) (sym c.in_ok-lists.ensures)
-    (filed_new c.args.shape.now.limit c.args.shape.now.guard_interval c.args.park_length c.args.shape.now.slots c.requires.shape.slots_some, refl)
+    (filed_new c.args.identity.now.shape.limit c.args.identity.now.shape.guard_interval c.args.identity.now.config.park_length c.args.identity.now.shape.slots c.args.identity.now.served.shape.slots_some, refl)
 
 pub returns : goal.returns
 unfolding uses_of

@@ -1,23 +1,24 @@
-use Rattle.std.proofs.Common.{ℕ, ◌∙◌, sym, ap, subst}
+use Rattle.std.proofs.Common.{ℕ, ◌∙◌, ap, subst}
 use Rattle.hm_class_rules.specs.State.{unopened_below}
-use Rattle.hm_slab_lists.specs.declared.slab_lists.Place.TheVariants.{Fresh, Exhausted}
-use Rattle.hm_class.specs.declared.slabs.Source.TheVariants as from
-use Rattle.hm_class.specs.Slabs.{Slabs}
+use Rattle.hm_slab_lists.specs.declared.slab_lists.Place.{Place}
+use Rattle.hm_slab_lists.specs.declared.slab_lists.Place.TheVariants.{Partial, Empty, Retired, Fresh, Exhausted}
+use Rattle.hm_slab_lists.specs.Table.{Table}
+use Rattle.hm_class.specs.Slabs.{Slabs, slabs_of}
 use Rattle.hm_class.specs.Sources.{Sources}
-use Rattle.hm_class.proofs.SourceOf.{source_is}
+use Rattle.hm_class.proofs.SourceOf.{Says, source_is}
 use Rattle.hm_class.proofs.Tables.{length_uses}
 use Rattle.hm_class.proofs.slabs.Slabs.source.Goals as goal
 
-pub returns-in-Fresh : goal.returns-in-Fresh
-returns-in-Fresh c =
-    let t = c.self.inside.lists in
-    let r = source_is t.lists.partial t.lists.empty t.lists.retired t.limit t.next (Fresh c.in-Fresh.slab) (sym c.in-Fresh.is ∙ c.next_source.ensures) in
-    subst (λ (k : Slabs). Sources k (from.New c.in-Fresh.slab)) c.self.view_is
-    (r.0, ap (λ (n : ℕ). unopened_below t.limit t.lists.retired n) (length_uses t) ∙ r.1)
+-- what the lists say, said of the slabs
+said : (t : Table) (place : Place) → Says t.lists.partial t.lists.empty t.lists.retired t.limit t.next place → Sources (slabs_of t) place
+said t (Partial n) s = s
+said t (Empty n) s = s
+said t (Retired n) s = (s.0, ap (λ (m : ℕ). unopened_below t.limit t.lists.retired m) (length_uses t) ∙ s.1)
+said t (Fresh n) s = (s.0, ap (λ (m : ℕ). unopened_below t.limit t.lists.retired m) (length_uses t) ∙ s.1)
+said t Exhausted s = (s.0, ap (λ (m : ℕ). unopened_below t.limit t.lists.retired m) (length_uses t) ∙ s.1)
 
-pub returns-in-Exhausted : goal.returns-in-Exhausted
-returns-in-Exhausted c =
+pub returns : goal.returns
+returns c =
     let t = c.self.inside.lists in
-    let r = source_is t.lists.partial t.lists.empty t.lists.retired t.limit t.next Exhausted (sym c.in-Exhausted.is ∙ c.next_source.ensures) in
-    subst (λ (k : Slabs). Sources k from.Exhausted) c.self.view_is
-    (r.0, ap (λ (n : ℕ). unopened_below t.limit t.lists.retired n) (length_uses t) ∙ r.1)
+    subst (λ (k : Slabs). Sources k c.next_source.result) c.self.view_is
+    (said t c.next_source.result (source_is t.lists.partial t.lists.empty t.lists.retired t.limit t.next c.next_source.result c.next_source.ensures))

@@ -1,31 +1,13 @@
-//! What a call of a region comes to, but for the bytes that a fetch gives.
+//! What a call of a region comes to: the reply, what was chosen with it, and the words that it drew.
 ghost use Rattle.std.specs.Prelude.{◌≡◌};
-ghost use Rattle.hm_class.specs.Outcomes.{plain, reply_of, chose_opened, start_draws, freed, freed_choices, freed_draws};
+ghost use Rattle.hm_class.specs.Events.{HasNoBytes, plain, chose_opened, start_draws, freed, freed_choices, freed_draws};
 
 use hm_model::{Choices, Draws, Reply};
 
-/// The reply of a call. The numbers are those of the reply of the same name.
-#[derive(Clone, Copy, Drop)]
-pub enum Outcome {
-    Given { addr: u64, usable: u64 },
-    Overwritten { addr: u64, at: u64, found: u8 },
-    Exhausted,
-    PagesFailed,
-    Freed,
-    NoSlot,
-    Unused,
-    DoubleFree,
-    WrongSize { block: u64, stated: u64 },
-    Canary { kept: u64, found: u64 },
-    Usable(u64),
-    Filled,
-    Trap { addr: u64 },
-}
-
-/// What a call comes to, what was chosen with it, and the words that it drew.
-#[derive(Clone, Copy, Drop)]
+/// The reply of a call, what was chosen with it, and the words that it drew.
+#[derive(Drop)]
 pub struct Event {
-    pub outcome: Outcome,
+    pub reply: Reply,
     pub choices: Choices,
     pub draws: Draws,
 }
@@ -43,7 +25,7 @@ pub struct Canary {
 pub enum Emptied {
     /// It serves on, or no slot was released.
     Kept,
-    /// It is retired. `word` names its parking place, and `unparked` is the slab that stood there.
+    /// It is retired. `word` names its parking index, and `unparked` is the slab that stood there.
     Retired {
         slab: u64,
         word: u32,
@@ -107,8 +89,8 @@ fn freed_choices(released: Option<u64>, emptied: Emptied) -> Choices
     }
 }
 
-// The words that are drawn as a block is taken back: that of the array's place, where there is an array,
-// and that of the parking place.
+// The words that are drawn as a block is taken back: that of the array's index, where there is an array,
+// and that of the parking index.
 fn freed_draws(array: Option<u32>, emptied: Emptied) -> Draws
     ensures { result ≡ freed_draws array emptied }
 {
@@ -126,49 +108,64 @@ fn freed_draws(array: Option<u32>, emptied: Emptied) -> Draws
 }
 
 impl Event {
-    /// An outcome with which nothing was chosen and drawn.
-    pub fn plain(outcome: Outcome) -> Event
-        ensures { result ≡ plain outcome }
+    /// A reply with which nothing was chosen and drawn.
+    pub fn plain(reply: Reply) -> Event
+        ensures { result ≡ plain reply }
     {
         Event {
-            outcome,
+            reply,
             choices: Choices::none(),
             draws: Draws::none(),
         }
     }
 
-    /// A block was taken back. `array` is the word of its place of the quarantine's array, and `released` the
+    /// A block was taken back. `array` is the word of its index of the quarantine's array, and `released` the
     /// slot that left the quarantine.
     pub fn freed(array: Option<u32>, released: Option<u64>, emptied: Emptied) -> Event
         ensures { result ≡ freed array released emptied }
     {
         Event {
-            outcome: Outcome::Freed,
+            reply: Reply::Freed,
             choices: freed_choices(released, emptied),
             draws: freed_draws(array, emptied),
         }
     }
 }
 
-impl Outcome {
-    /// The reply of the same name.
-    pub fn reply(self) -> Reply
-        ensures { result ≡ reply_of self }
-    {
-        match self {
-            Outcome::Given { addr, usable } => Reply::Given { addr, usable },
-            Outcome::Overwritten { addr, at, found } => Reply::Overwritten { addr, at, found },
-            Outcome::Exhausted => Reply::Exhausted,
-            Outcome::PagesFailed => Reply::PagesFailed,
-            Outcome::Freed => Reply::Freed,
-            Outcome::NoSlot => Reply::NoSlot,
-            Outcome::Unused => Reply::Unused,
-            Outcome::DoubleFree => Reply::DoubleFree,
-            Outcome::WrongSize { block, stated } => Reply::WrongSize { block, stated },
-            Outcome::Canary { kept, found } => Reply::Canary { kept, found },
-            Outcome::Usable(usable) => Reply::Usable(usable),
-            Outcome::Filled => Reply::Filled,
-            Outcome::Trap { addr } => Reply::Trap { addr },
-        }
+/// A reply with no bytes, once more.
+pub fn again(reply: &Reply) -> Reply
+    requires { HasNoBytes reply.now }
+    ensures { result ≡ reply.now }
+{
+    match reply {
+        Reply::Given { addr, usable } => Reply::Given {
+            addr: *addr,
+            usable: *usable,
+        },
+        Reply::Overwritten { addr, at, found } => Reply::Overwritten {
+            addr: *addr,
+            at: *at,
+            found: *found,
+        },
+        Reply::Exhausted => Reply::Exhausted,
+        Reply::NoSpace => Reply::NoSpace,
+        Reply::PagesFailed => Reply::PagesFailed,
+        Reply::Freed => Reply::Freed,
+        Reply::NoSlot => Reply::NoSlot,
+        Reply::Unused => Reply::Unused,
+        Reply::DoubleFree => Reply::DoubleFree,
+        Reply::WrongSize { block, stated } => Reply::WrongSize {
+            block: *block,
+            stated: *stated,
+        },
+        Reply::Canary { kept, found } => Reply::Canary {
+            kept: *kept,
+            found: *found,
+        },
+        Reply::Usable(usable) => Reply::Usable(*usable),
+        Reply::Bytes(_) => unreachable!(),
+        Reply::Filled => Reply::Filled,
+        Reply::Trap { addr } => Reply::Trap { addr: *addr },
+        Reply::NotLive => Reply::NotLive,
     }
 }
