@@ -19,25 +19,17 @@ ghost use Rattle.hm_region_table.specs.declared.entry.Block.{Block as KeptBlock}
 use crate::block_table::BlockTable;
 use crate::store::{Store, span};
 use hm_base::NoMemory;
+use hm_model::Reply;
 use hm_outside::{PageRefusal, Pages};
 use hm_region_table::Block as KeptBlock;
 use hm_sizes::{PAGE, large_size, raised};
 
-/// What came of allotting.
-#[derive(Clone, Copy, Debug, Drop)]
-pub enum Outcome {
-    /// A block was given at this address.
-    Given(u64),
-    NoSpace,
-    PagesFailed,
-}
-
-/// The word that was drawn, the pages of the guard, and what came of it.
-#[derive(Clone, Copy, Debug, Drop)]
+/// The word that was drawn, the pages of the guard, and the reply.
+#[derive(Debug, Drop)]
 pub struct Attempt {
     pub word: u32,
     pub guard: u64,
-    pub outcome: Outcome,
+    pub reply: Reply,
 }
 
 /// The size of the block for a request.
@@ -149,11 +141,8 @@ pub fn allot<P: Pages>(
     let size = size_of_block(asked);
     let (word, guard) = draw_guard(store, size);
     let Some(addr) = store.fit(size, guard, align) else {
-        return Ok(Attempt {
-            word,
-            guard,
-            outcome: Outcome::NoSpace,
-        });
+        let reply = Reply::NoSpace;
+        return Ok(Attempt { word, guard, reply });
     };
     let block = KeptBlock {
         asked,
@@ -162,20 +151,19 @@ pub fn allot<P: Pages>(
         held: false,
         failed: false,
     };
-    let outcome = match open(&mut store.blocks, pages, addr, block) {
+    match open(&mut store.blocks, pages, addr, block) {
         Ok(()) => {
             take_range(store, addr, size, guard);
-            Outcome::Given(addr)
+            let reply = Reply::Given { addr, usable: size };
+            Ok(Attempt { word, guard, reply })
         }
-        Err(PageRefusal::Failed) => Outcome::PagesFailed,
+        Err(PageRefusal::Failed) => {
+            let reply = Reply::PagesFailed;
+            Ok(Attempt { word, guard, reply })
+        }
         Err(PageRefusal::NoMemory) => {
             store.words.back();
-            return Err(NoMemory);
+            Err(NoMemory)
         }
-    };
-    Ok(Attempt {
-        word,
-        guard,
-        outcome,
-    })
+    }
 }

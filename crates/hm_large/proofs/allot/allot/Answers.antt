@@ -1,8 +1,8 @@
-use Rattle.std.proofs.Common.{ℕ, suc, Err, ◌∙◌, ap, subst, refl}
+use Rattle.std.proofs.Common.{ℕ, suc, Err, inl, inr, ◌∙◌, ap, subst, refl}
 use Rattle.std.specs.FinMap as map
 use Rattle.hm_base.specs.Lists.{zeros}
+use Rattle.hm_model.specs.declared.entry.Reply.TheVariants as reply
 use Rattle.hm_outside.specs.declared.pages.PageRefusal.{PageRefusal}
-use Rattle.hm_large.specs.declared.allot.Outcome.TheVariants as outcome
 use Rattle.hm_large.specs.declared.store.Store.{Store}
 use Rattle.hm_large.specs.Rules.{IsCandidate, IsLeastCandidate}
 use Rattle.hm_large.specs.Stored.{SameStore}
@@ -50,8 +50,8 @@ returns-in_default-clause-allots g c =
     let guard = c.draw_guard-word.result.1 in
     let drawn = shows_drawn config n s c.args.store.now c.reserve.new.store c.draw_guard-word.new.store c.draw_guard-word.ensures.store c.reserve.ensures.same c.reserve.ensures.words shows in
     let none : (a : ℕ) → IsCandidate config s c.args.align size guard a → ⊥ = same_none config s (suc s.words) c.args.align size guard (c.in_default.ensures.fits config n (record s { words = suc s.words }) drawn) in
-    allots_from g.P.Pages config n s c.args.asked c.args.align c.args.store.now c.reserve.new.store c.args.pages.now c.args.pages.now size c.draw_guard-word.result.0 guard outcome.NoSpace c.draw_guard-word.new.store shows c.size_of_block-size.ensures.value c.reserve.ensures.words c.draw_guard-word.ensures.word c.draw_guard-word.ensures.guard
-    (subst (λ (z : ℕ). (a : ℕ) → IsCandidate config s c.args.align z guard a → ⊥) c.size_of_block-size.ensures.value none, drawn, (λ told. refl), refl)
+    allots_from g.P.Pages config n s c.args.asked c.args.align c.args.store.now c.reserve.new.store c.args.pages.now c.args.pages.now size c.draw_guard-word.result.0 guard reply.NoSpace c.draw_guard-word.new.store shows c.size_of_block-size.ensures.value c.reserve.ensures.words c.draw_guard-word.ensures.word c.draw_guard-word.ensures.guard
+    (inr (inl (refl, (subst (λ (z : ℕ). (a : ℕ) → IsCandidate config s c.args.align z guard a → ⊥) c.size_of_block-size.ensures.value none, drawn, (λ told. refl), refl))))
 
 pub returns-in-Ok-clause-allots : goal.returns-in-Ok-clause-allots
 returns-in-Ok-clause-allots g c =
@@ -59,15 +59,19 @@ returns-in-Ok-clause-allots g c =
     let guard = c.draw_guard-word.result.1 in
     let drawn = shows_drawn config n s c.args.store.now c.reserve.new.store c.draw_guard-word.new.store c.draw_guard-word.ensures.store c.reserve.ensures.same c.reserve.ensures.words shows in
     let least = found_least config n s c.args.store.now c.reserve.new.store c.draw_guard-word.new.store c.args.align size guard c.in-Some.addr c.draw_guard-word.ensures.store c.reserve.ensures.same c.reserve.ensures.words c.in-Some.ensures.fits shows in
-    allots_from g.P.Pages config n s c.args.asked c.args.align c.args.store.now c.reserve.new.store c.args.pages.now c.open.new.pages size c.draw_guard-word.result.0 guard (outcome.Given c.in-Some.addr) c.take_range.new.store shows c.size_of_block-size.ensures.value c.reserve.ensures.words c.draw_guard-word.ensures.word c.draw_guard-word.ensures.guard (
-      subst (λ (z : ℕ). IsLeastCandidate config s c.args.align z guard c.in-Some.addr) c.size_of_block-size.ensures.value least,
-      shows_new config n s c.draw_guard-word.new.store c.take_range.new.store c.args.align c.args.asked size guard c.in-Some.addr (suc s.words) c.size_of_block-size.ensures.value
-          (subst (λ (z : ℕ). IsCandidate config s c.args.align z guard c.in-Some.addr) c.size_of_block-size.ensures.value least.fits) drawn
-          (gives_from c.draw_guard-word.new.store c.take_range.new.store c.open.new.blocks c.in-Some.addr c.args.asked size guard c.in-Ok.ensures.put c.take_range.ensures.blocks c.take_range.ensures.taken c.take_range.ensures.out c.take_range.ensures.quarantine c.take_range.ensures.owed)
-          c.take_range.ensures.words,
-      (λ told. c.in-Ok.ensures.made told ∙ ap (λ (z : ℕ). map.insert (g.P.Pages.runs c.args.pages.now) c.in-Some.addr (zeros z)) c.size_of_block-size.ensures.value),
-      c.in-Ok.ensures.cause.later,
-    )
+    allots_from g.P.Pages config n s c.args.asked c.args.align c.args.store.now c.reserve.new.store c.args.pages.now c.open.new.pages size c.draw_guard-word.result.0 guard (reply.Given c.in-Some.addr size) c.take_range.new.store shows c.size_of_block-size.ensures.value c.reserve.ensures.words c.draw_guard-word.ensures.word c.draw_guard-word.ensures.guard (inl (
+      c.in-Some.addr,
+      ap (reply.Given c.in-Some.addr) c.size_of_block-size.ensures.value,
+      (
+        subst (λ (z : ℕ). IsLeastCandidate config s c.args.align z guard c.in-Some.addr) c.size_of_block-size.ensures.value least,
+        shows_new config n s c.draw_guard-word.new.store c.take_range.new.store c.args.align c.args.asked size guard c.in-Some.addr (suc s.words) c.size_of_block-size.ensures.value
+            (subst (λ (z : ℕ). IsCandidate config s c.args.align z guard c.in-Some.addr) c.size_of_block-size.ensures.value least.fits) drawn
+            (gives_from c.draw_guard-word.new.store c.take_range.new.store c.open.new.blocks c.in-Some.addr c.args.asked size guard c.in-Ok.ensures.put c.take_range.ensures.blocks c.take_range.ensures.taken c.take_range.ensures.out c.take_range.ensures.quarantine c.take_range.ensures.owed)
+            c.take_range.ensures.words,
+        (λ told. c.in-Ok.ensures.made told ∙ ap (λ (z : ℕ). map.insert (g.P.Pages.runs c.args.pages.now) c.in-Some.addr (zeros z)) c.size_of_block-size.ensures.value),
+        c.in-Ok.ensures.cause.later,
+      ),
+    ))
 
 pub returns-in-Err-Failed-clause-allots : goal.returns-in-Err-Failed-clause-allots
 returns-in-Err-Failed-clause-allots g c =
@@ -78,8 +82,8 @@ returns-in-Err-Failed-clause-allots g c =
     let least = found_least config n s c.args.store.now c.reserve.new.store c.draw_guard-word.new.store c.args.align size guard c.in-Some.addr c.draw_guard-word.ensures.store c.reserve.ensures.same c.reserve.ensures.words c.in-Some.ensures.fits shows in
     let new : Store = record d { blocks = c.open.new.blocks } in
     let same : SameStore d new = record { blocks = c.in-Err-Failed.ensures.stays; ranges = refl; out = refl; quarantine = refl; owed_same = refl } in
-    allots_from g.P.Pages config n s c.args.asked c.args.align c.args.store.now c.reserve.new.store c.args.pages.now c.open.new.pages size c.draw_guard-word.result.0 guard outcome.PagesFailed new shows c.size_of_block-size.ensures.value c.reserve.ensures.words c.draw_guard-word.ensures.word c.draw_guard-word.ensures.guard
-    (subst (λ (z : ℕ). (a : ℕ) × IsCandidate config s c.args.align z guard a) c.size_of_block-size.ensures.value (c.in-Some.addr, least.fits), shows_table config n (record s { words = suc s.words }) d new drawn same refl, c.in-Err-Failed.ensures.unchanged, c.in-Err-Failed.ensures.cause.failed (ap (λ (r : PageRefusal). Err r) c.in-Err-Failed.field-0-is))
+    allots_from g.P.Pages config n s c.args.asked c.args.align c.args.store.now c.reserve.new.store c.args.pages.now c.open.new.pages size c.draw_guard-word.result.0 guard reply.PagesFailed new shows c.size_of_block-size.ensures.value c.reserve.ensures.words c.draw_guard-word.ensures.word c.draw_guard-word.ensures.guard
+    (inr (inr (refl, (subst (λ (z : ℕ). (a : ℕ) × IsCandidate config s c.args.align z guard a) c.size_of_block-size.ensures.value (c.in-Some.addr, least.fits), shows_table config n (record s { words = suc s.words }) d new drawn same refl, c.in-Err-Failed.ensures.unchanged, c.in-Err-Failed.ensures.cause.failed (ap (λ (r : PageRefusal). Err r) c.in-Err-Failed.field-0-is)))))
 
 pub returns-in-Err-NoMemory-clause-declines : goal.returns-in-Err-NoMemory-clause-declines
 returns-in-Err-NoMemory-clause-declines g c =
