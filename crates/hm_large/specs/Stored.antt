@@ -1,16 +1,17 @@
 -- What allotting and giving back change in the store.
-use Rattle.std.specs.Prelude.{◌≡◌, ℕ, zero, suc, ◌+◌, ◌*◌, ◌-◌, ◌^◌, ◌<◌, ◌≤◌, ◌⊎◌, Bool, false, IsTrue, ◌∷◌, Option, Some, None, Result, Ok, Err}
+use Rattle.std.specs.Prelude.{◌≡◌, ℕ, zero, suc, ◌+◌, ◌*◌, ◌-◌, ◌%◌, ◌^◌, ◌<◌, ◌≤◌, ◌⊎◌, Bool, false, IsTrue, ◌∷◌, Option, Some, None, Result, Ok, Err, IfSome}
 use Rattle.std.specs.FinMap as map
 use Rattle.hm_outside.specs.declared.pages.Pages as pages
 use Rattle.hm_base.specs.Lists.{zeros}
-use Rattle.hm_outside.specs.PageRuns.{PageRuns}
+use Rattle.hm_outside.specs.PageRuns.{PageRuns, MeetsNone}
 use Rattle.std.specs.Bool.{MatchBool}
 use Rattle.hm_model.specs.Maps.{at}
 use Rattle.hm_quarantine.specs.LookingBack.{released}
-use Rattle.hm_space.specs.Space.{FreeSpace, MeetsNoFree, GivesRange}
+use Rattle.hm_space.specs.Space.{FreeSpace, IsFreeRange, TakesRange, MeetsNoFree, GivesRange}
 use Rattle.hm_sizes.specs.Configs.{IsValid}
 use Rattle.hm_sizes.specs.declared.config.Config.{Config}
 use Rattle.hm_region_table.specs.declared.entry.Block.{Block as KeptBlock}
+use Rattle.hm_region_table.specs.Table.{Table}
 use Rattle.hm_large.specs.declared.store.Store.{Store}
 use Rattle.hm_model.specs.declared.entry.Reply.{Reply}
 use Rattle.hm_model.specs.declared.entry.Reply.TheVariants as reply
@@ -22,6 +23,7 @@ use Rattle.hm_large.specs.Blocks.{Block, Blocks, size_for, new_block, guard_of, 
 use Rattle.hm_large.specs.State.{State, takes_back, releases, free_of, array_length, ring_length}
 use Rattle.hm_large.specs.Rules.{IsCandidate, IsLeastCandidate, Releases, wrong_size}
 use Rattle.hm_large.specs.Draws.{word_after}
+use Rattle.hm_large.specs.BlockTable.{Updates}
 use Rattle.hm_large.specs.Laws.{IsSound}
 use Rattle.hm_large.specs.Region.{HoldsBlocks}
 use Rattle.hm_large.specs.Kept.{kept_of, Shows}
@@ -34,6 +36,30 @@ pub record SameStore (old new : Store) : Type 0 where
   pub quarantine : new.quarantine ≡ old.quarantine
   pub owed_same : new.owed ≡ old.owed
 
+-- the range of a block, with its guards, is free
+pub record IsFreeFor (space : FreeSpace) (a size guard : ℕ) : Type 0 where
+  pub some : 1 ≤ size
+  pub most : size ≤ 2 ^ 30
+  pub narrow : guard ≤ 2 ^ 32
+  pub front : 4096 * guard ≤ a
+  pub free : IsFreeRange space (a - 4096 * guard) (size + 2 * (4096 * guard))
+
+-- it was taken out, for one more block
+pub record TakesOut (old new : Store) (a size guard : ℕ) : Type 0 where
+  pub taken : TakesRange old.space new.space (a - 4096 * guard) (size + 2 * (4096 * guard))
+  pub out : new.space.out ≡ old.space.out + 1
+  pub owed_more : new.owed ≡ old.owed + 1
+  pub others : new ≡ record old { space = new.space; owed = new.owed }
+
+-- the pages of a block can be made accessible
+pub record CanOpen (told : Bool) (runs : PageRuns) (a size : ℕ) : Type 0 where
+  pub aligned : a % 4096 ≡ 0
+  pub whole : size % 4096 ≡ 0
+  pub some : 1 ≤ size
+  pub most : size ≤ 2 ^ 30
+  pub below : a + size ≤ 2 ^ 47
+  pub apart : IsTrue told → MeetsNone runs a size
+
 -- how many words were drawn once this one was
 abbrev pub words_with : Option ℕ → ℕ → ℕ
 words_with None words = words
@@ -43,6 +69,17 @@ module _ {P : Type 0} (meaning : pages.Ghosts P) where
   -- the runs are as before
   abbrev pub SameRuns : P → P → Type 0
   SameRuns before now = IsTrue (meaning.told before) → meaning.runs now ≡ meaning.runs before
+
+  -- a block was put in, and its pages were made accessible
+  pub record Opens (old new : Table) (a : ℕ) (block : KeptBlock) (before now : P) : Type 0 where
+    pub put : Updates old new a (Some block)
+    pub made : IsTrue (meaning.told before)
+        → meaning.runs now ≡ map.insert (meaning.runs before) a (zeros block.size)
+
+  -- the table has what it had at each address, and the pages have the same runs
+  pub record StaysShut (old new : Table) (before now : P) : Type 0 where
+    pub stays : (a : ℕ) → map.get new.blocks a ≡ map.get old.blocks a
+    pub unchanged : SameRuns before now
 
   -- an allotment in a state that a store shows, with the store afterwards, and the pages before and now
   module _ (c : Config) (number : ℕ) (s : State) (asked align : ℕ) (new : Store) (before now : P) where
@@ -111,6 +148,12 @@ pub record GoesBack (space : FreeSpace) (a : ℕ) (b : KeptBlock) : Type 0 where
 pub record GaveBack (old new : FreeSpace) (a : ℕ) (b : KeptBlock) : Type 0 where
   pub ranges : GivesRange old new (a - 4096 * b.guard) (b.size + 2 * (4096 * b.guard))
   pub out_less : new.out + 1 ≡ old.out
+
+-- the block at a was taken out of the table, and its range put back, if there was one
+pub record PutsBack (old new : Store) (a : ℕ) : Type 0 where
+  pub blocks_are : Updates old.blocks new.blocks a None
+  pub gave : IfSome (map.get old.blocks.blocks a) (GaveBack old.space new.space a)
+  pub others : new ≡ record old { blocks = new.blocks; space = new.space }
 
 -- the block at a is live in a state that the store shows
 pub record StandsLive (k : Store) (a : ℕ) (b : KeptBlock) : Type 0 where
