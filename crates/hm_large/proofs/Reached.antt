@@ -22,7 +22,7 @@ use Rattle.hm_model.proofs.Lists.{same_eq, other_eq, eq_same}
 use Rattle.hm_model.proofs.Overlaid.{overlaid_apart, overlaid_written}
 use Rattle.hm_outside.specs.declared.pages.Pages as pages
 use Rattle.hm_base.specs.Lists.{written}
-use Rattle.hm_outside.specs.PageRuns.{PageRuns, Reads, Writes, InNone, IsHeld}
+use Rattle.hm_outside.specs.PageRuns.{PageRuns, Reads, Writes, IsHeld}
 use Rattle.hm_sizes.specs.declared.config.Config.{Config}
 use Rattle.hm_large.specs.declared.store.Store.{Store}
 use Rattle.hm_large.specs.declared.access.Reading.{Reading}
@@ -63,7 +63,8 @@ guarded_freed s a word (Some x) r h = out r (is_quarantined x)
     out (Some b) true = guarded_removed a s.live h
     out (Some b) false = guarded_removed a s.live h
 
-guarded_moved : (n : ℕ) (s : State) (e : Entry) (c : Call) (r : Reply) → AreGuarded s.live → EntryDraws n s e c r → AreGuarded (moved e c r s).live
+-- an entry leaves each live block a guard
+pub guarded_moved : (n : ℕ) (s : State) (e : Entry) (c : Call) (r : Reply) → AreGuarded s.live → EntryDraws n s e c r → AreGuarded (moved e c r s).live
 guarded_moved n s e (call.Allot asked align) (reply.Given a size) h draws = (omega (arith, ap (λ (o : Option ℕ). unwrap_or o 0) draws.1), h)
 guarded_moved n s e (call.GiveBack a stated) reply.PagesFailed h draws = guarded_same (mark a) (λ e. refl) s.live h
 guarded_moved n s e (call.GiveBack a stated) reply.Freed h draws = guarded_freed s a e.draws.w0 (at a s.live) e.choices.released h
@@ -98,9 +99,6 @@ reads_blocks c s runs a len w sound holds r =
 pub held_by_none : (c : Config) (s : State) (runs : PageRuns) (q len : ℕ) → IsSound c s → HoldsBlocks s.live runs → 1 ≤ len → (IsHeld runs q len → ⊥) → HeldByNone s.live q len
 held_by_none c s runs q len sound holds some none a x e low high =
     none (a, x.bytes, holds a ∙ ap (option_map (λ (b : Block). b.bytes)) e, record { some = some; from = low; to = omega (arith, high, (placed_at c a x s.live sound.live e).whole) })
-
-pub in_none_held : (runs : PageRuns) (q len : ℕ) → InNone runs q len → IsHeld runs q len → ⊥
-in_none_held runs q len none h = none h.0 h.1 h.2 h.3
 
 -- no two runs meet, as no two blocks do
 pub disjoint_blocks : (c : Config) (s : State) (runs : PageRuns) → IsSound c s → HoldsBlocks s.live runs → AreDisjoint runs
