@@ -21,7 +21,7 @@ use Rattle.hm_sizes.specs.declared.config.Config.{Config}
 use Rattle.hm_large.specs.Blocks.{Block, Blocks, size_for, new_block, is_quarantined, spans, covers, how_many, covered, overlay, written_over, mark, marked}
 use Rattle.hm_large.specs.State.{State, start, step, moved, takes_back, releases, free_of}
 use Rattle.hm_large.specs.Rules.{Terms, Allows, Allowed, Asks, state, taken, IsCandidate}
-use Rattle.hm_large.specs.Laws.{IsPlaced, IsSound, Sound, Prefixes, OneMore, OneLess, Apart}
+use Rattle.hm_large.specs.Laws.{IsInSpace, IsSound, Sound, Prefixes, OneMore, OneLess, Apart}
 use Rattle.hm_large.proofs.BlockLists.{weight, how_many_removed, how_many_same, at_covered, times_covered, placed_at, placed_removed, placed_same, placed_overlay, placed_mark, covers_own, at_removed}
 
 -- ---- prefixes
@@ -65,7 +65,7 @@ page_aligned align a (k, le, e) h =
         let all : (a / align) * align ≡ a = omega (arith, div-add-mod' a align, none) in
         whole ((a / align) * c) (sym all ∙ (ap (λ (m : ℕ). (a / align) * m) parts ∙ sym (mul_assoc (a / align) c 4096)))
 
-pub placed_new : (c : Config) (s : State) (align asked guard a : ℕ) → asked ≤ 2 ^ 30 → IsAlignment align → IsCandidate c s align (size_for asked) guard a → IsPlaced c (a, new_block asked guard)
+pub placed_new : (c : Config) (s : State) (align asked guard a : ℕ) → asked ≤ 2 ^ 30 → IsAlignment align → IsCandidate c s align (size_for asked) guard a → IsInSpace c (a, new_block asked guard)
 placed_new c s align asked guard a most is h =
     let size = size_is asked most in
     record { from = h.from; to = h.to; aligned = page_aligned align a is h.aligned; some = size.some; pages = size.pages; most = size.most; whole = length-replicate (size_for asked) 0 }
