@@ -44,11 +44,11 @@ sizes live q = tree.get nat_cmp live q
 pub live_changed : (old new : Table) (live after : tree.BTreeMap ℕ ℕ) (a : ℕ) (x : Option KeptBlock) → AreLive old.blocks live → Updates old new a x
     → ((q : ℕ) → sizes after q ≡ cond (a == q) (live_size x) (sizes live q)) → AreLive new.blocks after
 live_changed old new live after a x h f g q =
-    g q ∙ (ap (cond (a == q) (live_size x)) (h q) ∙ (moved (a == q) ∙ sym (ap live_size (f q))))
+    g q ∙ (ap (cond (a == q) (live_size x)) (h q) ∙ (by_test (a == q) ∙ sym (ap live_size (f q))))
   where
-    moved : (t : Bool) → cond t (live_size x) (live_size (map.get old.blocks q)) ≡ live_size (cond t x (map.get old.blocks q))
-    moved true = refl
-    moved false = refl
+    by_test : (t : Bool) → cond t (live_size x) (live_size (map.get old.blocks q)) ≡ live_size (cond t x (map.get old.blocks q))
+    by_test true = refl
+    by_test false = refl
 
 pub none_live : (t : Table) (live : tree.BTreeMap ℕ ℕ) → t.blocks ≡ map.empty → live.entries ≡ [] → AreLive t.blocks live
 none_live t live e f q =

@@ -29,7 +29,7 @@ use Rattle.hm_large.specs.declared.access.Reading.{Reading}
 use Rattle.hm_large.specs.declared.access.Reading.TheVariants as reading
 use Rattle.hm_large.specs.Access.{fetch_reply, fill_reply, IsRead, AreDisjoint}
 use Rattle.hm_large.specs.Blocks.{Block, Blocks, covers, covered, is_quarantined, is_owed, first_trap, bytes_read, overlay, written_over, mark}
-use Rattle.hm_large.specs.State.{State, start, step, moved, takes_back, releases, free_of}
+use Rattle.hm_large.specs.State.{State, start, step, changed, takes_back, releases, free_of}
 use Rattle.hm_large.specs.Rules.{Allowed, state}
 use Rattle.hm_large.specs.Draws.{Drawn, EntryDraws}
 use Rattle.hm_large.specs.Laws.{IsSound}
@@ -64,17 +64,17 @@ guarded_freed s a word (Some x) r h = out r (is_quarantined x)
     out (Some b) false = guarded_removed a s.live h
 
 -- an entry leaves each live block a guard
-pub guarded_moved : (n : ℕ) (s : State) (e : Entry) (c : Call) (r : Reply) → AreGuarded s.live → EntryDraws n s e c r → AreGuarded (moved e c r s).live
-guarded_moved n s e (call.Allot asked align) (reply.Given a size) h draws = (omega (arith, ap (λ (o : Option ℕ). unwrap_or o 0) draws.1), h)
-guarded_moved n s e (call.GiveBack a stated) reply.PagesFailed h draws = guarded_same (mark a) (λ e. refl) s.live h
-guarded_moved n s e (call.GiveBack a stated) reply.Freed h draws = guarded_freed s a e.draws.w0 (at a s.live) e.choices.released h
-guarded_moved n s e (call.Fill a runs) reply.Filled h draws = guarded_same (overlay a (expand runs)) (λ e. refl) s.live h
-guarded_moved n s e c r h draws = h
+pub guarded_changed : (n : ℕ) (s : State) (e : Entry) (c : Call) (r : Reply) → AreGuarded s.live → EntryDraws n s e c r → AreGuarded (changed e c r s).live
+guarded_changed n s e (call.Allot asked align) (reply.Given a size) h draws = (omega (arith, ap (λ (o : Option ℕ). unwrap_or o 0) draws.1), h)
+guarded_changed n s e (call.GiveBack a stated) reply.PagesFailed h draws = guarded_same (mark a) (λ e. refl) s.live h
+guarded_changed n s e (call.GiveBack a stated) reply.Freed h draws = guarded_freed s a e.draws.w0 (at a s.live) e.choices.released h
+guarded_changed n s e (call.Fill a runs) reply.Filled h draws = guarded_same (overlay a (expand runs)) (λ e. refl) s.live h
+guarded_changed n s e c r h draws = h
 
 pub kept_guarded : {P : Type 0} (meaning : pages.Ghosts P) (p : P) (c : Config) (n : ℕ) (es : List Entry) (k : Store) → IsKept meaning p c n es k → AreGuarded (state (terms_of c (meaning.told p)) es).live
 kept_guarded meaning p c n es k h =
     subst (λ (s : State). AreGuarded s.live) (run_same (Drawn n) (Allowed (terms_of c (meaning.told p))) start es)
-    (run_keeps step (Drawn n) (λ s. AreGuarded s.live) (λ s e g draws. guarded_moved n s e e.call e.reply g draws) start es tt h.drawn)
+    (run_keeps step (Drawn n) (λ s. AreGuarded s.live) (λ s e g draws. guarded_changed n s e e.call e.reply g draws) start es tt h.drawn)
 
 -- ---- reading
 -- a run that is there is that of a block
