@@ -78,8 +78,8 @@ kept_guarded meaning p c n es k h =
 
 -- ---- reading
 -- a run that is there is that of a block
-run_of : (live : Blocks) (runs : PageRuns) (a : ℕ) (bytes : List ℕ) → HoldsBlocks live runs → finite.get runs a ≡ Some bytes → (x : Block) × (at a live ≡ Some x) × (x.bytes ≡ bytes)
-run_of live runs a bytes holds is = by_block (at a live) refl (sym (holds a) ∙ is)
+page_run_of : (live : Blocks) (runs : PageRuns) (a : ℕ) (bytes : List ℕ) → HoldsBlocks live runs → finite.get runs a ≡ Some bytes → (x : Block) × (at a live ≡ Some x) × (x.bytes ≡ bytes)
+page_run_of live runs a bytes holds is = by_block (at a live) refl (sym (holds a) ∙ is)
   where
     by_block : (o : Option Block) → at a live ≡ o → option_map (λ (b : Block). b.bytes) (at a live) ≡ Some bytes → (x : Block) × (at a live ≡ Some x) × (x.bytes ≡ bytes)
     by_block None e f = absurd (none-some bytes (sym (ap (option_map (λ (b : Block). b.bytes)) e) ∙ f))
@@ -88,7 +88,7 @@ run_of live runs a bytes holds is = by_block (at a live) refl (sym (holds a) ∙
 -- what the pages read is what the blocks have
 pub reads_blocks : (c : Config) (s : State) (runs : PageRuns) (a len : ℕ) (w : List ℕ) → IsSound c s → HoldsBlocks s.live runs → Reads runs a len w → (first_trap s.live a len ≡ None) × (w ≡ bytes_read s.live a len)
 reads_blocks c s runs a len w sound holds r =
-    let x = run_of s.live runs r.first r.bytes holds r.is_run in
+    let x = page_run_of s.live runs r.first r.bytes holds r.is_run in
     let size : length r.bytes ≡ x.0.size = ap length (sym x.2) ∙ (placed_at c r.first x.0 s.live sound.live x.1).whole in
     let once = λ (k : ℕ). (let o : covered k s.live ≤ 1 = omega (arith, sound.once k) in o) in (
       no_trap s.live a len (λ k l h. ap is_some (byte_there c s.live r.first k x.0 sound.live (once k) x.1 (omega (arith, r.lies.from)) (omega (arith, r.lies.to, size)))),
@@ -103,8 +103,8 @@ held_by_none c s runs q len sound holds some none a x e low high =
 -- no two runs meet, as no two blocks do
 pub disjoint_blocks : (c : Config) (s : State) (runs : PageRuns) → IsSound c s → HoldsBlocks s.live runs → AreDisjoint runs
 disjoint_blocks c s runs sound holds p q b d first second ne =
-    let x = run_of s.live runs p b holds first in
-    let y = run_of s.live runs q d holds second in
+    let x = page_run_of s.live runs p b holds first in
+    let y = page_run_of s.live runs q d holds second in
     let long : length b ≡ x.0.size = ap length (sym x.2) ∙ (placed_at c p x.0 s.live sound.live x.1).whole in
     let long' : length d ≡ y.0.size = ap length (sym y.2) ∙ (placed_at c q y.0 s.live sound.live y.1).whole in
     ⊎_elim
@@ -138,7 +138,7 @@ writes_blocks c s runs after a w sound holds h q =
     ∙ (⊎_elim here there (cases_eq h.first q) ∙ sym (ap (option_map (λ (b : Block). b.bytes)) (at_overlaid q a w s.live)))))
   where
     x : (x : Block) × (at h.first s.live ≡ Some x) × (x.bytes ≡ h.bytes)
-    x = run_of s.live runs h.first h.bytes holds h.is_run
+    x = page_run_of s.live runs h.first h.bytes holds h.is_run
 
     size : length h.bytes ≡ x.0.size
     size = ap length (sym x.2) ∙ (placed_at c h.first x.0 s.live sound.live x.1).whole

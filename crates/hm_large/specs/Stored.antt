@@ -66,9 +66,9 @@ words_with None words = words
 words_with (Some word) words = suc words
 
 module _ {P : Type 0} (meaning : pages.Ghosts P) where
-  -- the runs are as before
-  abbrev pub SameRuns : P → P → Type 0
-  SameRuns before now = IsTrue (meaning.told before) → meaning.runs now ≡ meaning.runs before
+  -- the page runs are as before
+  abbrev pub SamePageRuns : P → P → Type 0
+  SamePageRuns before now = IsTrue (meaning.told before) → meaning.runs now ≡ meaning.runs before
 
   -- a block was put in, and its pages were made accessible
   pub record Opens (old new : Table) (a : ℕ) (block : KeptBlock) (before now : P) : Type 0 where
@@ -76,10 +76,10 @@ module _ {P : Type 0} (meaning : pages.Ghosts P) where
     pub made : IsTrue (meaning.told before)
         → meaning.runs now ≡ map.insert (meaning.runs before) a (zeros block.size)
 
-  -- the table has what it had at each address, and the pages have the same runs
+  -- the table has what it had at each address, and the page runs are as before
   pub record StaysShut (old new : Table) (before now : P) : Type 0 where
     pub stays : (a : ℕ) → map.get new.blocks a ≡ map.get old.blocks a
-    pub unchanged : SameRuns before now
+    pub unchanged : SamePageRuns before now
 
   -- an allotment in a state that a store shows, with the store afterwards, and the pages before and now
   module _ (c : Config) (number : ℕ) (s : State) (asked align : ℕ) (new : Store) (before now : P) where
@@ -96,14 +96,14 @@ module _ {P : Type 0} (meaning : pages.Ghosts P) where
     LeavesNoSpace guard =
         ((a : ℕ) → IsCandidate c s align (size_for asked) guard a → ⊥)
         × Shows c number (record s { words = suc s.words }) new
-        × SameRuns before now
+        × SamePageRuns before now
         × (meaning.faults now ≡ meaning.faults before)
 
     abbrev pub LeavesPagesFailed : ℕ → Type 0
     LeavesPagesFailed guard =
         ((a : ℕ) × IsCandidate c s align (size_for asked) guard a)
         × Shows c number (record s { words = suc s.words }) new
-        × SameRuns before now
+        × SamePageRuns before now
         × (meaning.faults before < meaning.faults now)
 
     -- the replies that an attempt may have, each with what it leaves
@@ -121,7 +121,7 @@ module _ {P : Type 0} (meaning : pages.Ghosts P) where
   -- nothing was changed, but for room
   pub record Declines (c : Config) (number : ℕ) (s : State) (new : Store) (before now : P) : Type 0 where
     pub shows : Shows c number s new
-    pub runs_are : SameRuns before now
+    pub runs_are : SamePageRuns before now
     pub count : meaning.faults now ≡ meaning.faults before
 
 -- there is a state that the pages and the store show
