@@ -12,7 +12,7 @@ use Rattle.hm_sizes.specs.declared.config.Config.{Config}
 use Rattle.hm_large.specs.declared.store.Store.{Store}
 use Rattle.hm_large.specs.Blocks.{Block, Blocks, covers, covered, byte_at, first_trap, bytes_read}
 use Rattle.hm_large.specs.State.{State}
-use Rattle.hm_large.specs.Laws.{IsPlaced, ArePlaced, IsSound}
+use Rattle.hm_large.specs.Laws.{IsInSpace, AreInSpace, IsSound}
 use Rattle.hm_large.specs.BlockTable.{live_size}
 use Rattle.hm_large.specs.Kept.{kept_or, Shows, AreGuarded}
 use Rattle.hm_large.specs.Stored.{HeldByNone, IsLeft}
@@ -37,13 +37,13 @@ has_past : (e : ℕ × Block) (q : ℕ) → e.0 + length e.1.bytes ≤ q → has
 has_past e q past = and_right (nat_le e.0 q) (nat_lt q (e.0 + length e.1.bytes)) (le-ltb q (e.0 + length e.1.bytes) past)
 
 -- what has a byte covers it
-has_covers : (c : Config) (e : ℕ × Block) (q : ℕ) → IsPlaced c e → has_byte q e ≡ true → covers q e ≡ true
+has_covers : (c : Config) (e : ℕ × Block) (q : ℕ) → IsInSpace c e → has_byte q e ≡ true → covers q e ≡ true
 has_covers c e q placed h = spans_from e.0 e.1.size e.1.guard q (omega (arith, has_low e q h)) (omega (arith, has_high e q h, placed.whole))
 
-not_covers : (c : Config) (e : ℕ × Block) (q : ℕ) → IsPlaced c e → covers q e ≡ false → has_byte q e ≡ false
+not_covers : (c : Config) (e : ℕ × Block) (q : ℕ) → IsInSpace c e → covers q e ≡ false → has_byte q e ≡ false
 not_covers c e q placed no_cover = ⊎_elim (λ h. absurd (true≢false (sym (has_covers c e q placed h) ∙ no_cover))) (λ h. h) (cases_Bool (has_byte q e))
 
-uncovered : (c : Config) (m : Blocks) (q : ℕ) → ArePlaced c m → covered q m ≡ 0 → byte_at m q ≡ None
+uncovered : (c : Config) (m : Blocks) (q : ℕ) → AreInSpace c m → covered q m ≡ 0 → byte_at m q ≡ None
 uncovered c [] q placed none = refl
 uncovered c (y ∷ m) q placed none =
     ⊎_elim
@@ -52,7 +52,7 @@ uncovered c (y ∷ m) q placed none =
     (cases_Bool (covers q y))
 
 -- a byte of the block at a is that which is found
-pub byte_of : (c : Config) (m : Blocks) (a q : ℕ) (x : Block) → ArePlaced c m → covered q m ≤ 1 → at a m ≡ Some x → a ≤ q → q < a + x.size → byte_at m q ≡ slice_get x.bytes (q - a)
+pub byte_of : (c : Config) (m : Blocks) (a q : ℕ) (x : Block) → AreInSpace c m → covered q m ≤ 1 → at a m ≡ Some x → a ≤ q → q < a + x.size → byte_at m q ≡ slice_get x.bytes (q - a)
 byte_of c [] a q x placed once e low high = absurd (none-some x e)
 byte_of c (y ∷ m) a q x placed once e low high =
     elim (y.0 == a) as (λ t. (y.0 == a) ≡ t → cond t (Some y.1) (at a m) ≡ Some x → byte_at (y ∷ m) q ≡ slice_get x.bytes (q - a)) [
@@ -75,7 +75,7 @@ byte_of c (y ∷ m) a q x placed once e low high =
         (cases_Bool (covers q y))
 
 -- a guard has no byte
-pub byte_past : (c : Config) (m : Blocks) (a q : ℕ) (x : Block) → ArePlaced c m → covered q m ≤ 1 → at a m ≡ Some x → covers q (a, x) ≡ true → a + x.size ≤ q → byte_at m q ≡ None
+pub byte_past : (c : Config) (m : Blocks) (a q : ℕ) (x : Block) → AreInSpace c m → covered q m ≤ 1 → at a m ≡ Some x → covers q (a, x) ≡ true → a + x.size ≤ q → byte_at m q ≡ None
 byte_past c [] a q x placed once e cover past = absurd (none-some x e)
 byte_past c (y ∷ m) a q x placed once e cover past =
     elim (y.0 == a) as (λ t. (y.0 == a) ≡ t → cond t (Some y.1) (at a m) ≡ Some x → byte_at (y ∷ m) q ≡ None) [
@@ -106,7 +106,7 @@ pub record Finds (m : Blocks) (q : ℕ) : Type 0 where
   pub low : a ≤ q
   pub high : q < a + x.size
 
-pub byte_found : (c : Config) (m : Blocks) (q : ℕ) (b : ℕ) → ArePlaced c m → ((k : ℕ) → covered k m ≤ 1) → byte_at m q ≡ Some b → Finds m q
+pub byte_found : (c : Config) (m : Blocks) (q : ℕ) (b : ℕ) → AreInSpace c m → ((k : ℕ) → covered k m ≤ 1) → byte_at m q ≡ Some b → Finds m q
 byte_found c [] q b placed once e = absurd (none-some b e)
 byte_found c (y ∷ m) q b placed once e =
     elim (has_byte q y) as (λ t. has_byte q y ≡ t → cond t (slice_get y.1.bytes (q - y.0)) (byte_at m q) ≡ Some b → Finds (y ∷ m) q) [
@@ -154,10 +154,10 @@ in_bytes [] i lt = absurd (omega arith)
 in_bytes (b ∷ bytes) zero lt = refl
 in_bytes (b ∷ bytes) (suc i) lt = in_bytes bytes i (omega arith)
 
-pub byte_there : (c : Config) (m : Blocks) (a q : ℕ) (x : Block) → ArePlaced c m → covered q m ≤ 1 → at a m ≡ Some x → a ≤ q → q < a + x.size → byte_at m q ≡ Some (get_or x.bytes (q - a) 0)
+pub byte_there : (c : Config) (m : Blocks) (a q : ℕ) (x : Block) → AreInSpace c m → covered q m ≤ 1 → at a m ≡ Some x → a ≤ q → q < a + x.size → byte_at m q ≡ Some (get_or x.bytes (q - a) 0)
 byte_there c m a q x placed once e low high = byte_of c m a q x placed once e low high ∙ in_bytes x.bytes (q - a) (omega (arith, (placed_at c a x m placed e).whole))
 
-pub bytes_there : (c : Config) (m : Blocks) (a q len : ℕ) (x : Block) → ArePlaced c m → ((k : ℕ) → covered k m ≤ 1) → at a m ≡ Some x → a ≤ q → q + len ≤ a + x.size → bytes_read m q len ≡ take len (drop (q - a) x.bytes)
+pub bytes_there : (c : Config) (m : Blocks) (a q len : ℕ) (x : Block) → AreInSpace c m → ((k : ℕ) → covered k m ≤ 1) → at a m ≡ Some x → a ≤ q → q + len ≤ a + x.size → bytes_read m q len ≡ take len (drop (q - a) x.bytes)
 bytes_there c m a q zero x placed once e low high = refl
 bytes_there c m a q (suc len) x placed once e low high =
     let i : ℕ = q - a in

@@ -4,6 +4,7 @@ use Rattle.std.specs.FinMap as map
 use Rattle.std.proofs.lemmas.Nat.{mod_below}
 use Rattle.hm_choice.specs.Stream.{Words, next_word, after_word, before_word}
 use Rattle.hm_choice.proofs.Places.{comes_again}
+use Rattle.hm_model.specs.declared.entry.Reply.{Reply}
 use Rattle.hm_model.specs.Maps.{at}
 use Rattle.hm_outside.specs.declared.pages.Pages as pages
 use Rattle.hm_space.specs.Space.{IsFreeRange, TakesRange}
@@ -11,7 +12,6 @@ use Rattle.hm_sizes.specs.declared.config.Config.{Config}
 use Rattle.hm_sizes.specs.Configs.{IsValid}
 use Rattle.hm_region_table.specs.Table.{Table}
 use Rattle.hm_large.specs.declared.store.Store.{Store}
-use Rattle.hm_large.specs.declared.allot.Outcome.{Outcome}
 use Rattle.hm_large.specs.Blocks.{Block, new_block, size_for, guard_of}
 use Rattle.hm_large.specs.State.{State}
 use Rattle.hm_large.specs.Rules.{IsCandidate, IsLeastCandidate}
@@ -89,9 +89,9 @@ found_least c n s k r d align size guard a e same words found h =
 
 module _ {P : Type 0} (meaning : pages.Ghosts P) (c : Config) (n : ℕ) (s : State) (asked align : ℕ) (k r : Store) (old now : P) (size word guard : ℕ) where
   -- what an attempt has of the word, once it is known how it ends
-  pub allots_from : (o : Outcome) (new : Store) → Shows c n s k → size ≡ size_for asked → r.words ≡ k.words → word ≡ next_word r.words → guard ≡ guard_of size word → Ends meaning c n s asked align new old now guard o
-      → Allots meaning c n s asked align new old now (record { word = word; guard = guard; outcome = o })
-  allots_from o new h e words drawn by ends = record { word = drawn ∙ ap next_word (words ∙ h.words); guard = by ∙ ap (λ z. guard_of z word) e; ends = ends }
+  pub allots_from : (r' : Reply) (new : Store) → Shows c n s k → size ≡ size_for asked → r.words ≡ k.words → word ≡ next_word r.words → guard ≡ guard_of size word → Ends meaning c n s asked align new old now guard r'
+      → Allots meaning c n s asked align new old now (record { word = word; guard = guard; reply = r' })
+  allots_from r' new h e words drawn by ends = record { word = drawn ∙ ap next_word (words ∙ h.words); guard = by ∙ ap (λ z. guard_of z word) e; ends = ends }
 
 -- the table, the free ranges and the count once a block was put in
 pub gives_from : (d new : Store) (blocks : Table) (a asked size guard : ℕ) → Updates d.blocks blocks a (Some (record { asked = asked; size = size; guard = guard; held = false; failed = false }))

@@ -7,7 +7,7 @@ use Rattle.hm_model.proofs.Lists.{other_eq, eq_same}
 use Rattle.hm_model.proofs.Overlaid.{length_overlaid}
 use Rattle.hm_sizes.specs.declared.config.Config.{Config}
 use Rattle.hm_large.specs.Blocks.{Block, Blocks, covers, how_many, covered, overlay, mark}
-use Rattle.hm_large.specs.Laws.{IsPlaced, ArePlaced}
+use Rattle.hm_large.specs.Laws.{IsInSpace, AreInSpace}
 
 -- what an answer counts for
 abbrev pub weight : Bool → ℕ
@@ -63,7 +63,7 @@ length_removed a x m e once = omega (arith, how_many_removed (λ _. true) a x m 
     all (y ∷ m) = omega (arith, all m)
 
 -- ---- what blocks cover
-pub covers_own : (c : Config) (e : ℕ × Block) → IsPlaced c e → covers e.0 e ≡ true
+pub covers_own : (c : Config) (e : ℕ × Block) → IsInSpace c e → covers e.0 e ≡ true
 covers_own c e h = and_from _ _ (le-leb e.0 (e.0 + 4096 * e.1.guard) (omega arith)) (lt-ltb e.0 (e.0 + e.1.size + 4096 * e.1.guard) (omega (arith, h.some)))
 
 pub at_covered : (q a : ℕ) (x : Block) (m : Blocks) → at a m ≡ Some x → covers q (a, x) ≡ true → 1 ≤ covered q m
@@ -81,7 +81,7 @@ at_covered q a x (y ∷ m) e h =
         omega (arith, one)
 
 -- an address is a key at most as often as it is covered
-pub times_covered : (c : Config) (a : ℕ) (m : Blocks) → ArePlaced c m → times a (keys m) ≤ covered a m
+pub times_covered : (c : Config) (a : ℕ) (m : Blocks) → AreInSpace c m → times a (keys m) ≤ covered a m
 times_covered c a [] h = omega arith
 times_covered c a (y ∷ m) h =
     elim (y.0 == a) as (λ b. (y.0 == a) ≡ b → cond b 1 0 + times a (keys m) ≤ covered a (y ∷ m)) [
@@ -95,18 +95,18 @@ times_covered c a (y ∷ m) h =
         let one : weight (covers a y) ≡ 1 = ap weight own in
         omega (arith, one, rest)
 
-pub placed_at : (c : Config) (a : ℕ) (x : Block) (m : Blocks) → ArePlaced c m → at a m ≡ Some x → IsPlaced c (a, x)
+pub placed_at : (c : Config) (a : ℕ) (x : Block) (m : Blocks) → AreInSpace c m → at a m ≡ Some x → IsInSpace c (a, x)
 placed_at c a x [] h e = absurd (none-some x e)
 placed_at c a x (y ∷ m) h e =
-    elim (y.0 == a) as (λ b. (y.0 == a) ≡ b → cond b (Some y.1) (at a m) ≡ Some x → IsPlaced c (a, x)) [
-      | true ↦ λ is f. (let same : y ≡ (a, x) = λ i. (eq_same y.0 a is i, same_Some y.1 x f i) in subst (IsPlaced c) same h.0)
+    elim (y.0 == a) as (λ b. (y.0 == a) ≡ b → cond b (Some y.1) (at a m) ≡ Some x → IsInSpace c (a, x)) [
+      | true ↦ λ is f. (let same : y ≡ (a, x) = λ i. (eq_same y.0 a is i, same_Some y.1 x f i) in subst (IsInSpace c) same h.0)
       | false ↦ λ is f. placed_at c a x m h.1 f
     ] refl e
 
-pub placed_removed : (c : Config) (a : ℕ) (m : Blocks) → ArePlaced c m → ArePlaced c (removed a m)
+pub placed_removed : (c : Config) (a : ℕ) (m : Blocks) → AreInSpace c m → AreInSpace c (removed a m)
 placed_removed c a [] h = tt
 placed_removed c a (y ∷ m) h =
-    elim (y.0 == a) as (λ b. ArePlaced c (cond (not b) (y ∷ removed a m) (removed a m))) [ true ↦ placed_removed c a m h.1 | false ↦ (h.0, placed_removed c a m h.1) ]
+    elim (y.0 == a) as (λ b. AreInSpace c (cond (not b) (y ∷ removed a m) (removed a m))) [ true ↦ placed_removed c a m h.1 | false ↦ (h.0, placed_removed c a m h.1) ]
 
 -- ---- blocks that stay where they are
 -- each block is changed, but for its size and guard
@@ -118,12 +118,12 @@ pub length_same : (f : ℕ × Block → ℕ × Block) (m : Blocks) → length (m
 length_same f [] = refl
 length_same f (y ∷ m) = ap suc (length_same f m)
 
-pub placed_same : (c : Config) (f : ℕ × Block → ℕ × Block) → ((e : ℕ × Block) → IsPlaced c e → IsPlaced c (f e)) → (m : Blocks) → ArePlaced c m → ArePlaced c (map f m)
+pub placed_same : (c : Config) (f : ℕ × Block → ℕ × Block) → ((e : ℕ × Block) → IsInSpace c e → IsInSpace c (f e)) → (m : Blocks) → AreInSpace c m → AreInSpace c (map f m)
 placed_same c f keep [] h = tt
 placed_same c f keep (y ∷ m) h = (keep y h.0, placed_same c f keep m h.1)
 
-pub placed_overlay : (c : Config) (a : ℕ) (w : List ℕ) (e : ℕ × Block) → IsPlaced c e → IsPlaced c (overlay a w e)
+pub placed_overlay : (c : Config) (a : ℕ) (w : List ℕ) (e : ℕ × Block) → IsInSpace c e → IsInSpace c (overlay a w e)
 placed_overlay c a w e h = record { from = h.from; to = h.to; aligned = h.aligned; some = h.some; pages = h.pages; most = h.most; whole = length_overlaid a w e.0 e.1.bytes ∙ h.whole }
 
-pub placed_mark : (c : Config) (a : ℕ) (e : ℕ × Block) → IsPlaced c e → IsPlaced c (mark a e)
+pub placed_mark : (c : Config) (a : ℕ) (e : ℕ × Block) → IsInSpace c e → IsInSpace c (mark a e)
 placed_mark c a e h = record { from = h.from; to = h.to; aligned = h.aligned; some = h.some; pages = h.pages; most = h.most; whole = h.whole }

@@ -1,7 +1,8 @@
 -- The table of blocks after a change, address by address, and the starts of the live ones.
-use Rattle.std.proofs.Common.{◌≡◌, ℕ, ◌==◌, Bool, true, false, cond, List, [], Option, Some, None, sym, ◌∙◌, ap, refl}
+use Rattle.std.proofs.Common.{◌≡◌, ℕ, ◌==◌, Bool, true, false, cond, List, [], Option, Some, None, sym, ◌∙◌, ap, subst, refl}
 use Rattle.std.specs.Ordering.{nat_cmp}
 use Rattle.std.specs.BTreeMap as tree
+use Rattle.std.specs.Option.{IsSome}
 use Rattle.std.specs.Map.{lookup}
 use Rattle.std.specs.FinMap as map
 use Rattle.std.specs.FinMap.{get-empty, get-insert, get-remove}
@@ -9,7 +10,7 @@ use Rattle.std.proofs.lemmas.Cmp.{nat_cmp_total}
 use Rattle.hm_model.proofs.Lists.{same_eq}
 use Rattle.hm_region_table.specs.declared.entry.Block.{Block as KeptBlock}
 use Rattle.hm_region_table.specs.Table.{Blocks, Table}
-use Rattle.hm_large.specs.BlockTable.{live_size, AreLive, Updates}
+use Rattle.hm_large.specs.BlockTable.{live_size, AreLive, Updates, FindsLast}
 use Rattle.hm_large.proofs.Tables.{map_test}
 
 -- ---- the table
@@ -43,11 +44,11 @@ sizes live q = tree.get nat_cmp live q
 pub live_changed : (old new : Table) (live after : tree.BTreeMap ℕ ℕ) (a : ℕ) (x : Option KeptBlock) → AreLive old.blocks live → Updates old new a x
     → ((q : ℕ) → sizes after q ≡ cond (a == q) (live_size x) (sizes live q)) → AreLive new.blocks after
 live_changed old new live after a x h f g q =
-    g q ∙ (ap (cond (a == q) (live_size x)) (h q) ∙ (moved (a == q) ∙ sym (ap live_size (f q))))
+    g q ∙ (ap (cond (a == q) (live_size x)) (h q) ∙ (by_test (a == q) ∙ sym (ap live_size (f q))))
   where
-    moved : (t : Bool) → cond t (live_size x) (live_size (map.get old.blocks q)) ≡ live_size (cond t x (map.get old.blocks q))
-    moved true = refl
-    moved false = refl
+    by_test : (t : Bool) → cond t (live_size x) (live_size (map.get old.blocks q)) ≡ live_size (cond t x (map.get old.blocks q))
+    by_test true = refl
+    by_test false = refl
 
 pub none_live : (t : Table) (live : tree.BTreeMap ℕ ℕ) → t.blocks ≡ map.empty → live.entries ≡ [] → AreLive t.blocks live
 none_live t live e f q =
@@ -56,3 +57,12 @@ none_live t live e f q =
 -- ---- a state that is live or in quarantine
 pub live_of : (b : KeptBlock) (size : ℕ) → b.held ≡ false → b.size ≡ size → live_size (Some b) ≡ Some size
 live_of b size live e = ap (λ (t : Bool). cond t None (Some b.size)) live ∙ ap Some e
+
+-- what is found by one map of sizes is found by another that agrees with it
+pub last_alike : (f h : ℕ → Option ℕ) (addr : ℕ) (found : Option (ℕ × ℕ)) → ((q : ℕ) → f q ≡ h q) → FindsLast f addr found → FindsLast h addr found
+last_alike f h addr None same none = λ q le. sym (same q) ∙ none q le
+last_alike f h addr (Some e) same l = record {
+  below = l.below;
+  there = sym (same e.0) ∙ l.there;
+  last = λ q le some. l.last q le (subst IsSome (sym (same q)) some);
+}

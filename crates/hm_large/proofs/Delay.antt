@@ -15,7 +15,7 @@ use Rattle.hm_quarantine.specs.Delay.{slots_of}
 use Rattle.hm_quarantine.specs.LookingBack.{Free}
 use Rattle.hm_sizes.specs.declared.config.Config.{Config}
 use Rattle.hm_large.specs.Blocks.{Block, Blocks, new_block, is_quarantined}
-use Rattle.hm_large.specs.State.{State, start, step, moved, takes_back, releases, free_of}
+use Rattle.hm_large.specs.State.{State, start, step, changed, takes_back, releases, free_of}
 use Rattle.hm_large.specs.Rules.{Terms, Allows, Allowed, Releases, ReleasesFrom, AllowsFreed, AllowsGiven}
 use Rattle.hm_model.specs.Calls.{IsFreedAt}
 use Rattle.hm_large.specs.Laws.{IsSound, IsGivenAt, Meets, Delays}
@@ -90,19 +90,19 @@ waits_freed a x base c s b word (Some y) r h e allows w =
       | false ↦ λ k. subst (λ (o : Option ℕ). Waits a x base (releases o left)) (sym k) w
     ] allows
 
-waits_moved : (a : ℕ) (x : Block) (base : ℕ) (t : Terms) (s : State) (e : Entry) (call : Call) (reply : Reply) → IsSound t.config s → Allows t s e call reply → Waits a x base s
-    → Waits a x base (moved e call reply s)
-waits_moved a x base t s e (Allot asked align) (Given b size) h allows w = w
-waits_moved a x base t s e (GiveBack b stated) PagesFailed h allows w = w
-waits_moved a x base t s e (GiveBack b stated) Freed h allows w = waits_freed a x base t.config s b e.draws.w0 (at b s.live) e.choices.released h refl allows.release w
-waits_moved a x base t s e (Fill b runs) Filled h allows w = w
-waits_moved a x base t s e call reply h allows w = w
+waits_changed : (a : ℕ) (x : Block) (base : ℕ) (t : Terms) (s : State) (e : Entry) (call : Call) (reply : Reply) → IsSound t.config s → Allows t s e call reply → Waits a x base s
+    → Waits a x base (changed e call reply s)
+waits_changed a x base t s e (Allot asked align) (Given b size) h allows w = w
+waits_changed a x base t s e (GiveBack b stated) PagesFailed h allows w = w
+waits_changed a x base t s e (GiveBack b stated) Freed h allows w = waits_freed a x base t.config s b e.draws.w0 (at b s.live) e.choices.released h refl allows.release w
+waits_changed a x base t s e (Fill b runs) Filled h allows w = w
+waits_changed a x base t s e call reply h allows w = w
 
 abbrev Keeps : ℕ → Block → ℕ → Config → State → Type 0
 Keeps a x base c s = IsSound c s × Waits a x base s
 
 waits_step : (a : ℕ) (x : Block) (base : ℕ) (t : Terms) (s : State) (e : Entry) → Keeps a x base t.config s → Allowed t s e → Keeps a x base t.config (step s e)
-waits_step a x base t s e h allowed = (sound_step t s e h.0 allowed, waits_moved a x base t s e e.call e.reply h.0 allowed.allows h.1)
+waits_step a x base t s e h allowed = (sound_step t s e h.0 allowed, waits_changed a x base t s e e.call e.reply h.0 allowed.allows h.1)
 
 released_frees : (r : Option ℕ) (s : State) → (releases r s).frees ≡ s.frees
 released_frees None s = refl
@@ -135,8 +135,8 @@ freed_waits : (t : Terms) (s : State) (f : Entry) (a : ℕ) (x : Block) → Allo
 freed_waits t s f a x allowed is live small =
     let allows : AllowsFreed s f.draws.w0 f.choices a is.stated =
     subst (λ (r : Reply). Allows t s f (GiveBack a is.stated) r) is.reply (subst (λ (c : Call). Allows t s f c f.reply) is.call allowed.allows) in
-    subst (λ (r : Reply). let s' = moved f f.call r s in Waits a x (length s'.frees) s') (sym is.reply)
-    (subst (λ (c : Call). let s' = moved f c Freed s in Waits a x (length s'.frees) s') (sym is.call)
+    subst (λ (r : Reply). let s' = changed f f.call r s in Waits a x (length s'.frees) s') (sym is.reply)
+    (subst (λ (c : Call). let s' = changed f c Freed s in Waits a x (length s'.frees) s') (sym is.call)
     (waits_start s a f.draws.w0 x (at a s.live) f.choices.released live small allows.release))
 
 -- no given block meets one in quarantine

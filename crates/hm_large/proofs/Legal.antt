@@ -19,9 +19,9 @@ use Rattle.hm_sizes.specs.Sizes.{raised}
 use Rattle.hm_sizes.proofs.LargeSizes.{large_sizes}
 use Rattle.hm_sizes.specs.declared.config.Config.{Config}
 use Rattle.hm_large.specs.Blocks.{Block, Blocks, size_for, new_block, is_quarantined, spans, covers, how_many, covered, overlay, written_over, mark, marked}
-use Rattle.hm_large.specs.State.{State, start, step, moved, takes_back, releases, free_of}
+use Rattle.hm_large.specs.State.{State, start, step, changed, takes_back, releases, free_of}
 use Rattle.hm_large.specs.Rules.{Terms, Allows, Allowed, Asks, state, taken, IsCandidate}
-use Rattle.hm_large.specs.Laws.{IsPlaced, IsSound, Sound, Prefixes, OneMore, OneLess, Apart}
+use Rattle.hm_large.specs.Laws.{IsInSpace, IsSound, Sound, Prefixes, OneMore, OneLess, Apart}
 use Rattle.hm_large.proofs.BlockLists.{weight, how_many_removed, how_many_same, at_covered, times_covered, placed_at, placed_removed, placed_same, placed_overlay, placed_mark, covers_own, at_removed}
 
 -- ---- prefixes
@@ -65,7 +65,7 @@ page_aligned align a (k, le, e) h =
         let all : (a / align) * align ≡ a = omega (arith, div-add-mod' a align, none) in
         whole ((a / align) * c) (sym all ∙ (ap (λ (m : ℕ). (a / align) * m) parts ∙ sym (mul_assoc (a / align) c 4096)))
 
-pub placed_new : (c : Config) (s : State) (align asked guard a : ℕ) → asked ≤ 2 ^ 30 → IsAlignment align → IsCandidate c s align (size_for asked) guard a → IsPlaced c (a, new_block asked guard)
+pub placed_new : (c : Config) (s : State) (align asked guard a : ℕ) → asked ≤ 2 ^ 30 → IsAlignment align → IsCandidate c s align (size_for asked) guard a → IsInSpace c (a, new_block asked guard)
 placed_new c s align asked guard a most is h =
     let size = size_is asked most in
     record { from = h.from; to = h.to; aligned = page_aligned align a is h.aligned; some = size.some; pages = size.pages; most = size.most; whole = length-replicate (size_for asked) 0 }
@@ -146,15 +146,15 @@ sound_releases c s (Some b) h = record {
           | false ↦ omega (arith, covered_less test a m)
         ]
 
-sound_moved : (t : Terms) (s : State) (e : Entry) (call : Call) (reply : Reply) → Asks call → Allows t s e call reply → IsSound t.config s → IsSound t.config (moved e call reply s)
-sound_moved t s e (Allot asked align) (Given a size) asks allows h = sound_gives t.config s align asked (unwrap_or e.choices.guard 0) a asks.0 asks.1 allows.0.0.fits h
-sound_moved t s e (GiveBack a stated) PagesFailed asks allows h = sound_marked t.config s a h
-sound_moved t s e (GiveBack a stated) Freed asks allows h = sound_releases t.config _ e.choices.released (sound_takes_back t.config s a e.draws.w0 (at a s.live) refl h)
-sound_moved t s e (Fill a runs) Filled asks allows h = sound_written t.config s a (expand runs) h
-sound_moved t s e call reply asks allows h = h
+sound_changed : (t : Terms) (s : State) (e : Entry) (call : Call) (reply : Reply) → Asks call → Allows t s e call reply → IsSound t.config s → IsSound t.config (changed e call reply s)
+sound_changed t s e (Allot asked align) (Given a size) asks allows h = sound_gives t.config s align asked (unwrap_or e.choices.guard 0) a asks.0 asks.1 allows.0.0.fits h
+sound_changed t s e (GiveBack a stated) PagesFailed asks allows h = sound_marked t.config s a h
+sound_changed t s e (GiveBack a stated) Freed asks allows h = sound_releases t.config _ e.choices.released (sound_takes_back t.config s a e.draws.w0 (at a s.live) refl h)
+sound_changed t s e (Fill a runs) Filled asks allows h = sound_written t.config s a (expand runs) h
+sound_changed t s e call reply asks allows h = h
 
 pub sound_step : (t : Terms) (s : State) (e : Entry) → IsSound t.config s → Allowed t s e → IsSound t.config (step s e)
-sound_step t s e h allowed = (let k = sound_moved t s e e.call e.reply allowed.asks allowed.allows h in record { live = k.live; held = k.held; once = k.once })
+sound_step t s e h allowed = (let k = sound_changed t s e e.call e.reply allowed.asks allowed.allows h in record { live = k.live; held = k.held; once = k.once })
 
 pub sound : Sound
 sound t es legal = run_keeps step (Allowed t) (IsSound t.config) (sound_step t) start es (record { live = tt; held = tt; once = λ q. omega arith }) legal

@@ -14,7 +14,7 @@ use Rattle.hm_model.specs.Changes.{change, changes_of}
 use Rattle.hm_model.specs.Maps.{at, removed}
 use Rattle.hm_model.specs.Runs.{expand}
 use Rattle.hm_large.specs.Blocks.{Block, Blocks, size_for, mark, overlay, is_quarantined}
-use Rattle.hm_large.specs.State.{State, start, step, moved, takes_back, releases, free_of}
+use Rattle.hm_large.specs.State.{State, start, step, changed, takes_back, releases, free_of}
 use Rattle.hm_large.specs.Rules.{Terms, Allowed, Allows, Asks, state}
 use Rattle.hm_large.specs.Laws.{IsSound}
 use Rattle.hm_large.specs.LiveSizes.{LiveSizes}
@@ -65,26 +65,26 @@ same_sizes : (f : ℕ × Block → ℕ × Block) → ((e : ℕ × Block) → siz
 same_sizes f h [] = refl
 same_sizes f h (x ∷ m) = λ i. h x i ∷ same_sizes f h m i
 
-moved_sizes : (t : Terms) (s : State) (e : Entry) (call : Call) (reply : Reply) → Asks call → Allows t s e call reply → IsSound t.config s → resized (map size_of s.live) call reply ≡ map size_of (moved e call reply s).live
-moved_sizes t s e (Allot asked align) (Given a size) asks allows h =
+changed_sizes : (t : Terms) (s : State) (e : Entry) (call : Call) (reply : Reply) → Asks call → Allows t s e call reply → IsSound t.config s → resized (map size_of s.live) call reply ≡ map size_of (changed e call reply s).live
+changed_sizes t s e (Allot asked align) (Given a size) asks allows h =
     let fits = allows.0.0.fits in
     let none : at a s.live ≡ None = none_of (at a s.live) (not_live t.config s align (size_for asked) (unwrap_or e.choices.guard 0) a (size_is asked asks.0).some h fits) in
     λ i. (a, allows.0.1 i) ∷ absent a s.live none i
-moved_sizes t s e (GiveBack a stated) PagesFailed asks allows h = sym (same_sizes (mark a) (λ e. refl) s.live)
-moved_sizes t s e (GiveBack a stated) Freed asks allows h = sym (ap (map size_of) (released e.choices.released _) ∙ taken_back a e.draws.w0 (at a s.live) s refl)
-moved_sizes t s e (Fill a runs) Filled asks allows h = sym (same_sizes (overlay a (expand runs)) (λ e. refl) s.live)
-moved_sizes t s e (GiveBack a stated) (Given b size) asks allows h = absurd allows
-moved_sizes t s e (Measure a) (Given b size) asks allows h = absurd allows
-moved_sizes t s e (Fetch a len) (Given b size) asks allows h = absurd allows
-moved_sizes t s e (Fill a runs) (Given b size) asks allows h = absurd allows
-moved_sizes t s e call reply asks allows h = refl
+changed_sizes t s e (GiveBack a stated) PagesFailed asks allows h = sym (same_sizes (mark a) (λ e. refl) s.live)
+changed_sizes t s e (GiveBack a stated) Freed asks allows h = sym (ap (map size_of) (released e.choices.released _) ∙ taken_back a e.draws.w0 (at a s.live) s refl)
+changed_sizes t s e (Fill a runs) Filled asks allows h = sym (same_sizes (overlay a (expand runs)) (λ e. refl) s.live)
+changed_sizes t s e (GiveBack a stated) (Given b size) asks allows h = absurd allows
+changed_sizes t s e (Measure a) (Given b size) asks allows h = absurd allows
+changed_sizes t s e (Fetch a len) (Given b size) asks allows h = absurd allows
+changed_sizes t s e (Fill a runs) (Given b size) asks allows h = absurd allows
+changed_sizes t s e call reply asks allows h = refl
 
 sizes_run : (t : Terms) (s : State) (es : List Entry) → IsSound t.config s → Legal step (Allowed t) s es
     → fold listed (map size_of s.live) (changes_of es) ≡ map size_of (run step (Allowed t) s es).live
 sizes_run t s [] h legal = refl
 sizes_run t s (e ∷ es) h legal =
     fold-append listed (map size_of s.live) (change e.call e.reply) (changes_of es)
-    ∙ (ap (λ (m : List (ℕ × ℕ)). fold listed m (changes_of es)) (moved_sizes t s e e.call e.reply legal.0.asks legal.0.allows h)
+    ∙ (ap (λ (m : List (ℕ × ℕ)). fold listed m (changes_of es)) (changed_sizes t s e e.call e.reply legal.0.asks legal.0.allows h)
     ∙ sizes_run t (step s e) es (sound_step t s e h legal.0) legal.1)
 
 size_at_block : (a : ℕ) (m : Blocks) → at a (map size_of m) ≡ option_map (λ (b : Block). b.size) (at a m)

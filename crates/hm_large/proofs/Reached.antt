@@ -22,14 +22,14 @@ use Rattle.hm_model.proofs.Lists.{same_eq, other_eq, eq_same}
 use Rattle.hm_model.proofs.Overlaid.{overlaid_apart, overlaid_written}
 use Rattle.hm_outside.specs.declared.pages.Pages as pages
 use Rattle.hm_base.specs.Lists.{written}
-use Rattle.hm_outside.specs.PageRuns.{PageRuns, Reads, Writes, InNone, IsHeld}
+use Rattle.hm_outside.specs.PageRuns.{PageRuns, Reads, Writes, IsHeld}
 use Rattle.hm_sizes.specs.declared.config.Config.{Config}
 use Rattle.hm_large.specs.declared.store.Store.{Store}
 use Rattle.hm_large.specs.declared.access.Reading.{Reading}
 use Rattle.hm_large.specs.declared.access.Reading.TheVariants as reading
 use Rattle.hm_large.specs.Access.{fetch_reply, fill_reply, IsRead, AreDisjoint}
 use Rattle.hm_large.specs.Blocks.{Block, Blocks, covers, covered, is_quarantined, is_owed, first_trap, bytes_read, overlay, written_over, mark}
-use Rattle.hm_large.specs.State.{State, start, step, moved, takes_back, releases, free_of}
+use Rattle.hm_large.specs.State.{State, start, step, changed, takes_back, releases, free_of}
 use Rattle.hm_large.specs.Rules.{Allowed, state}
 use Rattle.hm_large.specs.Draws.{Drawn, EntryDraws}
 use Rattle.hm_large.specs.Laws.{IsSound}
@@ -63,22 +63,23 @@ guarded_freed s a word (Some x) r h = out r (is_quarantined x)
     out (Some b) true = guarded_removed a s.live h
     out (Some b) false = guarded_removed a s.live h
 
-guarded_moved : (n : ℕ) (s : State) (e : Entry) (c : Call) (r : Reply) → AreGuarded s.live → EntryDraws n s e c r → AreGuarded (moved e c r s).live
-guarded_moved n s e (call.Allot asked align) (reply.Given a size) h draws = (omega (arith, ap (λ (o : Option ℕ). unwrap_or o 0) draws.1), h)
-guarded_moved n s e (call.GiveBack a stated) reply.PagesFailed h draws = guarded_same (mark a) (λ e. refl) s.live h
-guarded_moved n s e (call.GiveBack a stated) reply.Freed h draws = guarded_freed s a e.draws.w0 (at a s.live) e.choices.released h
-guarded_moved n s e (call.Fill a runs) reply.Filled h draws = guarded_same (overlay a (expand runs)) (λ e. refl) s.live h
-guarded_moved n s e c r h draws = h
+-- an entry leaves each live block a guard
+pub guarded_changed : (n : ℕ) (s : State) (e : Entry) (c : Call) (r : Reply) → AreGuarded s.live → EntryDraws n s e c r → AreGuarded (changed e c r s).live
+guarded_changed n s e (call.Allot asked align) (reply.Given a size) h draws = (omega (arith, ap (λ (o : Option ℕ). unwrap_or o 0) draws.1), h)
+guarded_changed n s e (call.GiveBack a stated) reply.PagesFailed h draws = guarded_same (mark a) (λ e. refl) s.live h
+guarded_changed n s e (call.GiveBack a stated) reply.Freed h draws = guarded_freed s a e.draws.w0 (at a s.live) e.choices.released h
+guarded_changed n s e (call.Fill a runs) reply.Filled h draws = guarded_same (overlay a (expand runs)) (λ e. refl) s.live h
+guarded_changed n s e c r h draws = h
 
 pub kept_guarded : {P : Type 0} (meaning : pages.Ghosts P) (p : P) (c : Config) (n : ℕ) (es : List Entry) (k : Store) → IsKept meaning p c n es k → AreGuarded (state (terms_of c (meaning.told p)) es).live
 kept_guarded meaning p c n es k h =
     subst (λ (s : State). AreGuarded s.live) (run_same (Drawn n) (Allowed (terms_of c (meaning.told p))) start es)
-    (run_keeps step (Drawn n) (λ s. AreGuarded s.live) (λ s e g draws. guarded_moved n s e e.call e.reply g draws) start es tt h.drawn)
+    (run_keeps step (Drawn n) (λ s. AreGuarded s.live) (λ s e g draws. guarded_changed n s e e.call e.reply g draws) start es tt h.drawn)
 
 -- ---- reading
 -- a run that is there is that of a block
-run_of : (live : Blocks) (runs : PageRuns) (a : ℕ) (bytes : List ℕ) → HoldsBlocks live runs → finite.get runs a ≡ Some bytes → (x : Block) × (at a live ≡ Some x) × (x.bytes ≡ bytes)
-run_of live runs a bytes holds is = by_block (at a live) refl (sym (holds a) ∙ is)
+page_run_of : (live : Blocks) (runs : PageRuns) (a : ℕ) (bytes : List ℕ) → HoldsBlocks live runs → finite.get runs a ≡ Some bytes → (x : Block) × (at a live ≡ Some x) × (x.bytes ≡ bytes)
+page_run_of live runs a bytes holds is = by_block (at a live) refl (sym (holds a) ∙ is)
   where
     by_block : (o : Option Block) → at a live ≡ o → option_map (λ (b : Block). b.bytes) (at a live) ≡ Some bytes → (x : Block) × (at a live ≡ Some x) × (x.bytes ≡ bytes)
     by_block None e f = absurd (none-some bytes (sym (ap (option_map (λ (b : Block). b.bytes)) e) ∙ f))
@@ -87,7 +88,7 @@ run_of live runs a bytes holds is = by_block (at a live) refl (sym (holds a) ∙
 -- what the pages read is what the blocks have
 pub reads_blocks : (c : Config) (s : State) (runs : PageRuns) (a len : ℕ) (w : List ℕ) → IsSound c s → HoldsBlocks s.live runs → Reads runs a len w → (first_trap s.live a len ≡ None) × (w ≡ bytes_read s.live a len)
 reads_blocks c s runs a len w sound holds r =
-    let x = run_of s.live runs r.first r.bytes holds r.is_run in
+    let x = page_run_of s.live runs r.first r.bytes holds r.is_run in
     let size : length r.bytes ≡ x.0.size = ap length (sym x.2) ∙ (placed_at c r.first x.0 s.live sound.live x.1).whole in
     let once = λ (k : ℕ). (let o : covered k s.live ≤ 1 = omega (arith, sound.once k) in o) in (
       no_trap s.live a len (λ k l h. ap is_some (byte_there c s.live r.first k x.0 sound.live (once k) x.1 (omega (arith, r.lies.from)) (omega (arith, r.lies.to, size)))),
@@ -99,14 +100,11 @@ pub held_by_none : (c : Config) (s : State) (runs : PageRuns) (q len : ℕ) → 
 held_by_none c s runs q len sound holds some none a x e low high =
     none (a, x.bytes, holds a ∙ ap (option_map (λ (b : Block). b.bytes)) e, record { some = some; from = low; to = omega (arith, high, (placed_at c a x s.live sound.live e).whole) })
 
-pub in_none_held : (runs : PageRuns) (q len : ℕ) → InNone runs q len → IsHeld runs q len → ⊥
-in_none_held runs q len none h = none h.0 h.1 h.2 h.3
-
 -- no two runs meet, as no two blocks do
 pub disjoint_blocks : (c : Config) (s : State) (runs : PageRuns) → IsSound c s → HoldsBlocks s.live runs → AreDisjoint runs
 disjoint_blocks c s runs sound holds p q b d first second ne =
-    let x = run_of s.live runs p b holds first in
-    let y = run_of s.live runs q d holds second in
+    let x = page_run_of s.live runs p b holds first in
+    let y = page_run_of s.live runs q d holds second in
     let long : length b ≡ x.0.size = ap length (sym x.2) ∙ (placed_at c p x.0 s.live sound.live x.1).whole in
     let long' : length d ≡ y.0.size = ap length (sym y.2) ∙ (placed_at c q y.0 s.live sound.live y.1).whole in
     ⊎_elim
@@ -140,7 +138,7 @@ writes_blocks c s runs after a w sound holds h q =
     ∙ (⊎_elim here there (cases_eq h.first q) ∙ sym (ap (option_map (λ (b : Block). b.bytes)) (at_overlaid q a w s.live)))))
   where
     x : (x : Block) × (at h.first s.live ≡ Some x) × (x.bytes ≡ h.bytes)
-    x = run_of s.live runs h.first h.bytes holds h.is_run
+    x = page_run_of s.live runs h.first h.bytes holds h.is_run
 
     size : length h.bytes ≡ x.0.size
     size = ap length (sym x.2) ∙ (placed_at c h.first x.0 s.live sound.live x.1).whole

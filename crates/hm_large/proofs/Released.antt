@@ -23,7 +23,7 @@ use Rattle.hm_large.specs.declared.store.Store.{Store}
 use Rattle.hm_large.specs.Blocks.{Block, Blocks, is_quarantined, covers, covered, owed, is_owed}
 use Rattle.hm_large.specs.State.{State, takes_back, releases, free_of, array_length, ring_length}
 use Rattle.hm_large.specs.Rules.{taken, ReleasesFrom}
-use Rattle.hm_large.specs.Laws.{IsPlaced, IsSound}
+use Rattle.hm_large.specs.Laws.{IsInSpace, IsSound}
 use Rattle.hm_large.specs.Draws.{word_after}
 use Rattle.hm_large.specs.Kept.{kept_of, kept_or, kept_at, IsOpen, Shows}
 use Rattle.hm_large.specs.BlockTable.{Updates}
@@ -36,7 +36,7 @@ use Rattle.hm_large.proofs.Places.{FreeIsOpen, in_space_from, within_spans, span
 -- ---- a range that can be put back
 module _ (c : Config) (s : State) (space : FreeSpace) (a : ℕ) (x : Block) where
   -- the block is one of those that are taken
-  pub goes_back : (kept : Bool) → IsValid c → IsPlaced c (a, x) → FreeIsOpen c s space → 1 ≤ space.out → ((q : ℕ) → covers q (a, x) ≡ true → 1 ≤ taken s q) → GoesBack space a (kept_of kept x)
+  pub goes_back : (kept : Bool) → IsValid c → IsInSpace c (a, x) → FreeIsOpen c s space → 1 ≤ space.out → ((q : ℕ) → covers q (a, x) ≡ true → 1 ≤ taken s q) → GoesBack space a (kept_of kept x)
   goes_back kept valid placed free out taken_there = record {
     some = placed.some;
     most = placed.most;
@@ -49,7 +49,7 @@ module _ (c : Config) (s : State) (space : FreeSpace) (a : ℕ) (x : Block) wher
   }
 
 -- once it is back, just its addresses are open as well
-pub open_back : (c : Config) (s after : State) (old new : FreeSpace) (a : ℕ) (x : Block) → IsPlaced c (a, x) → ((q : ℕ) → taken after q + weight (covers q (a, x)) ≡ taken s q) → ((q : ℕ) → taken s q ≤ 1)
+pub open_back : (c : Config) (s after : State) (old new : FreeSpace) (a : ℕ) (x : Block) → IsInSpace c (a, x) → ((q : ℕ) → taken after q + weight (covers q (a, x)) ≡ taken s q) → ((q : ℕ) → taken s q ≤ 1)
     → FreeIsOpen c s old → GivesRange old new (a - 4096 * x.guard) (x.size + 2 * (4096 * x.guard)) → FreeIsOpen c after new
 open_back c s after old new a x placed less once free gives q = (λ f. to ((gives q).0 f), λ o. (gives q).1 (from o (cases_Bool (covers q (a, x)))))
   where

@@ -33,9 +33,6 @@ record Follows (seed : ℕ) (t : Terms) (s : State) (e : Entry) (call : Call) (r
 least_order : (a b : ℕ) → a ≤ b → b ≤ a → a ≡ b
 least_order a b h g = omega arith
 
-is_there : {X : Type 0} (o : Option X) → o ≡ None → is_some o ≡ true → ⊥
-is_there o e h = true≢false (sym h ∙ ap is_some e)
-
 module _ (seed : ℕ) (t : Terms) (s : State) (told : IsTrue t.told) (e f : Entry) where
   -- nothing is chosen or drawn
   plain : (r q : Reply) → r ≡ q → e.choices ≡ no_choices → f.choices ≡ no_choices → e.draws ≡ no_words → f.draws ≡ no_words → Agree e f r q
@@ -89,9 +86,6 @@ module _ (seed : ℕ) (t : Terms) (s : State) (told : IsTrue t.told) (e f : Entr
         record { replies = replies r q same flag x y; choices = same; draws = drawn_word e r x ∙ sym (drawn_word f q y) }
 
   -- ---- giving back
-  no_block : (a : ℕ) → at a s.live ≡ None → has a s.live ≡ true → ⊥
-  no_block a none h = is_there (at a s.live) none h
-
   some_wrong : (a : ℕ) (stated : Option ℕ) (w : ℕ × ℕ) → wrong_size (at a s.live) stated ≡ Some w → has a s.live ≡ false → ⊥
   some_wrong a stated w h g = of (at a s.live) h g
     where

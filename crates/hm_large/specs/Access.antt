@@ -4,6 +4,7 @@ use Rattle.std.specs.FinMap as map
 use Rattle.hm_model.specs.declared.entry.Reply.{Reply}
 use Rattle.hm_model.specs.declared.entry.Reply.TheVariants as reply
 use Rattle.hm_model.specs.Runs.{expand}
+use Rattle.hm_outside.specs.declared.pages.Pages as pages
 use Rattle.hm_outside.specs.PageRuns.{PageRuns}
 use Rattle.hm_large.specs.declared.access.Reading.{Reading}
 use Rattle.hm_large.specs.declared.access.Reading.TheVariants as reading
@@ -24,7 +25,12 @@ abbrev pub IsRead : Blocks → ℕ → ℕ → Reading → Type 0
 IsRead live addr len (reading.Bytes runs) = (first_trap live addr len ≡ None) × (expand runs ≡ bytes_read live addr len)
 IsRead live addr len (reading.Trap q) = first_trap live addr len ≡ Some q
 
--- no address is in two runs
+-- the pages are as before, but for their runs and bytes
+pub record SameButPageRuns {P : Type 0} (meaning : pages.Ghosts P) (before now : P) : Type 0 where
+  pub told : meaning.told now ≡ meaning.told before
+  pub count : meaning.faults now ≡ meaning.faults before
+
+-- no address is in two page runs
 abbrev pub AreDisjoint : PageRuns → Type 0
 AreDisjoint runs = (p q : ℕ) (b d : List ℕ) → map.get runs p ≡ Some b → map.get runs q ≡ Some d → p ≢ q
     → (p + length b ≤ q) ⊎ (q + length d ≤ p)

@@ -23,7 +23,7 @@ OneLess = (t : Terms) (es : List Entry) (e : Entry) → IsLegal t (es ++ e ∷ [
 
 -- ---- where blocks lie
 -- the block is whole pages, has all its bytes, and lies with its guards in the large space
-pub record IsPlaced (c : Config) (e : ℕ × Block) : Type 0 where
+pub record IsInSpace (c : Config) (e : ℕ × Block) : Type 0 where
   pub from : large_start + 4096 * e.1.guard ≤ e.0
   pub to : e.0 + e.1.size + 4096 * e.1.guard ≤ large_start + c.large_space
   pub aligned : e.0 % 4096 ≡ 0
@@ -32,13 +32,13 @@ pub record IsPlaced (c : Config) (e : ℕ × Block) : Type 0 where
   pub most : e.1.size ≤ 2 ^ 30
   pub whole : length e.1.bytes ≡ e.1.size
 
-abbrev pub ArePlaced : Config → Blocks → Type 0
-ArePlaced c [] = ⊤
-ArePlaced c (e ∷ blocks) = IsPlaced c e × ArePlaced c blocks
+abbrev pub AreInSpace : Config → Blocks → Type 0
+AreInSpace c [] = ⊤
+AreInSpace c (e ∷ blocks) = IsInSpace c e × AreInSpace c blocks
 
 pub record IsSound (c : Config) (s : State) : Type 0 where
-  pub live : ArePlaced c s.live
-  pub held : ArePlaced c s.held
+  pub live : AreInSpace c s.live
+  pub held : AreInSpace c s.held
   -- no address is in two live blocks or blocks in quarantine, or their guards
   pub once : (q : ℕ) → taken s q ≤ 1
 

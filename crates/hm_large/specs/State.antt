@@ -52,13 +52,13 @@ abbrev pub releases : Option ℕ → State → State
 releases None s = s
 releases (Some b) s = record s { held = removed b s.held }
 
-abbrev pub moved : Entry → Call → Reply → State → State
-moved e (Allot asked align) (Given a size) s =
+abbrev pub changed : Entry → Call → Reply → State → State
+changed e (Allot asked align) (Given a size) s =
     record s { live = (a, new_block asked (unwrap_or e.choices.guard 0)) ∷ s.live }
-moved e (GiveBack a stated) PagesFailed s = record s { live = marked a s.live }
-moved e (GiveBack a stated) Freed s = releases e.choices.released (takes_back a e.draws.w0 (at a s.live) s)
-moved e (Fill a runs) Filled s = record s { live = written_over a (expand runs) s.live }
-moved e call reply s = s
+changed e (GiveBack a stated) PagesFailed s = record s { live = marked a s.live }
+changed e (GiveBack a stated) Freed s = releases e.choices.released (takes_back a e.draws.w0 (at a s.live) s)
+changed e (Fill a runs) Filled s = record s { live = written_over a (expand runs) s.live }
+changed e call reply s = s
 
 abbrev pub step : State → Entry → State
-step s e = record (moved e e.call e.reply s) { words = e.draws.used + s.words; faults = e.faults_after }
+step s e = record (changed e e.call e.reply s) { words = e.draws.used + s.words; faults = e.faults_after }

@@ -1,33 +1,29 @@
 -- What allotting and giving back change in the store.
-use Rattle.std.specs.Prelude.{◌≡◌, ℕ, zero, suc, ◌+◌, ◌*◌, ◌-◌, ◌^◌, ◌<◌, ◌≤◌, Bool, false, IsTrue, ◌∷◌, Option, Some, None}
+use Rattle.std.specs.Prelude.{◌≡◌, ℕ, zero, suc, ◌+◌, ◌*◌, ◌-◌, ◌%◌, ◌^◌, ◌<◌, ◌≤◌, ◌⊎◌, Bool, false, IsTrue, ◌∷◌, Option, Some, None, Result, Ok, Err, IfSome}
 use Rattle.std.specs.FinMap as map
 use Rattle.hm_outside.specs.declared.pages.Pages as pages
 use Rattle.hm_base.specs.Lists.{zeros}
-use Rattle.hm_outside.specs.PageRuns.{PageRuns}
+use Rattle.hm_outside.specs.PageRuns.{PageRuns, MeetsNone}
 use Rattle.std.specs.Bool.{MatchBool}
 use Rattle.hm_model.specs.Maps.{at}
 use Rattle.hm_quarantine.specs.LookingBack.{released}
-use Rattle.hm_space.specs.Space.{FreeSpace, MeetsNoFree, GivesRange}
+use Rattle.hm_space.specs.Space.{FreeSpace, IsFreeRange, TakesRange, MeetsNoFree, GivesRange}
 use Rattle.hm_sizes.specs.Configs.{IsValid}
 use Rattle.hm_sizes.specs.declared.config.Config.{Config}
 use Rattle.hm_region_table.specs.declared.entry.Block.{Block as KeptBlock}
+use Rattle.hm_region_table.specs.Table.{Table}
 use Rattle.hm_large.specs.declared.store.Store.{Store}
 use Rattle.hm_model.specs.declared.entry.Reply.{Reply}
 use Rattle.hm_model.specs.declared.entry.Reply.TheVariants as reply
 use Rattle.hm_model.specs.declared.entry.Draws.{Draws}
 use Rattle.hm_model.specs.Calls.{no_words, one_word}
-use Rattle.hm_large.specs.declared.judge.Refusal.{Refusal}
-use Rattle.hm_large.specs.declared.judge.Refusal.TheVariants as refusal
-use Rattle.hm_large.specs.declared.judge.Verdict.{Verdict}
-use Rattle.hm_large.specs.declared.judge.Verdict.TheVariants as verdict
 use Rattle.hm_large.specs.declared.release.Freeing.{Freeing}
 use Rattle.hm_large.specs.declared.allot.Attempt.{Attempt}
-use Rattle.hm_large.specs.declared.allot.Outcome.{Outcome}
-use Rattle.hm_large.specs.declared.allot.Outcome.TheVariants as outcome
 use Rattle.hm_large.specs.Blocks.{Block, Blocks, size_for, new_block, guard_of, is_quarantined, byte_at}
 use Rattle.hm_large.specs.State.{State, takes_back, releases, free_of, array_length, ring_length}
 use Rattle.hm_large.specs.Rules.{IsCandidate, IsLeastCandidate, Releases, wrong_size}
 use Rattle.hm_large.specs.Draws.{word_after}
+use Rattle.hm_large.specs.BlockTable.{Updates}
 use Rattle.hm_large.specs.Laws.{IsSound}
 use Rattle.hm_large.specs.Region.{HoldsBlocks}
 use Rattle.hm_large.specs.Kept.{kept_of, Shows}
@@ -40,47 +36,92 @@ pub record SameStore (old new : Store) : Type 0 where
   pub quarantine : new.quarantine ≡ old.quarantine
   pub owed_same : new.owed ≡ old.owed
 
+-- the range of a block, with its guards, is free
+pub record IsFreeFor (space : FreeSpace) (a size guard : ℕ) : Type 0 where
+  pub some : 1 ≤ size
+  pub most : size ≤ 2 ^ 30
+  pub narrow : guard ≤ 2 ^ 32
+  pub front : 4096 * guard ≤ a
+  pub free : IsFreeRange space (a - 4096 * guard) (size + 2 * (4096 * guard))
+
+-- it was taken out, for one more block
+pub record TakesOut (old new : Store) (a size guard : ℕ) : Type 0 where
+  pub taken : TakesRange old.space new.space (a - 4096 * guard) (size + 2 * (4096 * guard))
+  pub out : new.space.out ≡ old.space.out + 1
+  pub owed_more : new.owed ≡ old.owed + 1
+  pub others : new ≡ record old { space = new.space; owed = new.owed }
+
+-- the pages of a block can be made accessible
+pub record CanOpen (told : Bool) (runs : PageRuns) (a size : ℕ) : Type 0 where
+  pub aligned : a % 4096 ≡ 0
+  pub whole : size % 4096 ≡ 0
+  pub some : 1 ≤ size
+  pub most : size ≤ 2 ^ 30
+  pub below : a + size ≤ 2 ^ 47
+  pub apart : IsTrue told → MeetsNone runs a size
+
 -- how many words were drawn once this one was
 abbrev pub words_with : Option ℕ → ℕ → ℕ
 words_with None words = words
 words_with (Some word) words = suc words
 
 module _ {P : Type 0} (meaning : pages.Ghosts P) where
-  -- the runs are as before
-  abbrev pub SameRuns : P → P → Type 0
-  SameRuns before now = IsTrue (meaning.told before) → meaning.runs now ≡ meaning.runs before
+  -- the page runs are as before
+  abbrev pub SamePageRuns : P → P → Type 0
+  SamePageRuns before now = IsTrue (meaning.told before) → meaning.runs now ≡ meaning.runs before
+
+  -- a block was put in, and its pages were made accessible
+  pub record Opens (old new : Table) (a : ℕ) (block : KeptBlock) (before now : P) : Type 0 where
+    pub put : Updates old new a (Some block)
+    pub made : IsTrue (meaning.told before)
+        → meaning.runs now ≡ map.insert (meaning.runs before) a (zeros block.size)
+
+  -- the table has what it had at each address, and the page runs are as before
+  pub record StaysShut (old new : Table) (before now : P) : Type 0 where
+    pub stays : (a : ℕ) → map.get new.blocks a ≡ map.get old.blocks a
+    pub unchanged : SamePageRuns before now
 
   -- an allotment in a state that a store shows, with the store afterwards, and the pages before and now
   module _ (c : Config) (number : ℕ) (s : State) (asked align : ℕ) (new : Store) (before now : P) where
-    -- what the outcome says of the guard and leaves
-    abbrev pub Ends : ℕ → Outcome → Type 0
-    Ends guard (outcome.Given addr) =
+    -- what is left where a block was given at addr, where no place was found, and where a page failed
+    abbrev pub LeavesGiven : ℕ → ℕ → Type 0
+    LeavesGiven guard addr =
         IsLeastCandidate c s align (size_for asked) guard addr
         × Shows c number (record s { live = (addr, new_block asked guard) ∷ s.live; words = suc s.words }) new
         × (IsTrue (meaning.told before)
         → meaning.runs now ≡ map.insert (meaning.runs before) addr (zeros (size_for asked)))
         × (meaning.faults before ≤ meaning.faults now)
-    Ends guard outcome.NoSpace =
+
+    abbrev pub LeavesNoSpace : ℕ → Type 0
+    LeavesNoSpace guard =
         ((a : ℕ) → IsCandidate c s align (size_for asked) guard a → ⊥)
         × Shows c number (record s { words = suc s.words }) new
-        × SameRuns before now
+        × SamePageRuns before now
         × (meaning.faults now ≡ meaning.faults before)
-    Ends guard outcome.PagesFailed =
+
+    abbrev pub LeavesPagesFailed : ℕ → Type 0
+    LeavesPagesFailed guard =
         ((a : ℕ) × IsCandidate c s align (size_for asked) guard a)
         × Shows c number (record s { words = suc s.words }) new
-        × SameRuns before now
+        × SamePageRuns before now
         × (meaning.faults before < meaning.faults now)
+
+    -- the replies that an attempt may have, each with what it leaves
+    abbrev pub Ends : ℕ → Reply → Type 0
+    Ends guard r = ((addr : ℕ) × (r ≡ reply.Given addr (size_for asked)) × LeavesGiven guard addr)
+        ⊎ (((r ≡ reply.NoSpace) × LeavesNoSpace guard)
+        ⊎ ((r ≡ reply.PagesFailed) × LeavesPagesFailed guard))
 
     -- the next word was drawn, and the guard by it
     pub record Allots (attempt : Attempt) : Type 0 where
       pub word : attempt.word ≡ word_after number s.words
       pub guard : attempt.guard ≡ guard_of (size_for asked) attempt.word
-      pub ends : Ends attempt.guard attempt.outcome
+      pub ends : Ends attempt.guard attempt.reply
 
   -- nothing was changed, but for room
   pub record Declines (c : Config) (number : ℕ) (s : State) (new : Store) (before now : P) : Type 0 where
     pub shows : Shows c number s new
-    pub runs_are : SameRuns before now
+    pub runs_are : SamePageRuns before now
     pub count : meaning.faults now ≡ meaning.faults before
 
 -- there is a state that the pages and the store show
@@ -108,6 +149,12 @@ pub record GaveBack (old new : FreeSpace) (a : ℕ) (b : KeptBlock) : Type 0 whe
   pub ranges : GivesRange old new (a - 4096 * b.guard) (b.size + 2 * (4096 * b.guard))
   pub out_less : new.out + 1 ≡ old.out
 
+-- the block at a was taken out of the table, and its range put back, if there was one
+pub record PutsBack (old new : Store) (a : ℕ) : Type 0 where
+  pub blocks_are : Updates old.blocks new.blocks a None
+  pub gave : IfSome (map.get old.blocks.blocks a) (GaveBack old.space new.space a)
+  pub others : new ≡ record old { blocks = new.blocks; space = new.space }
+
 -- the block at a is live in a state that the store shows
 pub record StandsLive (k : Store) (a : ℕ) (b : KeptBlock) : Type 0 where
   pub config : Config
@@ -131,23 +178,17 @@ pub record Frees (c : Config) (number : ℕ) (s : State) (a : ℕ) (x : Block) (
   pub shows : Shows c number (record (releases freeing.released (takes_back a (word_after number s.words) (Some x) s))
       { words = words_with freeing.word s.words }) new
 
--- what is said of a block that is given back
-abbrev pub Judges : State → ℕ → Option ℕ → Verdict → Type 0
-Judges s a stated (verdict.Refused refusal.NotLive) = at a s.live ≡ None
-Judges s a stated (verdict.Refused (refusal.WrongSize block other)) =
-    wrong_size (at a s.live) stated ≡ Some (block, other)
-Judges s a stated (verdict.Live k) =
+-- the replies of a free that is refused: there is no live block, or the stated size is not its own
+abbrev pub Refuses : State → ℕ → Option ℕ → Reply → Type 0
+Refuses s a stated r = ((r ≡ reply.NotLive) × (at a s.live ≡ None))
+    ⊎ ((block other : ℕ) × (r ≡ reply.WrongSize block other)
+    × (wrong_size (at a s.live) stated ≡ Some (block, other)))
+
+-- the live block that is given back, or the reply of a free that is refused
+abbrev pub Judges : State → ℕ → Option ℕ → Result KeptBlock Reply → Type 0
+Judges s a stated (Ok k) =
     (x : Block) × (at a s.live ≡ Some x) × (k ≡ kept_of false x) × (wrong_size (at a s.live) stated ≡ None)
-
-abbrev pub refused_reply : Refusal → Reply
-refused_reply refusal.NotLive = reply.NotLive
-refused_reply (refusal.WrongSize block stated) = reply.WrongSize block stated
-
--- the reply to an attempt
-abbrev pub attempt_reply : ℕ → Outcome → Reply
-attempt_reply asked (outcome.Given addr) = reply.Given addr (size_for asked)
-attempt_reply asked outcome.NoSpace = reply.NoSpace
-attempt_reply asked outcome.PagesFailed = reply.PagesFailed
+Judges s a stated (Err r) = Refuses s a stated r
 
 abbrev pub free_draws : Option ℕ → Draws
 free_draws None = no_words

@@ -1,52 +1,40 @@
 //! Allotting a large block: its guard is drawn, the lowest place that fits is found, and its pages are made
 //! accessible.
-ghost use Rattle.std.specs.Prelude.{◌≡◌, ◌+◌, ◌-◌, ◌*◌, ◌%◌, ◌^◌, ◌<◌, ◌≤◌, ℕ, IsTrue, false, IfOk, OnOk, OnErr, Some, None};
-ghost use Rattle.std.specs.FinMap as map;
+ghost use Rattle.std.specs.Prelude.{◌≡◌, ◌+◌, ◌^◌, ◌<◌, ◌≤◌, ℕ, IfOk, OnOk, OnErr};
 ghost use Rattle.hm_choice.specs.Stream.{next_word, after_word};
-ghost use Rattle.hm_base.specs.Lists.{zeros};
-ghost use Rattle.hm_outside.specs.PageRuns.{MeetsNone};
 ghost use Rattle.hm_outside.specs.Causes.{HasRefusalCause};
-ghost use Rattle.hm_space.specs.Space.{IsFreeRange, TakesRange};
-ghost use Rattle.hm_sizes.specs.Aligned.{IsAlignment};
+ghost use Rattle.hm_model.specs.declared.entry.Call.TheVariants.{Allot};
+ghost use Rattle.hm_sizes.specs.Laws.{IsLargeSize};
+ghost use Rattle.hm_sizes.specs.Sizes.{raised as spec_raised};
 ghost use Rattle.hm_sizes.specs.declared.config.Config.{Config};
 ghost use Rattle.hm_large.specs.Blocks.{size_for, guard_of};
 ghost use Rattle.hm_large.specs.State.{State};
-ghost use Rattle.hm_large.specs.BlockTable.{Updates};
+ghost use Rattle.hm_large.specs.BlockTable.{CanAdd};
+ghost use Rattle.hm_large.specs.Rules.{Asks};
 ghost use Rattle.hm_large.specs.Kept.{Shows};
-ghost use Rattle.hm_large.specs.Stored.{SameStore, Allots, Declines, Stands};
-ghost use Rattle.hm_region_table.specs.declared.entry.Block.{Block as KeptBlock};
+ghost use Rattle.hm_large.specs.Stored.{SameStore, CanOpen, Opens, StaysShut, IsFreeFor, TakesOut, Allots, Declines, Stands};
 
 use crate::block_table::BlockTable;
 use crate::store::{Store, span};
 use hm_base::NoMemory;
+use hm_model::Reply;
 use hm_outside::{PageRefusal, Pages};
 use hm_region_table::Block as KeptBlock;
 use hm_sizes::{PAGE, large_size, raised};
 
-/// What came of allotting.
-#[derive(Clone, Copy, Debug, Drop)]
-pub enum Outcome {
-    /// A block was given at this address.
-    Given(u64),
-    NoSpace,
-    PagesFailed,
-}
-
-/// The word that was drawn, the pages of the guard, and what came of it.
-#[derive(Clone, Copy, Debug, Drop)]
+/// The word that was drawn, the pages of the guard, and the reply.
+#[derive(Debug, Drop)]
 pub struct Attempt {
     pub word: u32,
     pub guard: u64,
-    pub outcome: Outcome,
+    pub reply: Reply,
 }
 
 /// The size of the block for a request.
 pub fn size_of_block(asked: u64) -> u64
     requires { asked ≤ 2 ^ 30 }
     ensures value { result ≡ size_for asked }
-    ensures some { 1 ≤ result }
-    ensures pages { result % 4096 ≡ 0 }
-    ensures most { result ≤ 2 ^ 30 }
+    ensures fits { IsLargeSize (spec_raised asked) result }
 {
     large_size(raised(asked))
 }
@@ -82,21 +70,11 @@ fn open<P: Pages>(
     addr: u64,
     block: KeptBlock,
 ) -> Result<(), PageRefusal>
-    requires fresh { map.get blocks.old.blocks addr ≡ None }
-    requires room { 1 ≤ blocks.old.spare }
-    requires live { block.held ≡ false }
-    requires aligned { addr % 4096 ≡ 0 }
-    requires whole { block.size % 4096 ≡ 0 }
-    requires some { 1 ≤ block.size }
-    requires most { block.size ≤ 2 ^ 30 }
-    requires below { addr + block.size ≤ 2 ^ 47 }
-    requires apart { IsTrue (P.told pages.old) → MeetsNone (P.runs pages.old) addr block.size }
-    ensures put { OnOk result (Updates blocks.old blocks.new addr (Some block)) }
-    ensures stays { OnErr result ((a : ℕ) → map.get blocks.new.blocks a ≡ map.get blocks.old.blocks a) }
+    requires block { CanAdd blocks.old addr block }
+    requires pages { CanOpen (P.told pages.old) (P.runs pages.old) addr block.size }
+    ensures ok { OnOk result (Opens P.Pages blocks.old blocks.new addr block pages.old pages.new) }
+    ensures err { OnErr result (StaysShut P.Pages blocks.old blocks.new pages.old pages.new) }
     ensures told { P.told pages.new ≡ P.told pages.old }
-    ensures made { OnOk result (IsTrue (P.told pages.old)
-        → P.runs pages.new ≡ map.insert (P.runs pages.old) addr (zeros block.size)) }
-    ensures unchanged { OnErr result (IsTrue (P.told pages.old) → P.runs pages.new ≡ P.runs pages.old) }
     ensures cause { HasRefusalCause (P.faults pages.old) (P.faults pages.new) result }
 {
     blocks.insert(addr, block)?;
@@ -109,19 +87,10 @@ fn open<P: Pages>(
 
 // Takes the range of a block, with its guards, out of those that are free.
 fn take_range(store: &mut Store, addr: u64, size: u64, guard: u64)
-    requires some { 1 ≤ size }
-    requires most { size ≤ 2 ^ 30 }
-    requires guard { guard ≤ 2 ^ 32 }
-    requires front { 4096 * guard ≤ addr }
-    requires free { IsFreeRange store.old.space (addr - 4096 * guard) (size + 2 * (4096 * guard)) }
+    requires free { IsFreeFor store.old.space addr size guard }
     requires room { store.old.space.out + 2 ≤ store.old.space.spare }
     requires few { store.old.owed < 2 ^ 63 }
-    ensures taken { TakesRange store.old.space store.new.space (addr - 4096 * guard) (size + 2 * (4096 * guard)) }
-    ensures out { store.new.space.out ≡ store.old.space.out + 1 }
-    ensures owed { store.new.owed ≡ store.old.owed + 1 }
-    ensures blocks { store.new.blocks ≡ store.old.blocks }
-    ensures quarantine { store.new.quarantine ≡ store.old.quarantine }
-    ensures words { store.new.words ≡ store.old.words }
+    ensures { TakesOut store.old store.new addr size guard }
 {
     store.space.take(addr - PAGE * guard, span(size, guard));
     store.owed += 1;
@@ -134,8 +103,7 @@ pub fn allot<P: Pages>(
     asked: u64,
     align: u64,
 ) -> Result<Attempt, NoMemory>
-    requires asked { asked ≤ 2 ^ 30 }
-    requires align { IsAlignment align }
+    requires asks { Asks (Allot asked align) }
     requires few { store.old.owed < 2 ^ 63 }
     requires stands { Stands (P.told pages.old) (P.runs pages.old) store.old }
     ensures told { P.told pages.new ≡ P.told pages.old }
@@ -149,11 +117,8 @@ pub fn allot<P: Pages>(
     let size = size_of_block(asked);
     let (word, guard) = draw_guard(store, size);
     let Some(addr) = store.fit(size, guard, align) else {
-        return Ok(Attempt {
-            word,
-            guard,
-            outcome: Outcome::NoSpace,
-        });
+        let reply = Reply::NoSpace;
+        return Ok(Attempt { word, guard, reply });
     };
     let block = KeptBlock {
         asked,
@@ -162,20 +127,19 @@ pub fn allot<P: Pages>(
         held: false,
         failed: false,
     };
-    let outcome = match open(&mut store.blocks, pages, addr, block) {
+    match open(&mut store.blocks, pages, addr, block) {
         Ok(()) => {
             take_range(store, addr, size, guard);
-            Outcome::Given(addr)
+            let reply = Reply::Given { addr, usable: size };
+            Ok(Attempt { word, guard, reply })
         }
-        Err(PageRefusal::Failed) => Outcome::PagesFailed,
+        Err(PageRefusal::Failed) => {
+            let reply = Reply::PagesFailed;
+            Ok(Attempt { word, guard, reply })
+        }
         Err(PageRefusal::NoMemory) => {
             store.words.back();
-            return Err(NoMemory);
+            Err(NoMemory)
         }
-    };
-    Ok(Attempt {
-        word,
-        guard,
-        outcome,
-    })
+    }
 }

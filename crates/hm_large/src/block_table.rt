@@ -1,10 +1,10 @@
 //! The region's blocks by their addresses, and beside them the starts of the live ones in order: the block
 //! that has an address is found in logarithmic time.
-ghost use Rattle.std.specs.Prelude.{◌≡◌, ◌+◌, ◌≤◌, ℕ, false, IfOk, IsOk, OnOk, OnErr, IfSome, IfNone, IsSome, Some, None, is_some, if◌then◌else◌};
+ghost use Rattle.std.specs.Prelude.{◌≡◌, ◌+◌, ◌≤◌, ℕ, false, IfOk, IsOk, OnOk, OnErr, IsSome, Some, None, is_some, if◌then◌else◌};
 ghost use Rattle.std.specs.Ordering.{nat_cmp};
 ghost use Rattle.std.specs.BTreeMap as tree;
 ghost use Rattle.std.specs.FinMap as map;
-ghost use Rattle.hm_large.specs.BlockTable.{Updates, live_size};
+ghost use Rattle.hm_large.specs.BlockTable.{Updates, CanAdd, Adds, FindsLast, live_size};
 
 use hm_base::NoMemory;
 use hm_region_table::{Block, RegionTable};
@@ -36,10 +36,7 @@ impl Model for BlockTable {
 
 // The last of these that begins at the address or below it.
 fn last_begun(live: &BTreeMap<u64, u64>, addr: u64) -> Option<(u64, u64)>
-    ensures below { IfSome result (λ e. e.0 ≤ addr) }
-    ensures there { IfSome result (λ e. tree.get nat_cmp live.now e.0 ≡ Some e.1) }
-    ensures last { IfSome result (λ e. (q : ℕ) → q ≤ addr → IsSome (tree.get nat_cmp live.now q) → q ≤ e.0) }
-    ensures none { IfNone result ((q : ℕ) → q ≤ addr → tree.get nat_cmp live.now q ≡ None) }
+    ensures { FindsLast (tree.get nat_cmp live.now) addr result }
 {
     let (start, size) = live.range(..=addr).next_back()?;
     Some((*start, *size))
@@ -88,12 +85,9 @@ impl BlockTable {
 
     /// Adds a live block where none begins. Where there is no memory for its start the table stays.
     pub fn insert(&mut self, addr: u64, block: Block) -> Result<(), NoMemory>
-        requires fresh { map.get self.old.blocks addr ≡ None }
-        requires room { 1 ≤ self.old.spare }
-        requires live { block.held ≡ false }
-        ensures put { OnOk result (Updates self.old self.new addr (Some block)) }
-        ensures spare { OnOk result (self.new.spare + 1 ≡ self.old.spare) }
-        ensures stays { OnErr result (self.new ≡ self.old) }
+        requires { CanAdd self.old addr block }
+        ensures ok { OnOk result (Adds self.old self.new addr block) }
+        ensures err { OnErr result (self.new ≡ self.old) }
     {
         self.live.insert(addr, block.size)?;
         self.table.insert(addr, block);
@@ -126,11 +120,7 @@ impl BlockTable {
 
     /// The last live block that begins at the address or below it, and its size.
     pub fn last_live(&self, addr: u64) -> Option<(u64, u64)>
-        ensures below { IfSome result (λ e. e.0 ≤ addr) }
-        ensures there { IfSome result (λ e. live_size (map.get self.now.blocks e.0) ≡ Some e.1) }
-        ensures last { IfSome result (λ e. (q : ℕ) → q ≤ addr
-            → IsSome (live_size (map.get self.now.blocks q)) → q ≤ e.0) }
-        ensures none { IfNone result ((q : ℕ) → q ≤ addr → live_size (map.get self.now.blocks q) ≡ None) }
+        ensures { FindsLast (λ q. live_size (map.get self.now.blocks q)) addr result }
     {
         last_begun(&self.live, addr)
     }

@@ -10,6 +10,7 @@ mod heap;
 mod judge;
 mod laws;
 mod release;
+mod replies;
 mod store;
 
 pub use heap::LargeHeap;

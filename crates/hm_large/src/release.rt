@@ -9,7 +9,7 @@ ghost use Rattle.hm_large.specs.State.{State};
 ghost use Rattle.hm_large.specs.Laws.{IsSound};
 ghost use Rattle.hm_large.specs.BlockTable.{Updates, live_size};
 ghost use Rattle.hm_large.specs.Kept.{Shows};
-ghost use Rattle.hm_large.specs.Stored.{GoesBack, GaveBack, StandsLive, Frees};
+ghost use Rattle.hm_large.specs.Stored.{GoesBack, PutsBack, StandsLive, Frees};
 ghost use Rattle.hm_region_table.specs.declared.entry.Block.{Block as KeptBlock};
 
 use crate::store::{ARRAY_LENGTH, Store, span};
@@ -29,11 +29,7 @@ pub struct Freeing {
 // Takes a block out of the table, and puts its range, with its guards, back among those that are free.
 fn put_back(store: &mut Store, addr: u64)
     requires { IfSome (map.get store.old.blocks.blocks addr) (GoesBack store.old.space addr) }
-    ensures blocks { Updates store.old.blocks store.new.blocks addr None }
-    ensures space { IfSome (map.get store.old.blocks.blocks addr) (GaveBack store.old.space store.new.space addr) }
-    ensures quarantine { store.new.quarantine ≡ store.old.quarantine }
-    ensures words { store.new.words ≡ store.old.words }
-    ensures owed { store.new.owed ≡ store.old.owed }
+    ensures { PutsBack store.old store.new addr }
 {
     if let Some(block) = store.blocks.remove(addr) {
         store

@@ -15,7 +15,7 @@ use Rattle.hm_model.specs.declared.entry.Reply.TheVariants.{Given, NoSpace, Page
 use Rattle.hm_model.specs.Calls.{one_word}
 use Rattle.hm_large.specs.Blocks.{size_for, guard_of, new_block}
 use Rattle.hm_quarantine.specs.LookingBack.{ArePlaces, kept_after}
-use Rattle.hm_large.specs.State.{State, moved, array_length, ring_length}
+use Rattle.hm_large.specs.State.{State, changed, array_length, ring_length}
 use Rattle.hm_large.specs.Rules.{Allows, chose_guard, IsCandidate, IsLeastCandidate}
 use Rattle.hm_large.specs.Draws.{EntryDraws, stream_after}
 use Rattle.hm_model.specs.declared.judgement.Judgement.{Judgement}
@@ -36,8 +36,8 @@ module _ (k : LargeBook) (e : Entry) (asked align : ℕ) (reply : Reply) where
   -- one that is allowed, by the word that comes next
   pub allot_judged : (b : BlockBook) (words : Words) (size : ℕ) (j : Judgement) → size ≡ size_for asked → words ≡ after_word k.words
       → ((s : State) → Stands s k → Allows (terms_of k.config) s e (Allot asked align) reply)
-      → ((s : State) → Stands s k → ShowsBlocks k.config (moved e (Allot asked align) reply s) b)
-      → ((s : State) → ((moved e (Allot asked align) reply s).frees ≡ s.frees) × ((moved e (Allot asked align) reply s).faults ≡ s.faults))
+      → ((s : State) → Stands s k → ShowsBlocks k.config (changed e (Allot asked align) reply s) b)
+      → ((s : State) → ((changed e (Allot asked align) reply s).frees ≡ s.frees) × ((changed e (Allot asked align) reply s).faults ≡ s.faults))
       → JudgesGuard k.words e size j → Judges k e (Allot asked align) reply (record k { blocks = b; words = words }) j
   allot_judged b words size j is took allows shows same h = record { judged = λ s st. by j h s st; config_same = refl; number_same = refl }
     where
@@ -52,7 +52,7 @@ module _ (k : LargeBook) (e : Entry) (asked align : ℕ) (reply : Reply) where
         allows s st,
         to_draws s st h,
         record {
-          blocks = blocks_words k.config (moved e (Allot asked align) reply s) b (e.draws.used + s.words) (shows s st);
+          blocks = blocks_words k.config (changed e (Allot asked align) reply s) b (e.draws.used + s.words) (shows s st);
           quarantine = st.shows.quarantine ∙ ap (λ f. kept_after array_length ring_length f) (sym (same s).0);
           places = subst (ArePlaces array_length) (sym (same s).0) st.shows.places;
           words = took ∙ ap after_word st.shows.words ∙ ap (stream_after k.number) {x = suc s.words} {y = e.draws.used + s.words} (omega (arith, ap (λ (d : Draws). d.used) h.word));

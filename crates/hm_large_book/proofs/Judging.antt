@@ -7,7 +7,7 @@ use Rattle.hm_model.specs.declared.entry.Call.{Call}
 use Rattle.hm_model.specs.declared.entry.Reply.{Reply}
 use Rattle.hm_model.specs.Calls.{no_choices, no_words}
 use Rattle.hm_sizes.specs.declared.config.Config.{Config}
-use Rattle.hm_large.specs.State.{State, moved}
+use Rattle.hm_large.specs.State.{State, changed}
 use Rattle.hm_large.specs.Rules.{Allows}
 use Rattle.hm_large.specs.Draws.{EntryDraws, stream_after}
 use Rattle.hm_model.specs.declared.judgement.Judgement.{Judgement}
@@ -35,7 +35,7 @@ module _ (k new : LargeBook) (e : Entry) (call : Call) (reply : Reply) (allowed 
       → ((s : State) → Stands s k → IsTrue allowed → e.choices ≡ no_choices → Allows (terms_of k.config) s e call reply)
       → ((s : State) → EntryDraws k.number s e call reply → e.draws ≡ no_words)
       → ((s : State) → e.draws ≡ no_words → EntryDraws k.number s e call reply)
-      → ((s : State) → Stands s k → IsTrue allowed → (words : ℕ) → words ≡ s.words → Shows (record (moved e call reply s) { words = words }) new)
+      → ((s : State) → Stands s k → IsTrue allowed → (words : ℕ) → words ≡ s.words → Shows (record (changed e call reply s) { words = words }) new)
       → new.config ≡ k.config → new.number ≡ k.number → (j : Judgement) → JudgesPlain allowed e j → Judges k e call reply new j
   plain_judged legal allows from_draws to_draws shows config number j h =
       record { judged = λ s stands. by j h s stands; config_same = config; number_same = number }

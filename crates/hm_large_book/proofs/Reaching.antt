@@ -15,7 +15,7 @@ use Rattle.hm_model.proofs.Overlaid.{overlaid_apart, overlaid_written}
 use Rattle.hm_sizes.specs.declared.config.Config.{Config}
 use Rattle.hm_large.specs.Blocks.{Block, Blocks, covers, covered, byte_at, first_trap, bytes_read, overlay, written_over}
 use Rattle.hm_large.specs.State.{State}
-use Rattle.hm_large.specs.Laws.{IsPlaced, ArePlaced, IsSound}
+use Rattle.hm_large.specs.Laws.{IsInSpace, AreInSpace, IsSound}
 use Rattle.hm_large.specs.Kept.{AreGuarded}
 use Rattle.hm_large.specs.Stored.{IsLeft}
 use Rattle.hm_large.proofs.BlockLists.{weight, placed_at}
@@ -98,11 +98,11 @@ lies_at live q len i offset e lt at_i has offset_is fits some =
 
 -- ---- writing over one block
 module _ (c : Config) (a : ℕ) (w : List ℕ) (some : 1 ≤ length w) where
-  covers_byte : (y : ℕ × Block) (q : ℕ) → IsPlaced c y → y.0 ≤ q → q < y.0 + length y.1.bytes → covers q y ≡ true
+  covers_byte : (y : ℕ × Block) (q : ℕ) → IsInSpace c y → y.0 ≤ q → q < y.0 + length y.1.bytes → covers q y ≡ true
   covers_byte y q placed low high = spans_from y.0 y.1.size y.1.guard q (omega (arith, low)) (omega (arith, high, placed.whole))
 
   -- a block that has none of the addresses stays
-  over_apart : (y : ℕ × Block) → IsPlaced c y → ((q : ℕ) → a ≤ q → q < a + length w → covers q y ≡ true → ⊥) → overlay a w y ≡ y
+  over_apart : (y : ℕ × Block) → IsInSpace c y → ((q : ℕ) → a ≤ q → q < a + length w → covers q y ≡ true → ⊥) → overlay a w y ≡ y
   over_apart y placed none = ap (λ (l : List ℕ). (y.0, record y.1 { bytes = l })) (overlaid_apart a w y.0 y.1.bytes off)
     where
       off : (y.0 + length y.1.bytes ≤ a) ⊎ (a + length w ≤ y.0)
@@ -118,7 +118,7 @@ module _ (c : Config) (a : ℕ) (w : List ℕ) (some : 1 ≤ length w) where
           meets lt over (inl before) = none y.0 (omega (arith, before)) over (covers_byte y y.0 placed (omega arith) (omega (arith, placed.some, placed.whole)))
           meets lt over (inr from) = none a (omega arith) (omega (arith, some)) (covers_byte y a placed from lt)
 
-  over_none : (m : Blocks) → ArePlaced c m → ((q : ℕ) → a ≤ q → q < a + length w → covered q m ≡ 0) → map (overlay a w) m ≡ m
+  over_none : (m : Blocks) → AreInSpace c m → ((q : ℕ) → a ≤ q → q < a + length w → covered q m ≡ 0) → map (overlay a w) m ≡ m
   over_none [] placed none = refl
   over_none (y ∷ m) placed none =
       (λ i. over_apart y placed.0 (λ q low high h. (let one = ap weight h in omega (arith, one, none q low high))) i
@@ -129,13 +129,13 @@ module _ (c : Config) (a : ℕ) (w : List ℕ) (some : 1 ≤ length w) where
   covered_index q (y ∷ m) zero e is h = (let one = ap weight (ap (covers q) (same_Some y e is) ∙ h) in omega (arith, one))
   covered_index q (y ∷ m) (suc i) e is h = omega (arith, covered_index q m i e is h)
 
-  placed_index : (m : Blocks) (i : ℕ) (e : ℕ × Block) → slice_get m i ≡ Some e → ArePlaced c m → IsPlaced c e
+  placed_index : (m : Blocks) (i : ℕ) (e : ℕ × Block) → slice_get m i ≡ Some e → AreInSpace c m → IsInSpace c e
   placed_index [] i e is placed = absurd (none-some e is)
-  placed_index (y ∷ m) zero e is placed = subst (IsPlaced c) (same_Some y e is) placed.0
+  placed_index (y ∷ m) zero e is placed = subst (IsInSpace c) (same_Some y e is) placed.0
   placed_index (y ∷ m) (suc i) e is placed = placed_index m i e is placed.1
 
   -- the one block that has all the addresses is written over, and all others stay
-  pub over_one : (m : Blocks) (i : ℕ) (e : ℕ × Block) → slice_get m i ≡ Some e → ArePlaced c m → ((q : ℕ) → covered q m ≤ 1) → e.0 ≤ a → a + length w ≤ e.0 + length e.1.bytes
+  pub over_one : (m : Blocks) (i : ℕ) (e : ℕ × Block) → slice_get m i ≡ Some e → AreInSpace c m → ((q : ℕ) → covered q m ≤ 1) → e.0 ≤ a → a + length w ≤ e.0 + length e.1.bytes
       → map (overlay a w) m ≡ set m i (overlay a w e)
   over_one [] i e is placed once low high = absurd (none-some e is)
   over_one (y ∷ m) zero e is placed once low high =
@@ -159,7 +159,7 @@ written_one c s live a w p lies e new some sound is there_e made =
     let same : lies.entry ≡ e = same_Some lies.entry e (sym lies.there ∙ there_e) in
     let begins : e.0 + p.offset ≡ a = subst (λ (z : ℕ × LiveBlock). z.0 + p.offset ≡ a) same lies.begins in
     let fits : p.offset + length w ≤ length e.1.bytes.items = subst (λ (z : ℕ × LiveBlock). p.offset + length w ≤ length z.1.bytes.items) same lies.fits in
-    let placed : ArePlaced c (blocks_in live) = subst (ArePlaced c) (sym is) sound.live in
+    let placed : AreInSpace c (blocks_in live) = subst (AreInSpace c) (sym is) sound.live in
     let once : (q : ℕ) → covered q (blocks_in live) ≤ 1 = λ q. subst (λ (m : Blocks). covered q m ≤ 1) (sym is) (omega (arith, sound.once q)) in
     let got : slice_get (blocks_in live) p.block ≡ Some (block_in e) = slice_pairs block_of live p.block ∙ ap (option_map block_in) there_e in
     let over : written e.1.bytes.items p.offset w ≡ overlaid a w e.0 e.1.bytes.items = sym (overlaid_written p.offset e.0 w e.1.bytes.items (omega (arith, fits))) ∙ ap (λ (n : ℕ). overlaid n w e.0 e.1.bytes.items) begins in

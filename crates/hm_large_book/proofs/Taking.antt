@@ -14,7 +14,7 @@ use Rattle.hm_model.specs.declared.judgement.Judgement.{Judgement}
 use Rattle.hm_model.specs.declared.judgement.Judgement.TheVariants.{Taken, NotLegal, NotDrawn}
 use Rattle.hm_large_book.specs.declared.book.LargeBook.{LargeBook}
 use Rattle.hm_large_book.specs.Book.{Shows, Stands}
-use Rattle.hm_large_book.specs.Judged.{terms_of, moved_to, IsJudged, Judges, Holds}
+use Rattle.hm_large_book.specs.Judged.{terms_of, changed_to, IsJudged, Judges, Holds}
 use Rattle.hm_large_book.specs.Reached.{IsFormed, IsBookOf, IsReached, Says}
 use Rattle.hm_large_book.proofs.Guarding.{guarded}
 
@@ -29,7 +29,7 @@ stands_of c seed es k h = record {
 pub reached_holds : (k : LargeBook) → IsReached k → Holds k
 reached_holds k h = (state (terms_of h.config) h.entries, stands_of h.config h.seed h.entries k h.is)
 
-shows_step : (s : State) (e : Entry) (mid : LargeBook) → Shows (moved_to s e e.call e.reply) mid → Shows (step s e) (record mid { faults = e.faults_after })
+shows_step : (s : State) (e : Entry) (mid : LargeBook) → Shows (changed_to s e e.call e.reply) mid → Shows (step s e) (record mid { faults = e.faults_after })
 shows_step s e mid h = record {
   blocks = record { live = h.blocks.live; held = h.blocks.held; recent = h.blocks.recent; space = h.blocks.space; out = h.blocks.out };
   quarantine = h.quarantine;

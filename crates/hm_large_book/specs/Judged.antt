@@ -5,7 +5,7 @@ use Rattle.hm_model.specs.declared.entry.Call.{Call}
 use Rattle.hm_model.specs.declared.entry.Reply.{Reply}
 use Rattle.hm_model.specs.Calls.{no_choices, no_words}
 use Rattle.hm_sizes.specs.declared.config.Config.{Config}
-use Rattle.hm_large.specs.State.{State, moved}
+use Rattle.hm_large.specs.State.{State, changed}
 use Rattle.hm_large.specs.Rules.{Terms, Allows}
 use Rattle.hm_large.specs.Draws.{EntryDraws}
 use Rattle.hm_model.specs.declared.judgement.Judgement.{Judgement}
@@ -25,13 +25,13 @@ JudgesPlain allowed e NotDrawn = IsTrue allowed × (e.choices ≡ no_choices) ×
 
 -- ---- an entry by its call and its reply
 -- the state after it, but for the count of page faults
-abbrev pub moved_to : State → Entry → Call → Reply → State
-moved_to s e call reply = record (moved e call reply s) { words = e.draws.used + s.words }
+abbrev pub changed_to : State → Entry → Call → Reply → State
+changed_to s e call reply = record (changed e call reply s) { words = e.draws.used + s.words }
 
 -- it is allowed, it is drawn, and the new book shows the state after it; or which of the first two does not hold
 abbrev pub IsJudged : LargeBook → State → Entry → Call → Reply → LargeBook → Judgement → Type 0
 IsJudged old s e call reply new Taken =
-    Allows (terms_of old.config) s e call reply × EntryDraws old.number s e call reply × Shows (moved_to s e call reply) new
+    Allows (terms_of old.config) s e call reply × EntryDraws old.number s e call reply × Shows (changed_to s e call reply) new
 IsJudged old s e call reply new NotLegal = Allows (terms_of old.config) s e call reply → ⊥
 IsJudged old s e call reply new NotDrawn =
     Allows (terms_of old.config) s e call reply × (EntryDraws old.number s e call reply → ⊥)

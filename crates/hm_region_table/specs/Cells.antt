@@ -49,8 +49,8 @@ IsNotThere cells addr = (p : ℕ) (e : Entry) → At cells p e → e.addr ≢ ad
 abbrev pub HasRoom : Cells → Type 0
 HasRoom cells = (p : ℕ) × Empty cells p
 
--- the place is empty, and no cell from the key's home up to it is
-pub record IsPlaceFor (cells : Cells) (addr place : ℕ) : Type 0 where
+-- the cell is empty, and none from the key's home up to it is
+pub record IsCellFor (cells : Cells) (addr place : ℕ) : Type 0 where
   pub far : ℕ
   pub few : far < length cells
   pub on : IsOn (length cells) (home (length cells) addr) far place

@@ -1,6 +1,6 @@
 //! Searches of the cells, from a key's home on and round their end.
 ghost use Rattle.std.specs.Prelude.{◌≡◌, ◌<◌, IfSome, IfNone};
-ghost use Rattle.hm_region_table.specs.Cells.{home, next, IsKept, IsThere, IsNotThere, HasRoom, IsPlaceFor};
+ghost use Rattle.hm_region_table.specs.Cells.{home, next, IsKept, IsThere, IsNotThere, HasRoom, IsCellFor};
 
 use crate::entry::Entry;
 
@@ -48,10 +48,10 @@ pub(crate) fn find(cells: &[Option<Entry>], addr: u64) -> Option<usize>
 }
 
 /// The first empty cell from the key's home on.
-pub(crate) fn place_for(cells: &[Option<Entry>], addr: u64) -> usize
+pub(crate) fn cell_for(cells: &[Option<Entry>], addr: u64) -> usize
     requires kept { IsKept cells.now }
     requires room { HasRoom cells.now }
-    ensures { IsPlaceFor cells.now addr result }
+    ensures { IsCellFor cells.now addr result }
 {
     let count = cells.len();
     let mut place = home(addr, count);

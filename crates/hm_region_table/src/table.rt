@@ -6,7 +6,7 @@ ghost use Rattle.hm_region_table.specs.Table.{blocks_of};
 
 use crate::closing::take_out;
 use crate::entry::{Block, Entry};
-use crate::probe::{find, place_for};
+use crate::probe::{cell_for, find};
 use hm_base::NoMemory;
 use std::alloc::Global;
 use std::marker::Model;
@@ -59,7 +59,7 @@ fn spread(from: &[Option<Entry>], into: &mut [Option<Entry>])
     while i > 0 {
         i -= 1;
         if let Some(entry) = from[i] {
-            let place = place_for(into, entry.addr);
+            let place = cell_for(into, entry.addr);
             into[place] = Some(entry);
         }
     }
@@ -112,7 +112,7 @@ impl RegionTable {
         ensures spare { self.new.spare + 1 ≡ self.old.spare }
         ensures places { self.new.places ≡ self.old.places }
     {
-        let place = place_for(&self.cells, addr);
+        let place = cell_for(&self.cells, addr);
         self.cells[place] = Some(Entry { addr, block });
         self.used += 1;
     }

@@ -1,9 +1,11 @@
 -- What turns, values in hand and the seats of running calls are made of.
 use Rattle.std.specs.Prelude.{◌≡◌, ◌<◌, ◌≤◌, ◌+◌, ◌^◌, ℕ, true, false, List, [], ◌∷◌, length, Option, None, Some}
 use Rattle.atomic_table.specs.Table.{Me}
+use Rattle.atomic_table.specs.declared.shared.Seat.{Seat}
 use Rattle.hm_model.specs.Entries.{calls_of}
 use Rattle.hm_turn.specs.declared.view.View.{View}
 use Rattle.hm_turn.specs.Callers.{is_among, AreDistinct}
+use Rattle.hm_turn.specs.Known.{Lock}
 use Rattle.hm_turn.specs.Views.{view_in}
 
 -- the callers that were split off differ, and have numbers of 32 bits
@@ -22,6 +24,18 @@ pub record IsSound (views : List View) (caller out : ℕ) : Type 0 where
   pub no_ticket : (view_in views).ticket ≡ None
   pub no_note : (view_in views).note ≡ None
   pub books : HasBooks (view_in views)
+
+-- a seat of the lock's table, of which this holds
+pub record IsSeatOf {T : Type 0} (lock : Lock) (Holds : Me (Option T) View → Type 0)
+    (seat : Seat (Option T) View) : Type 0 where
+  pub table : seat.table_id ≡ lock.id
+  pub holds : Holds seat.me
+
+-- the seat is of the same table as before, and this holds of it now
+pub record Becomes {T : Type 0} (before : Seat (Option T) View) (Holds : Me (Option T) View → Type 0)
+    (after : Seat (Option T) View) : Type 0 where
+  pub table : after.table_id ≡ before.table_id
+  pub holds : Holds after.me
 
 -- a seat that neither holds the turn nor waits for it
 pub record IsIdle {T : Type 0} (me : Me (Option T) View) : Type 0 where

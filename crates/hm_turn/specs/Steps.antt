@@ -1,5 +1,5 @@
 -- What each step on a word tells its seat: `me` and `after` are the seat before and after, `found` the word found.
-use Rattle.std.specs.Prelude.{◌≡◌, ◌≢◌, ◌<◌, ℕ, true, false, ◌⊎◌, List, [], ◌∷◌, ◌++◌, length, Option, Some}
+use Rattle.std.specs.Prelude.{◌≡◌, ◌≢◌, ◌<◌, ◌+◌, ◌^◌, ℕ, true, false, ◌⊎◌, List, [], ◌∷◌, ◌++◌, length, Option, Some}
 use Rattle.atomic_table.specs.Table.{Me, Step}
 use Rattle.hm_model.specs.declared.entry.Entry.{Entry}
 use Rattle.hm_model.specs.Entries.{calls_of}
@@ -20,12 +20,13 @@ pub record Wins {T : Type 0} (entries : T → List Entry) (origin_of : T → Lis
   pub own : calls_of (entries value) v.caller ≡ v.mine
   pub origin_is : origin_of value ≡ v.origin
 
--- after some asking the turn came to the seat, which drew this number
+-- after some asking the turn came to the seat, which drew this number, and it was not the last
 pub record WinsLater {T : Type 0} (entries : T → List Entry) (origin_of : T → List ℕ)
     (before : Me (Option T) View) (number : ℕ) (after : Me (Option T) View) : Type 0 where
   pub asking : Me (Option T) View
   pub asked : HasAsked before asking
   pub won : Wins entries origin_of (drawing asking.0 number) after
+  pub next_fits : number + 1 < 2 ^ 64
 
 -- a ticket is drawn where it was the next, and else nothing is learnt
 abbrev pub drawn : {T : Type 0} → Step (Option T) → Me (Option T) View → ℕ → Me (Option T) View → Type 0

@@ -2,6 +2,7 @@
 ghost use Rattle.std.specs.Prelude.{◌≡◌, [], length, IfOk, MatchResult};
 ghost use Rattle.hm_turn.specs.Knowledge.{Knowledge, founding, with_seen, with_given, with_lost};
 ghost use Rattle.hm_turn.specs.Known.{IsOf, IsTaken, MayGive, Gains, HasLost};
+ghost use Rattle.hm_turn.specs.Sound.{IsSeatOf, Becomes};
 ghost use Rattle.hm_turn.specs.Views.{knowing};
 ghost use Rattle.hm_turn.specs.Steps.{IsGrown};
 
@@ -133,20 +134,16 @@ impl<T: Kept> TurnLock<T> {
     /// Counts the value's last entry, if it is a new one.
     fn count_last<N: Written>(&self, seat: &mut Seat<Option<T>, View>, value: &T)
         requires named { T.entries value.now ≡ N.entries }
-        requires table { seat.old.table_id ≡ self.now.id }
-        requires grown { IsGrown seat.old.me.0 N.entries (length N.entries) }
-        ensures table { seat.new.table_id ≡ seat.old.table_id }
-        ensures knows { seat.new.me ≡ (knowing seat.old.me.0 N.entries, seat.old.me.1) }
+        requires grown { IsSeatOf self.now (λ me. IsGrown me.0 N.entries (length N.entries)) seat.old }
+        ensures knows { Becomes seat.old (λ me. me ≡ (knowing seat.old.me.0 N.entries, seat.old.me.1)) seat.new }
     {
         self.count::<N>(seat, value.len());
     }
 
     /// Counts an entry, if fewer than `len` are counted.
     fn count<N: Written>(&self, seat: &mut Seat<Option<T>, View>, len: u64)
-        requires table { seat.old.table_id ≡ self.now.id }
-        requires grown { IsGrown seat.old.me.0 N.entries len }
-        ensures table { seat.new.table_id ≡ seat.old.table_id }
-        ensures knows { seat.new.me ≡ (knowing seat.old.me.0 N.entries, seat.old.me.1) }
+        requires grown { IsSeatOf self.now (λ me. IsGrown me.0 N.entries len) seat.old }
+        ensures knows { Becomes seat.old (λ me. me ≡ (knowing seat.old.me.0 N.entries, seat.old.me.1)) seat.new }
     {
         let shared = &self.table.shared;
         if shared.load::<Count<T>>(seat, COUNT) < len {

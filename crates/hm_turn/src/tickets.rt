@@ -1,6 +1,6 @@
 //! The tickets of a lock: how a seat asks for the turn without waiting, draws a ticket, and waits for it.
 ghost use Rattle.std.specs.Prelude.{◌≡◌, ◌<◌, ◌+◌, ◌^◌, ℕ, true, false, [], IfSome, IfNone};
-ghost use Rattle.hm_turn.specs.Sound.{IsIdle, MayAsk, IsWaiting, HasAsked};
+ghost use Rattle.hm_turn.specs.Sound.{IsSeatOf, Becomes, IsIdle, MayAsk, IsWaiting, HasAsked};
 ghost use Rattle.hm_turn.specs.Steps.{Wins, WinsLater};
 ghost use Rattle.hm_turn.specs.Views.{drawing, noting, finding, outrun};
 
@@ -33,11 +33,8 @@ impl<T: Kept> TurnLock<T> {
     /// Gets the turn: as soon as a look finds no ticket out, and after `TRIES` looks by a ticket that it waits for. It
     /// says by which number.
     pub(crate) fn get_turn<R: Wait>(&self, rt: &R, seat: &mut Seat<Option<T>, View>) -> u64
-        requires table { seat.old.table_id ≡ self.now.id }
-        requires idle { IsIdle seat.old.me }
-        ensures table { seat.new.table_id ≡ seat.old.table_id }
-        ensures next_fits { result + 1 < 2 ^ 64 }
-        ensures wins { WinsLater T.entries T.origin seat.old.me result seat.new.me }
+        requires idle { IsSeatOf self.now IsIdle seat.old }
+        ensures wins { Becomes seat.old (WinsLater T.entries T.origin seat.old.me result) seat.new }
     {
         if let Some(number) = self.ask_often(seat) {
             return number;
@@ -49,12 +46,9 @@ impl<T: Kept> TurnLock<T> {
 
     /// Looks `TRIES` times at most, and asks for the turn until it is got. It says by which number it was got.
     fn ask_often(&self, seat: &mut Seat<Option<T>, View>) -> Option<u64>
-        requires table { seat.old.table_id ≡ self.now.id }
-        requires idle { IsIdle seat.old.me }
-        ensures table { seat.new.table_id ≡ seat.old.table_id }
-        ensures next_fits { IfSome result (λ n. n + 1 < 2 ^ 64) }
-        ensures wins { IfSome result (λ n. WinsLater T.entries T.origin seat.old.me n seat.new.me) }
-        ensures asked { IfNone result (HasAsked seat.old.me seat.new.me) }
+        requires idle { IsSeatOf self.now IsIdle seat.old }
+        ensures wins { IfSome result (λ n. Becomes seat.old (WinsLater T.entries T.origin seat.old.me n) seat.new) }
+        ensures asked { IfNone result (Becomes seat.old (HasAsked seat.old.me) seat.new) }
     {
         let mut looks = 0;
         for _ in 0..TRIES {
@@ -68,12 +62,9 @@ impl<T: Kept> TurnLock<T> {
 
     /// Asks for the turn, if no ticket is out. It says by which number it was got.
     fn ask_if_free(&self, seat: &mut Seat<Option<T>, View>) -> Option<u64>
-        requires table { seat.old.table_id ≡ self.now.id }
-        requires idle { IsIdle seat.old.me }
-        ensures table { seat.new.table_id ≡ seat.old.table_id }
-        ensures next_fits { IfSome result (λ n. n + 1 < 2 ^ 64) }
-        ensures wins { IfSome result (λ n. WinsLater T.entries T.origin seat.old.me n seat.new.me) }
-        ensures asked { IfNone result (HasAsked seat.old.me seat.new.me) }
+        requires idle { IsSeatOf self.now IsIdle seat.old }
+        ensures wins { IfSome result (λ n. Becomes seat.old (WinsLater T.entries T.origin seat.old.me n) seat.new) }
+        ensures asked { IfNone result (Becomes seat.old (HasAsked seat.old.me) seat.new) }
     {
         let serving = self.observe(seat);
         let next = self.table.shared.peek(TICKET);
@@ -86,10 +77,8 @@ impl<T: Kept> TurnLock<T> {
 
     /// Draws the next ticket.
     pub(crate) fn draw<R: Wait>(&self, rt: &R, seat: &mut Seat<Option<T>, View>) -> u64
-        requires table { seat.old.table_id ≡ self.now.id }
-        requires idle { IsIdle seat.old.me }
-        ensures table { seat.new.table_id ≡ seat.old.table_id }
-        ensures drawn { seat.new.me ≡ (drawing seat.old.me.0 result, []) }
+        requires idle { IsSeatOf self.now IsIdle seat.old }
+        ensures drawn { Becomes seat.old (λ me. me ≡ (drawing seat.old.me.0 result, [])) seat.new }
         ensures next_fits { result + 1 < 2 ^ 64 }
     {
         let mut looks = 0;
@@ -105,12 +94,10 @@ impl<T: Kept> TurnLock<T> {
 
     /// Draws this ticket, if it is the next.
     fn draw_this(&self, seat: &mut Seat<Option<T>, View>, ticket: u64) -> bool
-        requires table { seat.old.table_id ≡ self.now.id }
-        requires idle { IsIdle seat.old.me }
+        requires idle { IsSeatOf self.now IsIdle seat.old }
         requires next_fits { ticket + 1 < 2 ^ 64 }
-        ensures table { seat.new.table_id ≡ seat.old.table_id }
-        ensures drawn { result ≡ true → seat.new.me ≡ (drawing seat.old.me.0 ticket, []) }
-        ensures same { result ≡ false → seat.new.me ≡ seat.old.me }
+        ensures drawn { result ≡ true → Becomes seat.old (λ me. me ≡ (drawing seat.old.me.0 ticket, [])) seat.new }
+        ensures same { result ≡ false → Becomes seat.old (λ me. me ≡ seat.old.me) seat.new }
     {
         let shared = &self.table.shared;
         shared.compare_exchange::<Draw<T>>(seat, TICKET, ticket, ticket + 1) == ticket
@@ -118,10 +105,8 @@ impl<T: Kept> TurnLock<T> {
 
     /// Waits until the seat's ticket is served.
     pub(crate) fn wait_for<R: Wait>(&self, rt: &R, seat: &mut Seat<Option<T>, View>, ticket: u64)
-        requires table { seat.old.table_id ≡ self.now.id }
-        requires waits { IsWaiting seat.old.me ticket }
-        ensures table { seat.new.table_id ≡ seat.old.table_id }
-        ensures wins { Wins T.entries T.origin seat.old.me.0 seat.new.me }
+        requires waits { IsSeatOf self.now (λ me. IsWaiting me ticket) seat.old }
+        ensures wins { Becomes seat.old (Wins T.entries T.origin seat.old.me.0) seat.new }
     {
         let mut looks = 0;
         for _ in rt.forever() {
@@ -135,33 +120,28 @@ impl<T: Kept> TurnLock<T> {
 
     /// Looks whether the seat's ticket is served.
     fn is_served(&self, seat: &mut Seat<Option<T>, View>, ticket: u64) -> bool
-        requires table { seat.old.table_id ≡ self.now.id }
-        requires waits { IsWaiting seat.old.me ticket }
-        ensures table { seat.new.table_id ≡ seat.old.table_id }
-        ensures wins { result ≡ true → Wins T.entries T.origin seat.old.me.0 seat.new.me }
-        ensures waits { result ≡ false → (n : ℕ) × (seat.new.me ≡ (noting seat.old.me.0 n, [])) }
+        requires waits { IsSeatOf self.now (λ me. IsWaiting me ticket) seat.old }
+        ensures wins { result ≡ true → Becomes seat.old (Wins T.entries T.origin seat.old.me.0) seat.new }
+        ensures waits { result ≡ false → (n : ℕ) × Becomes seat.old (λ me. me ≡ (noting seat.old.me.0 n, [])) seat.new }
     {
         self.table.shared.load::<Await<T>>(seat, SERVING) == ticket
     }
 
     /// The number served, which the seat notes if it can be drawn.
     pub(crate) fn observe(&self, seat: &mut Seat<Option<T>, View>) -> u64
-        requires table { seat.old.table_id ≡ self.now.id }
-        requires idle { IsIdle seat.old.me }
-        ensures table { seat.new.table_id ≡ seat.old.table_id }
-        ensures found { seat.new.me ≡ (finding seat.old.me.0 result, []) }
+        requires idle { IsSeatOf self.now IsIdle seat.old }
+        ensures found { Becomes seat.old (λ me. me ≡ (finding seat.old.me.0 result, [])) seat.new }
     {
         self.table.shared.load::<Observe<T>>(seat, SERVING)
     }
 
     /// Draws the number noted, if it is the next: it is served then, and the turn is got at once.
     pub(crate) fn ask(&self, seat: &mut Seat<Option<T>, View>, number: u64) -> bool
-        requires table { seat.old.table_id ≡ self.now.id }
-        requires noted { MayAsk seat.old.me number }
+        requires noted { IsSeatOf self.now (λ me. MayAsk me number) seat.old }
         requires next_fits { number + 1 < 2 ^ 64 }
-        ensures table { seat.new.table_id ≡ seat.old.table_id }
-        ensures wins { result ≡ true → Wins T.entries T.origin (drawing seat.old.me.0 number) seat.new.me }
-        ensures outrun { result ≡ false → seat.new.me ≡ (outrun seat.old.me.0, []) }
+        ensures wins { result ≡ true
+            → Becomes seat.old (Wins T.entries T.origin (drawing seat.old.me.0 number)) seat.new }
+        ensures outrun { result ≡ false → Becomes seat.old (λ me. me ≡ (outrun seat.old.me.0, [])) seat.new }
     {
         let shared = &self.table.shared;
         shared.compare_exchange::<Ask<T>>(seat, TICKET, number, number + 1) == number

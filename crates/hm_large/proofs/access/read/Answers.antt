@@ -24,7 +24,7 @@ returns-then-branch-clause-trap g c = λ config n s sound guarded shows. sym (c.
 pub returns-then-branch-clause-value : goal.returns-then-branch-clause-value
 returns-then-branch-clause-value g c =
     λ config n s sound guarded shows tells holds. let runs = g.P.Pages.runs c.args.pages.now in
-    let held = c.in_ok-append_range-in-None.ensures.held tells c.requires.some c.if-branch.true in
+    let held = c.in_ok-append_range-in-None.ensures.held tells c.requires.0 c.if-branch.true in
     let got = c.in_ok-append_range-in-None.ensures.value tells held in
     let bytes = got.3 ∙ ap (λ (l : List (ℕ × ℕ)). expand l ++ got.1) c.new-runs.ensures in
     reads_blocks config s runs c.args.addr c.args.len _ sound holds
@@ -37,5 +37,5 @@ returns-else-branch-clause-trap g c = λ config n s sound guarded shows. ap (λ 
 pub returns-else-branch-clause-value : goal.returns-else-branch-clause-value
 returns-else-branch-clause-value g c =
     λ config n s sound guarded shows tells holds. let runs = g.P.Pages.runs c.args.pages.now in
-    absurd (false≢true (c.in-None.ensures.held config n s sound shows (held_by_none config s runs c.args.addr c.args.len sound holds c.requires.some
+    absurd (false≢true (c.in-None.ensures.held config n s sound shows (held_by_none config s runs c.args.addr c.args.len sound holds c.requires.0
     (λ held. false≢true (sym c.if-branch.false ∙ (c.in_ok-append_range-in-None.ensures.value tells held).0)))))

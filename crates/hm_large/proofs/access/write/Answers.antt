@@ -26,7 +26,7 @@ returns-then-not-holds-clause-value g c =
     let len = length (expand c.args.runs.now) in
     let bytes = c.len-len.ensures.bytes in
     absurd (false≢true (c.in_default.ensures.held config n s sound shows (subst (λ (k : ℕ). HeldByNone s.live c.args.addr k) (sym bytes)
-    (held_by_none config s runs c.args.addr len sound holds c.requires.some (λ held. false≢true ((c.if-not-holds.ensures.told tells).1 (subst (λ (k : ℕ). IsHeld runs c.args.addr k) (sym bytes) held)))))))
+    (held_by_none config s runs c.args.addr len sound holds c.requires.0 (λ held. false≢true ((c.if-not-holds.ensures.told tells).1 (subst (λ (k : ℕ). IsHeld runs c.args.addr k) (sym bytes) held)))))))
 
 -- they lend it
 pub returns-clause-trap : goal.returns-clause-trap

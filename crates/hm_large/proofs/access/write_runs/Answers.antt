@@ -23,8 +23,8 @@ loop-byte-preserved g c =
     let w = expand (take i pairs) in
     let runs = g.P.Pages.runs c.args.pages.now in
     let count : length w ≡ total (take i pairs) = length_expand (take i pairs) in record {
-      told = c.write_run.ensures.told ∙ l.told;
-      count = c.write_run.ensures.count ∙ l.count;
+      told = c.write_run.ensures.same.told ∙ l.told;
+      count = c.write_run.ensures.same.count ∙ l.count;
       at = omega (arith, l.at, total_more pairs i c.loop-byte-test.true);
       written = λ tells apart q b is lies. (let told = l.told ∙ tells in
           subst (λ (v : List ℕ). IsOver runs q b c.args.addr v (g.P.Pages.runs c.write_run.new.pages)) (sym (expand_front pairs i c.loop-byte-test.true))

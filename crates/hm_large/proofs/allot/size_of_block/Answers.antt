@@ -1,5 +1,6 @@
-use Rattle.std.proofs.Common.{◌≡◌, ℕ, ◌%◌, ◌≤◌, ◌^◌, subst, sym, ap, ◌∙◌}
-use Rattle.hm_sizes.specs.Sizes.{large_size}
+use Rattle.std.proofs.Common.{◌≡◌, subst, sym, ap, ◌∙◌}
+use Rattle.hm_sizes.specs.Laws.{IsLargeSize}
+use Rattle.hm_sizes.specs.Sizes.{raised, large_size}
 use Rattle.hm_large.specs.Blocks.{size_for}
 use Rattle.hm_large.proofs.Legal.{size_is}
 use Rattle.hm_large.proofs.allot.size_of_block.Goals as goal
@@ -8,8 +9,5 @@ use Rattle.hm_large.proofs.allot.size_of_block.Goals as goal
 same : (c : goal.After-large_size) → c.large_size.result ≡ size_for c.args.asked
 same c = c.large_size.ensures ∙ ap large_size c.raised.ensures
 
-pub returns-clause-pages : goal.returns-clause-pages
-returns-clause-pages c = subst (λ (n : ℕ). n % 4096 ≡ 0) (sym (same c)) (size_is c.args.asked c.requires).pages
-
-pub returns-clause-most : goal.returns-clause-most
-returns-clause-most c = subst (λ (n : ℕ). n ≤ 2 ^ 30) (sym (same c)) (size_is c.args.asked c.requires).most
+pub returns-clause-fits : goal.returns-clause-fits
+returns-clause-fits c = subst (IsLargeSize (raised c.args.asked)) (sym (same c)) (size_is c.args.asked c.requires)

@@ -1,4 +1,4 @@
-use Rattle.std.proofs.Common.{◌≡◌, ℕ, ◌==◌, Bool, true, false, cond, option_map, Option, Some, None, sym, ◌∙◌, ap, refl}
+use Rattle.std.proofs.Common.{◌≡◌, ℕ, ◌==◌, Bool, true, false, cond, option_map, Option, Some, None, inl, inr, sym, ◌∙◌, ap, refl}
 use Rattle.std.proofs.lemmas.Bool.{eq-eqb, ne_eqb}
 use Rattle.hm_sizes.specs.Sizes.{block_size}
 use Rattle.hm_region_table.specs.declared.entry.Block.{Block as KeptBlock}
@@ -16,7 +16,7 @@ some_mapped k None e = cc
 some_mapped k (Some x) e = (x, refl, (let h : k ≡ kept_of false x = cc in h))
 
 pub returns-in_default : goal.returns-in_default
-returns-in_default c = λ config n s shows. none_mapped _ (c.in_default.ensures config n s shows)
+returns-in_default c = λ config n s shows. inl (refl, none_mapped _ (c.in_default.ensures config n s shows))
 
 -- the sizes that are compared
 compared : (x : Block) (size block stated : ℕ) (t : Bool) → block ≡ x.size → stated ≡ block_size size → (stated == block) ≡ t → wrong_size (Some x) (Some size) ≡ cond t None (Some (block, stated))
@@ -41,5 +41,10 @@ returns-then-stated-block c =
 pub returns-else-stated-block : goal.returns-else-stated-block
 returns-else-stated-block c =
     λ config n s shows. let m = some_mapped c.in-Some.block _ (c.in-Some.ensures config n s shows) in
-    ap (λ (o : Option Block). wrong_size o c.args.stated) m.1 ∙ (ap (wrong_size (Some m.0)) c.in-Some-stated.is
-    ∙ compared m.0 c.in-Some-stated.size c.in-Some.block.size c.block_size-stated.result false (ap (λ (k : KeptBlock). k.size) m.2) c.block_size-stated.ensures (ne_eqb c.block_size-stated.result c.in-Some.block.size c.if-stated-block.false))
+    inr (
+      c.in-Some.block.size,
+      c.block_size-stated.result,
+      refl,
+      ap (λ (o : Option Block). wrong_size o c.args.stated) m.1 ∙ (ap (wrong_size (Some m.0)) c.in-Some-stated.is
+          ∙ compared m.0 c.in-Some-stated.size c.in-Some.block.size c.block_size-stated.result false (ap (λ (k : KeptBlock). k.size) m.2) c.block_size-stated.ensures (ne_eqb c.block_size-stated.result c.in-Some.block.size c.if-stated-block.false)),
+    )

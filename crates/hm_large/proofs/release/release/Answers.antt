@@ -41,12 +41,12 @@ returns-then-block-ge-QUARANTINED_BELOW-clause-frees c =
     let great : is_quarantined x ≡ false = le-ltb x.size 33554432 (omega (arith, ap (λ (b : KeptBlock). b.size) is, c.if-block-ge-QUARANTINED_BELOW.true)) in
     let gave : GaveBack old.space new.space a (kept_of false x) =
     subst (λ o. IfSome o (GaveBack old.space new.space a)) (kept_live config n s old a x shows live)
-    (subst (λ (k : Store). IfSome (map.get k.blocks.blocks a) (GaveBack k.space new.space a)) c.uncount.ensures.others c.put_back.ensures.space) in
+    (subst (λ (k : Store). IfSome (map.get k.blocks.blocks a) (GaveBack k.space new.space a)) c.uncount.ensures.others c.put_back.ensures.gave) in
     let table = table_left config n s old new a x sound live shows
-    (λ q. c.put_back.ensures.blocks q ∙ ap (λ (k : Store). cond (a == q) None (map.get k.blocks.blocks q)) c.uncount.ensures.others)
+    (λ q. c.put_back.ensures.blocks_are q ∙ ap (λ (k : Store). cond (a == q) None (map.get k.blocks.blocks q)) c.uncount.ensures.others)
     gave
-    (c.put_back.ensures.owed ∙ (ap (λ (k : Store). k.owed) c.uncount.ensures.others ∙ ap (λ (b : KeptBlock). old.owed - cond b.failed 0 1) is)) in
-    frees_left config n s old new a x sound live great shows table (c.put_back.ensures.quarantine ∙ ap (λ (k : Store). k.quarantine) c.uncount.ensures.others) (c.put_back.ensures.words ∙ ap (λ (k : Store). k.words) c.uncount.ensures.others)
+    ((ap (λ (k : Store). k.owed) c.put_back.ensures.others) ∙ (ap (λ (k : Store). k.owed) c.uncount.ensures.others ∙ ap (λ (b : KeptBlock). old.owed - cond b.failed 0 1) is)) in
+    frees_left config n s old new a x sound live great shows table ((ap (λ (k : Store). k.quarantine) c.put_back.ensures.others) ∙ ap (λ (k : Store). k.quarantine) c.uncount.ensures.others) ((ap (λ (k : Store). k.words) c.put_back.ensures.others) ∙ ap (λ (k : Store). k.words) c.uncount.ensures.others)
 
 pub pass-released-requires : goal.pass-released-requires
 pass-released-requires c =
@@ -84,7 +84,7 @@ returns-in-Some-clause-frees c =
     let small : is_quarantined x ≡ true = lt-ltb x.size 33554432 (omega (arith, ap (λ (b : KeptBlock). b.size) is, c.if-block-ge-QUARANTINED_BELOW.false)) in
     let holds = holds_from old c.uncount.new.store c.replace.new.store a c.draw-word.result x c.args.block c.draw-word.new.self c.uncount.ensures.others is c.draw-word.ensures.drawn c.draw-word.ensures.below c.draw-word.ensures.taken c.replace.ensures.blocks c.replace.ensures.others in
     frees_some config n s old c.replace.new.store a c.draw-word.result.0 c.draw-word.result.1 x c.pass-released.new.self c.in-Some.left c.put_back-in-Some.new.store sound live small shows holds c.in-Some.ensures.released c.in-Some.ensures.kept
-    c.put_back-in-Some.ensures.blocks c.put_back-in-Some.ensures.space c.put_back-in-Some.ensures.quarantine c.put_back-in-Some.ensures.words c.put_back-in-Some.ensures.owed
+    c.put_back-in-Some.ensures.blocks_are c.put_back-in-Some.ensures.gave (ap (λ (k : Store). k.quarantine) c.put_back-in-Some.ensures.others) (ap (λ (k : Store). k.words) c.put_back-in-Some.ensures.others) (ap (λ (k : Store). k.owed) c.put_back-in-Some.ensures.others)
 
 pub returns-in_default-clause-frees : goal.returns-in_default-clause-frees
 returns-in_default-clause-frees c =
@@ -100,10 +100,10 @@ returns-in_default-clause-frees c =
     (frees_none config n s old c.replace.new.store a c.draw-word.result.0 c.draw-word.result.1 x c.pass-released.new.self sound live small shows holds c.in_default.ensures.released c.in_default.ensures.kept)
 
 pub returns-then-block-ge-QUARANTINED_BELOW-clause-owed : goal.returns-then-block-ge-QUARANTINED_BELOW-clause-owed
-returns-then-block-ge-QUARANTINED_BELOW-clause-owed c = ap (λ (n : ℕ). n + cond c.args.block.failed 0 1) c.put_back.ensures.owed ∙ c.uncount.ensures.owed
+returns-then-block-ge-QUARANTINED_BELOW-clause-owed c = ap (λ (n : ℕ). n + cond c.args.block.failed 0 1) (ap (λ (k : Store). k.owed) c.put_back.ensures.others) ∙ c.uncount.ensures.owed
 
 pub returns-in-Some-clause-owed : goal.returns-in-Some-clause-owed
-returns-in-Some-clause-owed c = ap (λ (n : ℕ). n + cond c.args.block.failed 0 1) (c.put_back-in-Some.ensures.owed ∙ ap (λ (k : Store). k.owed) c.replace.ensures.others) ∙ c.uncount.ensures.owed
+returns-in-Some-clause-owed c = ap (λ (n : ℕ). n + cond c.args.block.failed 0 1) ((ap (λ (k : Store). k.owed) c.put_back-in-Some.ensures.others) ∙ ap (λ (k : Store). k.owed) c.replace.ensures.others) ∙ c.uncount.ensures.owed
 
 pub returns-in_default-clause-owed : goal.returns-in_default-clause-owed
 returns-in_default-clause-owed c = ap (λ (n : ℕ). n + cond c.args.block.failed 0 1) (ap (λ (k : Store). k.owed) c.replace.ensures.others) ∙ c.uncount.ensures.owed

@@ -1,4 +1,4 @@
-use Rattle.std.proofs.Common.{◌==◌, ℕ, Bool, cond, Option, Some, sym, ◌∙◌, ap, subst, refl}
+use Rattle.std.proofs.Common.{rules, ◌==◌, ℕ, Bool, cond, Option, Some, sym, ◌∙◌, ap, subst, refl}
 use Rattle.std.specs.Ordering.{nat_cmp}
 use Rattle.std.specs.BTreeMap as tree
 use Rattle.hm_region_table.specs.Table.{Table}
@@ -17,7 +17,9 @@ invariant_of-self-2 c =
     (λ q. c.in_ok-insert.ensures.updates.0 q ∙ (ap (λ (t : Bool). cond t (Some b.size) (tree.get nat_cmp old.live q)) (tree_test a q)
     ∙ ap (λ (o : Option ℕ). cond (a == q) o (tree.get nat_cmp old.live q)) (sym (live_of b b.size c.requires.live refl))))
 
-pub returns-clause-put : goal.returns-clause-put
-returns-clause-put c =
-    subst (λ (t : Table). Updates t c.insert-2.new.self c.args.addr (Some c.args.block)) c.self.view_is
-    (inserted c.self.inside.table c.insert-2.new.self c.args.addr c.args.block c.insert-2.ensures.blocks)
+pub returns-clause-ok : goal.returns-clause-ok
+returns-clause-ok c = record {
+  put = subst (λ (t : Table). Updates t c.insert-2.new.self c.args.addr (Some c.args.block)) c.self.view_is
+      (inserted c.self.inside.table c.insert-2.new.self c.args.addr c.args.block c.insert-2.ensures.blocks);
+  spare = search rules;
+}

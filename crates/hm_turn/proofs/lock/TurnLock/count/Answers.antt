@@ -9,10 +9,10 @@ use Rattle.hm_turn.proofs.Keeps.{counts, adds}
 use Rattle.hm_turn.proofs.lock.TurnLock.count.Goals as goal
 
 pub load-requires : goal.load-requires
-load-requires g c = (search rules, search rules, counts g.T.Kept.entries g.T.Kept.origin _ _ _ c.args.seat.now.me.0 c.args.seat.now.me.1 c.requires.grown.holds)
+load-requires g c = (search rules, search rules, counts g.T.Kept.entries g.T.Kept.origin _ _ _ c.args.seat.now.me.0 c.args.seat.now.me.1 c.requires.grown.holds.holds)
 
 pub fetch_add-requires : goal.fetch_add-requires
-fetch_add-requires g c = let w = c.requires.grown in let entries = g.T.Kept.entries in let xs = g.N.Written.entries in let table = c.self.inside.table.shared in let m = c.args.seat.now.me in (
+fetch_add-requires g c = let w = c.requires.grown.holds in let entries = g.T.Kept.entries in let xs = g.N.Written.entries in let table = c.self.inside.table.shared in let m = c.args.seat.now.me in (
   search rules,
   search rules,
   subst (λ (z : Me (Option g.row.T.Denot) View). Allows (Orderly entries g.T.Kept.origin (g.T.Kept.origin table.key.value)) table.table_id.slots c.load.new.seat.id z 2 (λ n. (n + 1) % 2 ^ 64) (added xs (step table.table_id.slots 2 1 0 none) z)) (sym c.load.ensures.2.1)

@@ -1,5 +1,6 @@
 use Rattle.std.proofs.Common.{◌≡◌}
+use Rattle.hm_turn.specs.Sound.{Becomes}
 use Rattle.hm_turn.proofs.lock.TurnLock.draw.Given as goal
 
 abbrev pub invariant-loop : goal.invariant-loop
-invariant-loop g l = (l.seat.table_id ≡ l.fn.seat.table_id) × (l.seat.me ≡ l.fn.seat.me)
+invariant-loop g l = Becomes l.fn.seat (λ me. me ≡ l.fn.seat.me) l.seat

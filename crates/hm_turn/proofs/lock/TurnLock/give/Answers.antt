@@ -11,7 +11,7 @@ use Rattle.hm_turn.proofs.lock.TurnLock.give.Goals as goal
 
 pub store-requires : goal.store-requires
 store-requires g c = let entries = g.T.Kept.entries in let table = c.self.inside.table.shared in let v : View = c.held.inside.seat.me.0 in let x : g.row.T.Denot = c.held.inside.value in
-    let noted : c.count_last.new.seat.me ≡ (knowing v (entries x), c.held.inside.seat.me.1) = c.count_last.ensures.knows in
+    let noted : c.count_last.new.seat.me ≡ (knowing v (entries x), c.held.inside.seat.me.1) = c.count_last.ensures.knows.holds in
     let total : c.exchange.new.seat.me ≡ (knowing v (entries x), (0, Some x) ∷ []) = c.exchange.ensures.3 ∙ ap (λ (m : Me (Option g.row.T.Denot) View). (m.0, (0, Some x) ∷ rest m.1)) noted ∙ ap (λ (l : List (ℕ × Option g.row.T.Denot)). (knowing v (entries x), (0, Some x) ∷ rest l)) c.held.invariant.empty in
     let same : v.origin ≡ c.args.self.now.origin = ap (λ (h : InHand g.row.T.Denot). h.knows.origin) c.held.view_is ∙ c.requires.value.same_origin in
     let from : g.T.Kept.origin x ≡ v.origin = ap (λ (h : InHand g.row.T.Denot). g.T.Kept.origin h.value) c.held.view_is ∙ (c.requires.value.origin_is ∙ sym same) in (
