@@ -12,14 +12,27 @@ use Rattle.hm_model.specs.declared.entry.Call.{Call}
 use Rattle.hm_model.specs.declared.entry.Call.TheVariants.{Allot}
 use Rattle.hm_model.specs.declared.entry.Reply.{Reply}
 use Rattle.hm_model.specs.declared.entry.Reply.TheVariants.{Given, Overwritten, Exhausted, NoSpace, PagesFailed, Freed, NoSlot, Unused, DoubleFree, WrongSize, Canary, Usable, Bytes, Filled, Trap, NotLive}
-use Rattle.hm_heap.specs.Passes.{HeapView, PassView}
-use Rattle.hm_heap.specs.Plans.{Done, Follows, Part}
-use Rattle.hm_heap.specs.Requests.{Reaches}
-use Rattle.hm_heap.specs.Calls.{place_for, class_place, large_place, home_place, replied, allot_plan, moving_plan, resize_plan, IsCallocPlan, IsAlignedPlan, IsReallocPlan, ReplyInReach}
+use Rattle.hm_heap.specs.Passes.{HeapView, PassView, AreOf}
+use Rattle.hm_heap.specs.Plans.{CarriesOut, Done, Part, TriesOut}
+use Rattle.hm_heap.specs.Requests.{Reaches, AnswerInReach, ReplyInReach}
+use Rattle.hm_heap.specs.Calls.{place_for, class_place, large_place, home_place, replied, allot_plan, moving_plan, resize_plan, IsCallocPlan, IsAlignedPlan, IsReallocPlan}
 
 -- an answer without a part
-pub answers_at_once : (p : PassView) (step : ℕ) (a : Answer) → Follows p p step 1 (Done a) (Ok a)
-answers_at_once p step a = (refl, refl)
+pub answers_at_once : (h : HeapView) (p : PassView) (step : ℕ) (a : Answer) → AreOf h.locks p.turns → AnswerInReach a
+    → CarriesOut h p p step 1 (Done a) (Ok a)
+answers_at_once h p step a of reach = record {
+  goes_on = record { same = refl; of = of };
+  follows = (refl, refl);
+  reach = reach;
+}
+
+pub tries_at_once : (h : HeapView) (p : PassView) (step : ℕ) (a : Answer) → AreOf h.locks p.turns → AnswerInReach a
+    → TriesOut h p p step (Done a) (Ok a)
+tries_at_once h p step a of reach = record {
+  goes_on = record { same = refl; of = of };
+  tries = (refl, refl);
+  reach = reach;
+}
 
 pub overflows : (c : Config) (thread count size : ℕ) → (count * size < 2 ^ 64 → ⊥) → IsCallocPlan c thread count size (Done answer.Overflow)
 overflows c thread count size most = record { overflow = λ e. refl; fits = λ lt. absurd (most lt) }

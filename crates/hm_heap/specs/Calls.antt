@@ -1,5 +1,5 @@
 -- The plan of each call of a heap: its refusals in their order, its parts, and its answer.
-use Rattle.std.specs.Prelude.{◌≡◌, ◌+◌, ◌-◌, ◌*◌, ◌%◌, ◌^◌, ◌<◌, ◌≤◌, ◌==◌, nat_lt, min, ◌&&◌, ℕ, Bool, false, if◌then◌else◌, List, Option, Some, None, ⊤}
+use Rattle.std.specs.Prelude.{◌≡◌, ◌+◌, ◌-◌, ◌*◌, ◌%◌, ◌^◌, ◌<◌, ◌≤◌, ◌==◌, nat_lt, min, ◌&&◌, ℕ, Bool, false, if◌then◌else◌, List, length, Option, Some, None}
 use Rattle.hm_model.specs.declared.answer.Answer.{Answer}
 use Rattle.hm_model.specs.declared.answer.Answer.TheVariants as answer
 use Rattle.hm_model.specs.declared.entry.Call.{Call}
@@ -18,7 +18,8 @@ use Rattle.hm_sizes.specs.Sizes.{IsKindOf}
 use Rattle.hm_heap.specs.declared.realloc.Move.{Move}
 use Rattle.hm_heap.specs.declared.realloc.Source.{Source}
 use Rattle.hm_heap.specs.Plans.{Plan, Done, Part}
-use Rattle.hm_heap.specs.Requests.{IsInReach}
+use Rattle.hm_heap.specs.Passes.{HeapView, region_at}
+use Rattle.hm_heap.specs.Requests.{Asks, IsInReach}
 
 -- ---- where the parts are made
 -- thread T asks for its small blocks in arena (T - 1) mod arenas
@@ -90,7 +91,20 @@ read_plan c a len = at_home (home_place c a) (Fetch a len)
 abbrev pub write_plan : Config → ℕ → List (ℕ × ℕ) → Plan
 write_plan c a runs = at_home (home_place c a) (Fill a runs)
 
--- ---- moving a block: each step takes what the one before replied
+-- ---- moving a block
+-- a block at an address in reach, whose region and that of a new block stand in the heap, and the latter may be asked
+pub record IsSource (h : HeapView) (source : Source) : Type 0 where
+  pub home : source.home < length h.locks
+  pub place : source.place < length h.locks
+  pub reach : IsInReach source.addr
+  pub few : source.asked ≤ 2 ^ 30
+  pub asks : Asks (region_at h.config source.place) (Allot source.asked 1)
+
+pub record IsMove (h : HeapView) (moved : Move) : Type 0 where
+  pub source : IsSource h moved.source
+  pub new : IsInReach moved.new
+
+-- each step takes what the one before replied
 module _ (moved : Move) where
   -- the old block was given back, or not
   abbrev pub freed : Reply → Plan
@@ -122,11 +136,11 @@ module _ (source : Source) where
 
   -- the old block was measured, or not: it stays where it serves, and else the lesser of its usable size and the new
   -- asked size is copied
-  abbrev pub measured : ℕ → (ℕ → Bool) → Reply → Plan
-  measured asked keeps (Usable old) =
+  abbrev pub measured : (ℕ → Bool) → Reply → Plan
+  measured keeps (Usable old) =
       if keeps old then Done (answer.Kept source.addr old)
-      else Part source.place (Allot asked 1) (allotted (min old asked))
-  measured asked keeps reply = Done (answer.Reply reply)
+      else Part source.place (Allot source.asked 1) (allotted (min old source.asked))
+  measured keeps reply = Done (answer.Reply reply)
 
 -- a block at home with so many usable bytes serves the new kind as it is: the class, or the large size, is the same
 abbrev pub keeps : Config → ℕ → Kind → ℕ → Bool
@@ -137,7 +151,8 @@ keeps c home TooLarge old = false
 abbrev pub moving_plan : Config → ℕ → ℕ → ℕ → Kind → Option ℕ → Plan
 moving_plan c place a asked kind None = Done answer.Outside
 moving_plan c place a asked kind (Some home) =
-    Part home (Measure a) (measured (record { home = home; place = place; addr = a }) asked (keeps c home kind))
+    Part home (Measure a)
+    (measured (record { home = home; place = place; addr = a; asked = asked }) (keeps c home kind))
 
 abbrev pub resize_plan : Config → ℕ → ℕ → ℕ → Kind → Option ℕ → Plan
 resize_plan c thread a asked kind None = Done answer.TooLarge
@@ -149,17 +164,7 @@ pub record IsReallocPlan (c : Config) (thread a asked : ℕ) (plan : Plan) : Typ
   pub kind_is : IsKindOf asked kind
   pub is : plan ≡ resize_plan c thread a asked kind (place_for c thread kind)
 
--- ---- where the block of an answer lies
-abbrev pub ReplyInReach : Reply → Type 0
-ReplyInReach (Given a usable) = IsInReach a
-ReplyInReach reply = ⊤
-
-abbrev pub AnswerInReach : Answer → Type 0
-AnswerInReach (answer.Reply reply) = ReplyInReach reply
-AnswerInReach (answer.Kept a usable) = IsInReach a
-AnswerInReach (answer.HalfMoved a usable cause) = IsInReach a
-AnswerInReach other = ⊤
-
+-- ---- how the block of an answer begins
 -- a block that is given begins at a multiple of the alignment
 abbrev pub StartsAligned : ℕ → Answer → Type 0
 StartsAligned align given = (a usable : ℕ) → given ≡ answer.Reply (Given a usable) → a % align ≡ 0

@@ -160,15 +160,15 @@ allotted_few : (source : _) (count : ℕ) (reply : Reply) → AtMost 3 (allotted
 allotted_few source count (Given new usable) = copying_few (record { source = source; new = new; usable = usable }) count
 allotted_few source count _ = tt
 
-measured_few : (source : _) (asked : ℕ) (stays : ℕ → Bool) (reply : Reply) → AtMost 4 (measured source asked stays reply)
-measured_few source asked stays (Usable old) =
-    cond_both (stays old) _ _ (AtMost 4) (λ kept. tt) (λ moves. (omega arith, λ reply. allotted_few source (min old asked) reply))
-measured_few source asked stays _ = tt
+measured_few : (source : _) (stays : ℕ → Bool) (reply : Reply) → AtMost 4 (measured source stays reply)
+measured_few source stays (Usable old) =
+    cond_both (stays old) _ _ (AtMost 4) (λ kept. tt) (λ moves. (omega arith, λ reply. allotted_few source (min old source.asked) reply))
+measured_few source stays _ = tt
 
 moving_few : (c : Config) (place a asked : ℕ) (kind : Kind) (o : Option ℕ) → AtMost 5 (moving_plan c place a asked kind o)
 moving_few c place a asked kind None = tt
 moving_few c place a asked kind (Some home) =
-    (omega arith, λ reply. measured_few (record { home = home; place = place; addr = a }) asked (keeps c home kind) reply)
+    (omega arith, λ reply. measured_few (record { home = home; place = place; addr = a; asked = asked }) (keeps c home kind) reply)
 
 resize_few : (c : Config) (thread a asked : ℕ) (kind : Kind) (o : Option ℕ) → AtMost 5 (resize_plan c thread a asked kind o)
 resize_few c thread a asked kind None = tt

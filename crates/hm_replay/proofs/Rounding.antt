@@ -18,13 +18,13 @@ use Rattle.hm_turn.specs.Known.{Lock, Known, KnowsCallers}
 use Rattle.hm_turn.proofs.Histories.{starts_itself}
 use Rattle.hm_heap.specs.Passes.{PassView, AreOf, AllKnow}
 use Rattle.hm_replay.specs.declared.round.Worker.{Worker}
-use Rattle.hm_replay.specs.Gains.{mine_of}
+use Rattle.hm_replay.specs.Gains.{HasRun, mine_of}
 use Rattle.hm_replay.specs.Names.{Names, seen_in, settled}
 use Rattle.hm_replay.specs.RoundOf.{calls_in, ended_in, IsGathered, Stays, SeesMore, AllSeeMore, LeavesRoot}
 use Rattle.hm_replay.specs.Rounds.{AreOfCallers, RunsRound}
 use Rattle.hm_replay.specs.Scripts.{IsRun}
 use Rattle.hm_replay.specs.Uses.{Own}
-use Rattle.hm_replay.specs.Workers.{AllCalledBy, HasRun, HasMade, KeepsMade, HasParted, IsBegun, FinishedTo, after_joins}
+use Rattle.hm_replay.specs.Workers.{AllCalledBy, HasMade, KeepsMade, HasParted, IsBegun, FinishedTo, after_joins}
 use Rattle.hm_replay.proofs.Ends.{InOrder, joins_keep, keeps, knows, own_stays, these_end}
 use Rattle.hm_replay.proofs.Gaining.{starts_trans}
 use Rattle.hm_replay.proofs.Merging.{all_settled, kept_ok}

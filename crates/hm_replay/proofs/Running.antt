@@ -22,14 +22,6 @@ use Rattle.hm_replay.specs.Gains.{Gains, GainsAnswer, GainsResult, GainsResults,
 use Rattle.hm_replay.proofs.Gaining.{gains_as, gains_none, gains_then}
 
 -- ---- the call of a step
--- the same step, spelled otherwise
-pub respelled : (h : HeapView) (p q : PassView) (number base : ℕ) (step spelled : Step) (r : Result Answer NoMemory)
-    → step ≡ spelled
-    → IfOk r (GainsAnswer (IsStepPlan h.config p.thread (step_view spelled) base) p q number)
-    → IfOk r (GainsAnswer (IsStepPlan h.config p.thread (step_view step) base) p q number)
-respelled h p q number base step spelled r is =
-    subst (λ (s : Step). IfOk r (GainsAnswer (IsStepPlan h.config p.thread (step_view s) base) p q number)) (sym is)
-
 pub gains_called : (ts us : List Known) (t : Terms) (number base : ℕ) (step : StepView) (o : Option ℕ) (a : Answer)
     → Some base ≡ o
     → Gains ts us (Answers (IsStepPlan t.config t.thread step base) (λ part. who_at t number part) a)

@@ -1,5 +1,5 @@
 -- One step of a script: where it refers to, its plan, and the name that it sets.
-use Rattle.std.specs.Prelude.{◌≡◌, ℕ, suc, ◌+◌, ◌-◌, List, Option, Some, None, IfSome, ℤ, pos, negsuc}
+use Rattle.std.specs.Prelude.{◌≡◌, ℕ, suc, ◌+◌, ◌-◌, List, Option, Some, None, ℤ, pos, negsuc}
 use Rattle.std.specs.Option.{option_map}
 use Rattle.hm_model.specs.declared.answer.Answer.{Answer}
 use Rattle.hm_model.specs.declared.answer.Answer.TheVariants as answer
@@ -8,9 +8,8 @@ use Rattle.hm_model.specs.declared.entry.Who.{Who}
 use Rattle.hm_model.specs.Runs.{same_runs}
 use Rattle.hm_report.specs.declared.results.StepResult.{StepResult}
 use Rattle.hm_sizes.specs.declared.config.Config.{Config}
-use Rattle.hm_trace.specs.Traces.{name_set}
 use Rattle.hm_trace.specs.Views.{PlaceView, Null, At, Named, StepView, Malloc, Calloc, Aligned, Realloc, Free, Sfree, Write, Read, Size}
-use Rattle.hm_heap.specs.Calls.{IsMallocPlan, IsCallocPlan, IsAlignedPlan, IsReallocPlan, free_plan, usable_plan, read_plan, write_plan, AnswerInReach}
+use Rattle.hm_heap.specs.Calls.{IsMallocPlan, IsCallocPlan, IsAlignedPlan, IsReallocPlan, free_plan, usable_plan, read_plan, write_plan}
 use Rattle.hm_heap.specs.Plans.{Plan}
 use Rattle.hm_replay.specs.Names.{Names, with_name}
 use Rattle.hm_replay.specs.Uses.{Own, Stay, Uses, UsesFront}
@@ -82,10 +81,6 @@ named names step a = names
 abbrev pub names_after : Names → StepView → Option Answer → Names
 names_after names step None = names
 names_after names step (Some a) = named names step a
-
--- where the step sets a name, the block of the answer lies where blocks lie
-abbrev pub SetsInReach : StepView → Answer → Type 0
-SetsInReach step a = IfSome (name_set step) (λ name. AnswerInReach a)
 
 -- ---- the run of a step
 -- who runs the script, and on which configuration

@@ -1,10 +1,9 @@
 //! The name that a step sets by its answer, or leaves as it is.
 ghost use Rattle.std.specs.Prelude.{◌≡◌, IfSome, OnOk, OnErr};
 ghost use Rattle.hm_trace.specs.Views.{name_view, step_view};
-ghost use Rattle.hm_heap.specs.Requests.{IsInReach};
-ghost use Rattle.hm_heap.specs.Calls.{AnswerInReach};
+ghost use Rattle.hm_heap.specs.Requests.{AnswerInReach, IsInReach};
 ghost use Rattle.hm_replay.specs.Names.{touched_by, touched_too};
-ghost use Rattle.hm_replay.specs.Steps.{given_by, moved_by, named, SetsInReach};
+ghost use Rattle.hm_replay.specs.Steps.{given_by, moved_by, named};
 
 use crate::addresses::Addresses;
 use hm_base::NoMemory;
@@ -59,7 +58,7 @@ pub(crate) fn skip<E: Addresses>(env: &mut E, step: &Step) -> Result<(), NoMemor
 
 /// Sets the name of a step that was answered.
 pub(crate) fn name<E: Addresses>(env: &mut E, step: &Step, answer: &Answer) -> Result<(), NoMemory>
-    requires reach { SetsInReach (step_view step.now) answer.now }
+    requires reach { AnswerInReach answer.now }
     ensures value { OnOk result (E.names env.new ≡ named (E.names env.old) (step_view step.now) answer.now) }
     ensures touched { OnOk result (E.touched env.new ≡ touched_by (E.touched env.old) (step_view step.now)) }
     ensures memory { OnErr result (env.new ≡ env.old) }
