@@ -12,7 +12,7 @@ use Rattle.hm_report.specs.declared.results.StepResult.{StepResult}
 use Rattle.hm_trace.specs.declared.step.Step.{Step}
 use Rattle.hm_trace.specs.Views.{StepView, step_view, steps_view}
 use Rattle.hm_turn.specs.Known.{Known}
-use Rattle.hm_heap.specs.Passes.{HeapView, PassView}
+use Rattle.hm_heap.specs.Passes.{PassView}
 use Rattle.hm_heap.specs.Parts.{who_of, HasPart}
 use Rattle.hm_heap.specs.Plans.{Plan, Done, Part, Follows, GoesOn}
 use Rattle.hm_replay.specs.Gains.{Gains, GainsFront, mine_of}

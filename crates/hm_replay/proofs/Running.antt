@@ -1,12 +1,10 @@
 -- One more step of a script.
-use Rattle.std.proofs.Common.{◌≡◌, ℕ, ◌+◌, ◌<◌, ◌||◌, zero, suc, Bool, true, get_or, List, [], ◌∷◌, ◌++◌, append-nil, length, take, Option, Some, None, Result, refl, sym, ◌∙◌, ap, subst, arith}
-use Rattle.std.specs.Prelude.{IfOk}
+use Rattle.std.proofs.Common.{◌≡◌, ℕ, ◌+◌, ◌<◌, ◌||◌, zero, suc, Bool, true, get_or, List, [], ◌∷◌, ◌++◌, append-nil, length, take, Option, Some, None, refl, sym, ◌∙◌, ap, subst, arith}
 use Rattle.std.specs.List.{list_all, list_any}
 use Rattle.std.proofs.Math.Bool.{or-false, or_assoc}
 use Rattle.std.proofs.lemmas.Bool.{and_parts}
 use Rattle.std.proofs.lemmas.List.{length-map, length-take-le}
 use mathlib.Core.Path.{fun_ext, transport}
-use Rattle.hm_base.specs.declared.memory.NoMemory.{NoMemory}
 use Rattle.hm_model.specs.declared.answer.Answer.{Answer}
 use Rattle.hm_report.specs.declared.results.StepResult.{StepResult}
 use Rattle.hm_trace.specs.Traces.{sets_name}
@@ -18,7 +16,7 @@ use Rattle.hm_replay.specs.Names.{Names, Touched, touched_all, touched_by}
 use Rattle.hm_replay.specs.Uses.{Own, used_up}
 use Rattle.hm_replay.specs.Steps.{Terms, who_at, Answers, skipped, IsStepPlan, Steps, base_of, names_after}
 use Rattle.hm_replay.specs.Scripts.{Runs}
-use Rattle.hm_replay.specs.Gains.{Gains, GainsAnswer, GainsResult, GainsResults, mine_of, terms_of}
+use Rattle.hm_replay.specs.Gains.{Gains, GainsResult, GainsResults, mine_of, terms_of}
 use Rattle.hm_replay.proofs.Gaining.{gains_as, gains_none, gains_then}
 
 -- ---- the call of a step
