@@ -17,7 +17,7 @@ use Rattle.hm_heap.specs.Parts.{who_of, HasPart}
 use Rattle.hm_heap.specs.Plans.{Plan, Done, Part, Follows, GoesOn}
 use Rattle.hm_replay.specs.Gains.{Gains, GainsFront, mine_of}
 use Rattle.hm_replay.specs.Names.{Names}
-use Rattle.hm_replay.specs.Scripts.{Runs, RunsFront, StopsAt}
+use Rattle.hm_replay.specs.Scripts.{RunsSteps, RunsFront, StopsAt}
 use Rattle.hm_replay.specs.Steps.{Terms, Answers, BreaksOff, Fronts, IsStepPlan, base_of, who_at}
 use Rattle.hm_replay.specs.Uses.{Own, TakesPart, Uses, UsesFront}
 use Rattle.hm_replay.proofs.Gaining.{gains_as, gains_none, gains_then, part_gains}
@@ -150,9 +150,9 @@ stops_none t number names (s ∷ steps) xs = inl (λ place. refl)
 
 -- so many steps were run, and the next one was not begun
 pub ran_front : (ts us : List Known) (t : Terms) (names last : Names) (steps done later : List StepView) (rs : List StepResult)
-    → steps ≡ done ++ later → Gains ts us (Runs t 1 names done rs last) → Gains ts us (RunsFront t names steps last)
+    → steps ≡ done ++ later → Gains ts us (RunsSteps t 1 names done rs last) → Gains ts us (RunsFront t names steps last)
 ran_front ts us t names last steps done later rs is g =
-    gains_as ts us (Runs t 1 names done rs last) (RunsFront t names steps last)
+    gains_as ts us (RunsSteps t 1 names done rs last) (RunsFront t names steps last)
     (λ xs ys runs. record {
       done = done;
       later = later;
@@ -166,10 +166,10 @@ ran_front ts us t names last steps done later rs is g =
 -- so many steps were run, and the next one was not begun, or not run to its end
 pub stopped_front : (ts us vs : List Known) (t : Terms) (names last : Names) (steps done later : List StepView) (s : StepView)
     (rs : List StepResult) (number : ℕ) → number ≡ 1 + length done
-    → steps ≡ done ++ s ∷ later → Gains ts us (Runs t 1 names done rs last)
+    → steps ≡ done ++ s ∷ later → Gains ts us (RunsSteps t 1 names done rs last)
     → Gains us vs (StopsAt t number last (s ∷ [])) → Gains ts vs (RunsFront t names steps last)
 stopped_front ts us vs t names last steps done later s rs number number_is is g b =
-    gains_then ts us vs (Runs t 1 names done rs last) (StopsAt t number last (s ∷ [])) (RunsFront t names steps last)
+    gains_then ts us vs (RunsSteps t 1 names done rs last) (StopsAt t number last (s ∷ [])) (RunsFront t names steps last)
     (λ xs ys zs runs stops. record {
       done = done;
       later = s ∷ later;

@@ -21,7 +21,7 @@ use Rattle.hm_heap.specs.Passes.{PassView, AreOf}
 use Rattle.hm_heap.specs.Parts.{who_of, HasPart}
 use Rattle.hm_heap.specs.Plans.{Plan, Done, Part, Follows, GoesOn}
 use Rattle.hm_replay.specs.Uses.{Own, Takes, TakesPart, Uses}
-use Rattle.hm_replay.specs.Gains.{mine_of, Gains, Grew, AllGrew, HasRun}
+use Rattle.hm_replay.specs.Gains.{mine_of, Gains, Grew, AllGrew, WentOn}
 use Rattle.hm_replay.specs.Steps.{Answers}
 
 -- ---- what is gained
@@ -117,10 +117,10 @@ all_grew_then ts us vs a b = record {
       (b.each place t);
 }
 
-pub run_none : (locks : List Lock) (p : PassView) → AreOf locks p.turns → HasRun locks p p
+pub run_none : (locks : List Lock) (p : PassView) → AreOf locks p.turns → WentOn locks p p
 run_none locks p of = record { same = refl; of = of; grew = all_grew_none p.turns p.turns refl }
 
-pub run_then : (locks : List Lock) (p m q : PassView) → HasRun locks p m → HasRun locks m q → HasRun locks p q
+pub run_then : (locks : List Lock) (p m q : PassView) → WentOn locks p m → WentOn locks m q → WentOn locks p q
 run_then locks p m q a b = record {
   same = b.same ∙ ap (λ (z : PassView). record z { turns = q.turns }) a.same;
   of = b.of;

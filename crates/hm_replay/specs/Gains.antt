@@ -12,7 +12,7 @@ use Rattle.hm_heap.specs.Requests.{AnswerInReach}
 use Rattle.hm_report.specs.declared.results.StepResult.{StepResult}
 use Rattle.hm_trace.specs.Views.{StepView}
 use Rattle.hm_replay.specs.Names.{Names}
-use Rattle.hm_replay.specs.Scripts.{Runs, RunsFront, StopsAt}
+use Rattle.hm_replay.specs.Scripts.{RunsSteps, RunsFront, StopsAt}
 use Rattle.hm_replay.specs.Steps.{Terms, Answers, Steps, Fronts, base_of}
 use Rattle.hm_replay.specs.Uses.{Own}
 
@@ -40,7 +40,7 @@ GainsResult h p q number names step r = Gains p.turns q.turns (Steps (terms_of h
 
 -- steps had these results, and the names at the end
 abbrev pub GainsResults : HeapView → PassView → PassView → Names → List StepView → List StepResult → Names → Type 0
-GainsResults h p q names steps rs last = Gains p.turns q.turns (Runs (terms_of h p) 1 names steps rs last)
+GainsResults h p q names steps rs last = Gains p.turns q.turns (RunsSteps (terms_of h p) 1 names steps rs last)
 
 -- ---- for want of memory
 -- the first parts of a call of this step by one of these plans were made
@@ -66,7 +66,7 @@ pub record AllGrew (ts us : List Known) : Type 0 where
   pub each : (place : ℕ) (t : Known) → Grew (slice_index_or ts place t) (slice_index_or us place t)
 
 -- pass p is pass q some calls later: only its turns are others, they are of these locks, and what they know has grown
-pub record HasRun (locks : List Lock) (p q : PassView) : Type 0 where
+pub record WentOn (locks : List Lock) (p q : PassView) : Type 0 where
   pub same : q ≡ record p { turns = q.turns }
   pub of : AreOf locks q.turns
   pub grew : AllGrew p.turns q.turns
@@ -75,7 +75,7 @@ pub record HasRun (locks : List Lock) (p q : PassView) : Type 0 where
 -- a call of the step with this number, by one of these plans, had this answer or, for want of memory, some parts alone
 pub record HasCalled (h : HeapView) (IsPlan : Plan → Type 0) (p q : PassView) (number : ℕ)
     (answer : Result Answer NoMemory) : Type 0 where
-  pub run : HasRun h.locks p q
+  pub run : WentOn h.locks p q
   pub gains : IfOk answer (GainsAnswer IsPlan p q number)
   pub stops : OnErr answer (GainsFront IsPlan p q number)
   pub reach : IfOk answer AnswerInReach

@@ -16,15 +16,15 @@ use Rattle.hm_replay.specs.Uses.{Own, Stay, Uses, UsesFront}
 
 -- ---- where a step refers to
 -- an address and an offset
-abbrev pub moved : ℕ → ℤ → ℕ
-moved a (pos n) = a + n
-moved a (negsuc n) = a - suc n
+abbrev pub with_offset : ℕ → ℤ → ℕ
+with_offset a (pos n) = a + n
+with_offset a (negsuc n) = a - suc n
 
 -- the address of a place: none where its name is not set
 abbrev pub referred : Names → PlaceView → Option ℕ
 referred names Null = Some 0
 referred names (At a) = Some a
-referred names (Named name offset) = option_map (λ a. moved a offset) (names name)
+referred names (Named name offset) = option_map (λ a. with_offset a offset) (names name)
 
 -- the address that a step refers to, and 0 where it refers to none
 abbrev pub base_of : Names → StepView → Option ℕ
@@ -57,11 +57,11 @@ given_by (answer.Reply (Given a usable)) = Some a
 given_by other = None
 
 -- the address of the block that a reallocation leaves
-abbrev pub moved_by : Answer → Option ℕ
-moved_by (answer.Reply (Given a usable)) = Some a
-moved_by (answer.Kept a usable) = Some a
-moved_by (answer.HalfMoved a usable cause) = Some a
-moved_by other = None
+abbrev pub new_address_by : Answer → Option ℕ
+new_address_by (answer.Reply (Given a usable)) = Some a
+new_address_by (answer.Kept a usable) = Some a
+new_address_by (answer.HalfMoved a usable cause) = Some a
+new_address_by other = None
 
 -- a name is set where there is an address
 abbrev pub with_some : Names → List ℕ → Option ℕ → Names
@@ -74,7 +74,7 @@ abbrev pub named : Names → StepView → Answer → Names
 named names (Malloc name size) a = with_name names name (given_by a)
 named names (Calloc name count size) a = with_name names name (given_by a)
 named names (Aligned name align size) a = with_name names name (given_by a)
-named names (Realloc name place size) a = with_some names name (moved_by a)
+named names (Realloc name place size) a = with_some names name (new_address_by a)
 named names step a = names
 
 -- a skipped step leaves all names

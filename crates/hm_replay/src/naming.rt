@@ -3,7 +3,7 @@ ghost use Rattle.std.specs.Prelude.{◌≡◌, IfSome, OnOk, OnErr};
 ghost use Rattle.hm_trace.specs.Views.{name_view, step_view};
 ghost use Rattle.hm_heap.specs.Requests.{AnswerInReach, IsInReach};
 ghost use Rattle.hm_replay.specs.Names.{touched_by, touched_too};
-ghost use Rattle.hm_replay.specs.Steps.{given_by, moved_by, named};
+ghost use Rattle.hm_replay.specs.Steps.{given_by, new_address_by, named};
 
 use crate::addresses::Addresses;
 use hm_base::NoMemory;
@@ -22,8 +22,8 @@ fn given(answer: &Answer) -> Option<u64>
 }
 
 // The address of the block that a reallocation leaves.
-fn moved(answer: &Answer) -> Option<u64>
-    ensures value { result ≡ moved_by answer.now }
+fn new_address(answer: &Answer) -> Option<u64>
+    ensures value { result ≡ new_address_by answer.now }
     ensures reach { AnswerInReach answer.now → IfSome result IsInReach }
 {
     match answer {
@@ -67,7 +67,7 @@ pub(crate) fn name<E: Addresses>(env: &mut E, step: &Step, answer: &Answer) -> R
         Step::Malloc { name, .. } | Step::Calloc { name, .. } | Step::Aligned { name, .. } => {
             env.set(*name, given(answer))
         }
-        Step::Realloc { name, .. } => match moved(answer) {
+        Step::Realloc { name, .. } => match new_address(answer) {
             Some(addr) => env.set(*name, Some(addr)),
             None => touch(env, *name),
         },

@@ -5,9 +5,9 @@ ghost use Rattle.hm_trace.specs.Limits.{most_steps};
 ghost use Rattle.hm_trace.specs.Traces.{is_step};
 ghost use Rattle.hm_trace.specs.Views.{step_view, steps_view};
 ghost use Rattle.hm_heap.specs.Passes.{AreOf};
-ghost use Rattle.hm_replay.specs.Gains.{GainsResult, GainsResults, GainsStop, GainsFrontOf, HasRun, terms_of, mine_of};
+ghost use Rattle.hm_replay.specs.Gains.{GainsResult, GainsResults, GainsStop, GainsFrontOf, WentOn, terms_of, mine_of};
 ghost use Rattle.hm_replay.specs.Names.{held, touched_all, touched_by};
-ghost use Rattle.hm_replay.specs.Scripts.{IsFront, IsRun};
+ghost use Rattle.hm_replay.specs.Scripts.{IsFront, RunsAllSteps};
 ghost use Rattle.hm_replay.specs.Steps.{names_after};
 
 use crate::addresses::Addresses;
@@ -34,7 +34,7 @@ fn run_step<R: Wait, P: Pages, G: Gate, E: Addresses>(
 ) -> Result<StepResult, NoMemory>
     requires of { AreOf setting.now.heap.now.locks pass.old.turns }
     requires valid { is_step (step_view step.now) ≡ true }
-    ensures run { HasRun setting.now.heap.now.locks pass.old pass.new }
+    ensures run { WentOn setting.now.heap.now.locks pass.old pass.new }
     ensures ran { IfOk result
         (GainsResult setting.now.heap.now pass.old pass.new step_number (E.names env.old) (step_view step.now)) }
     ensures names { IfOk result (λ r. E.names env.new ≡ names_after (E.names env.old) (step_view step.now) r.answer) }
@@ -68,7 +68,7 @@ fn run_steps<R: Wait, P: Pages, G: Gate, E: Addresses>(
     requires of { AreOf setting.now.heap.now.locks pass.old.turns }
     requires valid { list_all is_step (steps_view steps.now) ≡ true }
     requires few { length steps.now ≤ most_steps }
-    ensures run { HasRun setting.now.heap.now.locks pass.old pass.new }
+    ensures run { WentOn setting.now.heap.now.locks pass.old pass.new }
     ensures ran { IfOk result (λ rs. GainsResults setting.now.heap.now pass.old pass.new (E.names env.old)
         (steps_view steps.now) rs.items (E.names env.new)) }
     ensures touched { IfOk result (λ _. E.touched env.new ≡ touched_all (E.touched env.old) (steps_view steps.now)) }
@@ -95,10 +95,10 @@ pub(crate) fn run_with<R: Wait, P: Pages, G: Gate, E: Addresses>(
     requires of { AreOf heap.now.locks pass.old.turns }
     requires thread { pass.old.thread ≡ script.now.thread }
     requires fresh { (place : ℕ) → mine_of pass.old.turns place ≡ [] }
-    ensures run { HasRun heap.now.locks pass.old pass.new }
+    ensures run { WentOn heap.now.locks pass.old pass.new }
     ensures results { IfOk result (λ rs. (rs.round ≡ pass.old.round) × (rs.thread ≡ script.now.thread)) }
-    ensures ran { IfOk result (λ rs. IsRun (terms_of heap.now pass.old) (E.names env.old) script.now.steps rs.items
-        (E.names env.new) (mine_of pass.new.turns)) }
+    ensures ran { IfOk result (λ rs. RunsAllSteps (terms_of heap.now pass.old) (E.names env.old) script.now.steps
+        rs.items (E.names env.new) (mine_of pass.new.turns)) }
     ensures touched { IfOk result (λ _. E.touched env.new ≡ touched_all (E.touched env.old) script.now.steps) }
     ensures stops { OnErr result (IsFront (terms_of heap.now pass.old) (E.names env.old) script.now.steps
         (E.names env.new) (mine_of pass.new.turns)) }
@@ -126,9 +126,9 @@ pub fn run_script<R: Wait, P: Pages, G: Gate>(
     requires of { AreOf heap.now.locks pass.old.turns }
     requires thread { pass.old.thread ≡ script.now.thread }
     requires fresh { (place : ℕ) → mine_of pass.old.turns place ≡ [] }
-    ensures run { HasRun heap.now.locks pass.old pass.new }
+    ensures run { WentOn heap.now.locks pass.old pass.new }
     ensures results { IfOk result (λ rs. (rs.round ≡ pass.old.round) × (rs.thread ≡ script.now.thread)) }
-    ensures ran { IfOk result (λ rs. IsRun (terms_of heap.now pass.old) (held env.old) script.now.steps rs.items
+    ensures ran { IfOk result (λ rs. RunsAllSteps (terms_of heap.now pass.old) (held env.old) script.now.steps rs.items
         (held env.new) (mine_of pass.new.turns)) }
     ensures stops { OnErr result (IsFront (terms_of heap.now pass.old) (held env.old) script.now.steps (held env.new)
         (mine_of pass.new.turns)) }

@@ -11,7 +11,7 @@ returns-in_default g c =
     let p = c.args.pass.now in
     let a = c.args.addr in
     let kind = c.class_of-kind.result in
-    let at = place_seen kind c.self.view_is c.pass.view_is c.place_for.ensures.place in
+    let at = place_seen kind c.self.view_is c.pass.view_is c.index_for.ensures.place in
     record {
       served = record {
         plan = Done TooLarge;
@@ -26,8 +26,8 @@ returns-in-None g c =
     let p = c.args.pass.now in
     let a = c.args.addr in
     let kind = c.class_of-kind.result in
-    let at = place_seen kind c.self.view_is c.pass.view_is c.place_for.ensures.place in
-    let home = home_seen a c.self.view_is c.home_place.ensures.place in
+    let at = place_seen kind c.self.view_is c.pass.view_is c.index_for.ensures.place in
+    let home = home_seen a c.self.view_is c.home_index.ensures.place in
     let some : (a == 0) ≡ false = grind (arith, c.if-addr-eq0.false) in
     record {
       served = record {
@@ -37,20 +37,20 @@ returns-in-None g c =
       };
     }
 
-pub returns-in-Some-home_place : goal.returns-in-Some-home_place
-returns-in-Some-home_place g c =
+pub returns-in-Some-home_index : goal.returns-in-Some-home_index
+returns-in-Some-home_index g c =
     let h = c.args.self.now in
     let p = c.args.pass.now in
     let a = c.args.addr in
     let kind = c.class_of-kind.result in
-    let at = place_seen kind c.self.view_is c.pass.view_is c.place_for.ensures.place in
-    let home = home_seen a c.self.view_is c.home_place.ensures.place in
+    let at = place_seen kind c.self.view_is c.pass.view_is c.index_for.ensures.place in
+    let home = home_seen a c.self.view_is c.home_index.ensures.place in
     let some : (a == 0) ≡ false = grind (arith, c.if-addr-eq0.false) in
-    let there = Some c.in-Some-home_place.home in
+    let there = Some c.in-Some-home_index.home in
     record {
       served = record {
         plan = moving_plan h.config c.in-Some.place a c.args.asked kind there;
-        is = moves h.config p.thread a c.args.asked kind c.class_of-kind.ensures c.in-Some.place there (sym c.in-Some.is ∙ at) some (sym c.in-Some-home_place.is ∙ home);
+        is = moves h.config p.thread a c.args.asked kind c.class_of-kind.ensures c.in-Some.place there (sym c.in-Some.is ∙ at) some (sym c.in-Some-home_index.is ∙ home);
         carried = c.resize.ensures.carried;
       };
     }

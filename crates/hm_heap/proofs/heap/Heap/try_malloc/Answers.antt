@@ -11,7 +11,7 @@ returns-in_default g c =
     let h = c.args.self.now in
     let p = c.args.pass.now in
     let kind = c.class_of-kind.result in
-    let at = place_seen kind c.self.view_is c.pass.view_is c.place_for.ensures.place in
+    let at = place_seen kind c.self.view_is c.pass.view_is c.index_for.ensures.place in
     record {
       served = record {
         plan = Done TooLarge;
@@ -25,7 +25,7 @@ returns g c =
     let h = c.args.self.now in
     let p = c.args.pass.now in
     let kind = c.class_of-kind.result in
-    let at = place_seen kind c.self.view_is c.pass.view_is c.place_for.ensures.place in
+    let at = place_seen kind c.self.view_is c.pass.view_is c.index_for.ensures.place in
     record {
       served = record {
         plan = Part c.in-Some.place (Allot c.args.asked 1) replied;
