@@ -12,14 +12,27 @@ use Rattle.hm_model.specs.declared.entry.Call.{Call}
 use Rattle.hm_model.specs.declared.entry.Call.TheVariants.{Allot}
 use Rattle.hm_model.specs.declared.entry.Reply.{Reply}
 use Rattle.hm_model.specs.declared.entry.Reply.TheVariants.{Given, Overwritten, Exhausted, NoSpace, PagesFailed, Freed, NoSlot, Unused, DoubleFree, WrongSize, Canary, Usable, Bytes, Filled, Trap, NotLive}
-use Rattle.hm_heap.specs.Passes.{HeapView, PassView}
-use Rattle.hm_heap.specs.Plans.{Done, Follows, Part}
-use Rattle.hm_heap.specs.Requests.{Reaches}
-use Rattle.hm_heap.specs.Calls.{place_for, class_place, large_place, home_place, replied, allot_plan, moving_plan, resize_plan, IsCallocPlan, IsAlignedPlan, IsReallocPlan, ReplyInReach}
+use Rattle.hm_heap.specs.Passes.{HeapView, PassView, AreOf}
+use Rattle.hm_heap.specs.Plans.{CarriesOut, Done, Part, TriesOut}
+use Rattle.hm_heap.specs.Requests.{Reaches, AnswerInReach, ReplyInReach}
+use Rattle.hm_heap.specs.Calls.{index_for, class_index, large_index, home_index, replied, allot_plan, moving_plan, resize_plan, IsCallocPlan, IsAlignedPlan, IsReallocPlan}
 
 -- an answer without a part
-pub answers_at_once : (p : PassView) (step : ℕ) (a : Answer) → Follows p p step 1 (Done a) (Ok a)
-answers_at_once p step a = (refl, refl)
+pub answers_at_once : (h : HeapView) (p : PassView) (step : ℕ) (a : Answer) → AreOf h.locks p.turns → AnswerInReach a
+    → CarriesOut h p p step 1 (Done a) (Ok a)
+answers_at_once h p step a of reach = record {
+  goes_on = record { same = refl; of = of };
+  follows = (refl, refl);
+  reach = reach;
+}
+
+pub tries_at_once : (h : HeapView) (p : PassView) (step : ℕ) (a : Answer) → AreOf h.locks p.turns → AnswerInReach a
+    → TriesOut h p p step (Done a) (Ok a)
+tries_at_once h p step a of reach = record {
+  goes_on = record { same = refl; of = of };
+  tries = (refl, refl);
+  reach = reach;
+}
 
 pub overflows : (c : Config) (thread count size : ℕ) → (count * size < 2 ^ 64 → ⊥) → IsCallocPlan c thread count size (Done answer.Overflow)
 overflows c thread count size most = record { overflow = λ e. refl; fits = λ lt. absurd (most lt) }
@@ -29,45 +42,45 @@ no_alignment_plan c thread align asked none = record { kind = None; kind_is = no
 
 -- where a kind is asked for, said of the fields, and so of what contracts see of the heap and the pass
 pub place_seen : {inside h : HeapView} {inner p : PassView} {place : Option ℕ} (kind : Kind) → inside ≡ h → inner ≡ p
-    → place ≡ place_for inside.config inner.thread kind → place ≡ place_for h.config p.thread kind
+    → place ≡ index_for inside.config inner.thread kind → place ≡ index_for h.config p.thread kind
 place_seen {h = h} {inner = inner} kind heap_is pass_is at =
     at
-    ∙ ap (λ (z : HeapView). place_for z.config inner.thread kind) heap_is
-    ∙ ap (λ (z : PassView). place_for h.config z.thread kind) pass_is
+    ∙ ap (λ (z : HeapView). index_for z.config inner.thread kind) heap_is
+    ∙ ap (λ (z : PassView). index_for h.config z.thread kind) pass_is
 
 -- where the region of an address stands, likewise
-pub home_seen : {inside h : HeapView} {place : Option ℕ} (a : ℕ) → inside ≡ h → place ≡ home_place inside.config a
-    → place ≡ home_place h.config a
-home_seen a heap_is at = at ∙ ap (λ (z : HeapView). home_place z.config a) heap_is
+pub home_seen : {inside h : HeapView} {place : Option ℕ} (a : ℕ) → inside ≡ h → place ≡ home_index inside.config a
+    → place ≡ home_index h.config a
+home_seen a heap_is at = at ∙ ap (λ (z : HeapView). home_index z.config a) heap_is
 
 module _ (c : Config) (thread a asked : ℕ) (kind : Kind) (kind_is : IsKindOf asked kind) where
-  pub too_large : None ≡ place_for c thread kind → IsReallocPlan c thread a asked (Done answer.TooLarge)
+  pub too_large : None ≡ index_for c thread kind → IsReallocPlan c thread a asked (Done answer.TooLarge)
   too_large at = record { kind = kind; kind_is = kind_is; is = ap (resize_plan c thread a asked kind) at }
 
-  pub moves : (place : ℕ) (home : Option ℕ) → Some place ≡ place_for c thread kind → (a == 0) ≡ false → home ≡ home_place c a → IsReallocPlan c thread a asked (moving_plan c place a asked kind home)
+  pub moves : (place : ℕ) (home : Option ℕ) → Some place ≡ index_for c thread kind → (a == 0) ≡ false → home ≡ home_index c a → IsReallocPlan c thread a asked (moving_plan c place a asked kind home)
   moves place home at some is = record {
     kind = kind;
     kind_is = kind_is;
     is = ap (moving_plan c place a asked kind) is
-        ∙ sym (ap (λ (b : Bool). if b then allot_plan c thread asked 1 kind else moving_plan c place a asked kind (home_place c a)) some)
+        ∙ sym (ap (λ (b : Bool). if b then allot_plan c thread asked 1 kind else moving_plan c place a asked kind (home_index c a)) some)
         ∙ ap (resize_plan c thread a asked kind) at;
   }
 
 -- of a kind that has no place
-pub allots_nowhere : (c : Config) (thread asked align : ℕ) (kind : Kind) → None ≡ place_for c thread kind
+pub allots_nowhere : (c : Config) (thread asked align : ℕ) (kind : Kind) → None ≡ index_for c thread kind
     → Done answer.TooLarge ≡ allot_plan c thread asked align kind
 allots_nowhere c thread asked align TooLarge at = refl
-allots_nowhere c thread asked align (Small class) at = absurd (none-some (class_place c thread class.0) at)
-allots_nowhere c thread asked align (Large size) at = absurd (none-some (large_place c) at)
+allots_nowhere c thread asked align (Small class) at = absurd (none-some (class_index c thread class.0) at)
+allots_nowhere c thread asked align (Large size) at = absurd (none-some (large_index c) at)
 
 -- of a kind that has this place
-pub allots_there : (c : Config) (thread asked place : ℕ) (kind : Kind) → Some place ≡ place_for c thread kind
+pub allots_there : (c : Config) (thread asked place : ℕ) (kind : Kind) → Some place ≡ index_for c thread kind
     → Part place (Allot asked 1) replied ≡ allot_plan c thread asked 1 kind
 allots_there c thread asked place TooLarge at = absurd (none-some place (sym at))
 allots_there c thread asked place (Small class) at =
-    ap (λ (n : ℕ). Part n (Allot asked 1) replied) (same_Some place (class_place c thread class.0) at)
+    ap (λ (n : ℕ). Part n (Allot asked 1) replied) (same_Some place (class_index c thread class.0) at)
 allots_there c thread asked place (Large size) at =
-    ap (λ (n : ℕ). Part n (Allot asked 1) replied) (same_Some place (large_place c) at)
+    ap (λ (n : ℕ). Part n (Allot asked 1) replied) (same_Some place (large_index c) at)
 
 -- the block of a reply
 pub reply_in_reach : (call : Call) (reply : Reply) → Reaches call reply → ReplyInReach reply

@@ -29,7 +29,7 @@ use Rattle.hm_class_rules.specs.Steps as class_steps
 use Rattle.hm_large.specs.Rules as large
 use Rattle.hm_large.specs.State as large_state
 use Rattle.hm_turn.specs.Known.{Lock}
-use Rattle.hm_heap.specs.Calls.{class_place, large_place, replied, StartsAligned}
+use Rattle.hm_heap.specs.Calls.{class_index, large_index, replied, StartsAligned}
 use Rattle.hm_heap.specs.Lawful.{class_terms, large_terms, IsLawful, IsRegionOf}
 use Rattle.hm_heap.specs.Origins.{origin_in}
 use Rattle.hm_heap.specs.Parts.{who_of, HasPart}
@@ -125,13 +125,13 @@ module _ (c : Config) (number : ℕ) (locks : List Lock) (p : PassView) (align :
       (λ a size given. starts ends.0 reply a size ends.1 (ap (λ (z : Answer). reply_in z reply) given))
   part_answers q between place who call r (Err none) part rest starts = subst (λ (z : Result Answer NoMemory). IfOk z (StartsAligned align)) (sym rest.1) tt
 
-  pub small_starts : (q : PassView) (step asked place thread : ℕ) (class : ClassId) (r : Result Answer NoMemory) → place ≡ class_place c thread class.0 → place < region_count c → class.0 < 49
+  pub small_starts : (q : PassView) (step asked place thread : ℕ) (class : ClassId) (r : Result Answer NoMemory) → place ≡ class_index c thread class.0 → place < region_count c → class.0 < 49
       → AlignedGives asked align (Some (Small class)) → Follows p q step 1 (Part place (Allot asked 1) replied) r → IfOk r (StartsAligned align)
   small_starts q step asked place thread class r is below lt gives follows =
       part_answers q follows.between place (who_of p step 1) (Allot asked 1) r follows.made follows.part follows.rest
       (λ told reply a size ends given. starts_in_class c number place class.0 told asked align reply a size are.valid below (ap (λ (n : ℕ). n % 49) is ∙ class_back ((thread - 1) % c.arenas) class.0 lt) gives.0 gives.1 ends given)
 
-  pub large_starts_at : (q : PassView) (step asked place : ℕ) (r : Result Answer NoMemory) → place ≡ large_place c → IsAlignment align → Follows p q step 1 (Part place (Allot asked align) replied) r → IfOk r (StartsAligned align)
+  pub large_starts_at : (q : PassView) (step asked place : ℕ) (r : Result Answer NoMemory) → place ≡ large_index c → IsAlignment align → Follows p q step 1 (Part place (Allot asked align) replied) r → IfOk r (StartsAligned align)
   large_starts_at q step asked place r is alignment follows =
       part_answers q follows.between place (who_of p step 1) (Allot asked align) r follows.made follows.part follows.rest
       (λ told reply a size ends given. starts_in_large c number place told asked align reply a size is alignment ends given)

@@ -8,10 +8,12 @@ use Rattle.hm_model.specs.declared.entry.Who.{Who}
 use Rattle.hm_model.specs.Entries.{calls_of}
 use Rattle.hm_turn.specs.Histories.{StartsWith}
 use Rattle.hm_turn.specs.Knowledge.{Knowledge, with_lost}
+use Rattle.hm_turn.specs.Known.{Lock, Known, IsOf}
 use Rattle.hm_heap.specs.Accepted.{IsAccepted}
 use Rattle.hm_heap.specs.Lawful.{IsLawful}
 use Rattle.hm_heap.specs.Origins.{origin_in}
-use Rattle.hm_heap.specs.Requests.{IsReply}
+use Rattle.hm_heap.specs.Requests.{call_of, Asks, IsReply}
+use Rattle.hm_heap.specs.declared.request.RegionCall.{RegionCall}
 
 pub record IsEntryOf (who : Who) (call : Call) (reply : Reply) (e : Entry) : Type 0 where
   pub who_is : e.who ≡ who
@@ -45,3 +47,20 @@ pub record Called (who : Who) (call : Call) (result : Result Reply NoMemory) (be
 abbrev pub Tried : Who → Call → Option (Result Reply NoMemory) → Knowledge → Knowledge → Type 0
 Tried who call tried before after =
     MatchOption tried (after ≡ with_lost before) (λ result. Called who call result before after)
+
+-- ---- the turn under which it is made
+-- the turn is of the lock, its caller makes the call, and its region is asked what it may be asked
+pub record MayMake (lock : Lock) (turn : Known) (call : RegionCall) : Type 0 where
+  pub of : IsOf lock turn
+  pub caller : call.who.caller ≡ turn.knows.caller
+  pub asks : Asks (origin_in turn.knows.origin).region (call_of call.request)
+
+-- turn t made it, and is turn u from then on
+pub record MakesCall (call : RegionCall) (result : Result Reply NoMemory) (t u : Known) : Type 0 where
+  pub lock : u.lock ≡ t.lock
+  pub called : Called call.who (call_of call.request) result t.knows u.knows
+
+-- the same, where the turn may not have been free
+pub record TriesCall (call : RegionCall) (made : Option (Result Reply NoMemory)) (t u : Known) : Type 0 where
+  pub lock : u.lock ≡ t.lock
+  pub tried : Tried call.who (call_of call.request) made t.knows u.knows

@@ -1,5 +1,5 @@
 -- The plan of each call of a heap: its refusals in their order, its parts, and its answer.
-use Rattle.std.specs.Prelude.{◌≡◌, ◌+◌, ◌-◌, ◌*◌, ◌%◌, ◌^◌, ◌<◌, ◌≤◌, ◌==◌, nat_lt, min, ◌&&◌, ℕ, Bool, false, if◌then◌else◌, List, Option, Some, None, ⊤}
+use Rattle.std.specs.Prelude.{◌≡◌, ◌+◌, ◌-◌, ◌*◌, ◌%◌, ◌^◌, ◌<◌, ◌≤◌, ◌==◌, nat_lt, min, ◌&&◌, ℕ, Bool, false, if◌then◌else◌, List, length, Option, Some, None}
 use Rattle.hm_model.specs.declared.answer.Answer.{Answer}
 use Rattle.hm_model.specs.declared.answer.Answer.TheVariants as answer
 use Rattle.hm_model.specs.declared.entry.Call.{Call}
@@ -18,30 +18,31 @@ use Rattle.hm_sizes.specs.Sizes.{IsKindOf}
 use Rattle.hm_heap.specs.declared.realloc.Move.{Move}
 use Rattle.hm_heap.specs.declared.realloc.Source.{Source}
 use Rattle.hm_heap.specs.Plans.{Plan, Done, Part}
-use Rattle.hm_heap.specs.Requests.{IsInReach}
+use Rattle.hm_heap.specs.Passes.{HeapView, region_at}
+use Rattle.hm_heap.specs.Requests.{Asks, IsInReach}
 
 -- ---- where the parts are made
 -- thread T asks for its small blocks in arena (T - 1) mod arenas
-abbrev pub class_place : Config → ℕ → ℕ → ℕ
-class_place c thread class = (thread - 1) % c.arenas * class_count + class
+abbrev pub class_index : Config → ℕ → ℕ → ℕ
+class_index c thread class = (thread - 1) % c.arenas * class_count + class
 
-abbrev pub large_place : Config → ℕ
-large_place c = region_count c
+abbrev pub large_index : Config → ℕ
+large_index c = region_count c
 
 -- where a block of this kind is asked for; one that is too large is asked for nowhere
-abbrev pub place_for : Config → ℕ → Kind → Option ℕ
-place_for c thread (Small class) = Some (class_place c thread class.0)
-place_for c thread (Large size) = Some (large_place c)
-place_for c thread TooLarge = None
+abbrev pub index_for : Config → ℕ → Kind → Option ℕ
+index_for c thread (Small class) = Some (class_index c thread class.0)
+index_for c thread (Large size) = Some (large_index c)
+index_for c thread TooLarge = None
 
 -- where the region of an address stands
-abbrev pub place_of_home : Config → Home → Option ℕ
-place_of_home c (Class region) = Some region.0
-place_of_home c LargeHome = Some (large_place c)
-place_of_home c Outside = None
+abbrev pub index_of_home : Config → Home → Option ℕ
+index_of_home c (Class region) = Some region.0
+index_of_home c LargeHome = Some (large_index c)
+index_of_home c Outside = None
 
-abbrev pub home_place : Config → ℕ → Option ℕ
-home_place c a = place_of_home c (home_of c a)
+abbrev pub home_index : Config → ℕ → Option ℕ
+home_index c a = index_of_home c (home_of c a)
 
 -- ---- calls of one part
 abbrev pub replied : Reply → Plan
@@ -55,8 +56,8 @@ at_home (Some place) call = Part place call replied
 -- a request that goes to a block of this kind; a class region asks for no alignment
 abbrev pub allot_plan : Config → ℕ → ℕ → ℕ → Kind → Plan
 allot_plan c thread asked align TooLarge = Done answer.TooLarge
-allot_plan c thread asked align (Small class) = Part (class_place c thread class.0) (Allot asked 1) replied
-allot_plan c thread asked align (Large size) = Part (large_place c) (Allot asked align) replied
+allot_plan c thread asked align (Small class) = Part (class_index c thread class.0) (Allot asked 1) replied
+allot_plan c thread asked align (Large size) = Part (large_index c) (Allot asked align) replied
 
 pub record IsMallocPlan (c : Config) (thread asked : ℕ) (plan : Plan) : Type 0 where
   pub kind : Kind
@@ -79,18 +80,31 @@ pub record IsAlignedPlan (c : Config) (thread align asked : ℕ) (plan : Plan) :
 
 -- a free, with a stated size or none
 abbrev pub free_plan : Config → ℕ → Option ℕ → Plan
-free_plan c a stated = if a == 0 then Done answer.Nothing else at_home (home_place c a) (GiveBack a stated)
+free_plan c a stated = if a == 0 then Done answer.Nothing else at_home (home_index c a) (GiveBack a stated)
 
 abbrev pub usable_plan : Config → ℕ → Plan
-usable_plan c a = if a == 0 then Done (answer.Reply (Usable 0)) else at_home (home_place c a) (Measure a)
+usable_plan c a = if a == 0 then Done (answer.Reply (Usable 0)) else at_home (home_index c a) (Measure a)
 
 abbrev pub read_plan : Config → ℕ → ℕ → Plan
-read_plan c a len = at_home (home_place c a) (Fetch a len)
+read_plan c a len = at_home (home_index c a) (Fetch a len)
 
 abbrev pub write_plan : Config → ℕ → List (ℕ × ℕ) → Plan
-write_plan c a runs = at_home (home_place c a) (Fill a runs)
+write_plan c a runs = at_home (home_index c a) (Fill a runs)
 
--- ---- moving a block: each step takes what the one before replied
+-- ---- moving a block
+-- a block at an address in reach, whose region and that of a new block stand in the heap, and the latter may be asked
+pub record IsSource (h : HeapView) (source : Source) : Type 0 where
+  pub home : source.home < length h.locks
+  pub place : source.place < length h.locks
+  pub reach : IsInReach source.addr
+  pub few : source.asked ≤ 2 ^ 30
+  pub asks : Asks (region_at h.config source.place) (Allot source.asked 1)
+
+pub record IsMove (h : HeapView) (moved : Move) : Type 0 where
+  pub source : IsSource h moved.source
+  pub new : IsInReach moved.new
+
+-- each step takes what the one before replied
 module _ (moved : Move) where
   -- the old block was given back, or not
   abbrev pub freed : Reply → Plan
@@ -122,44 +136,35 @@ module _ (source : Source) where
 
   -- the old block was measured, or not: it stays where it serves, and else the lesser of its usable size and the new
   -- asked size is copied
-  abbrev pub measured : ℕ → (ℕ → Bool) → Reply → Plan
-  measured asked keeps (Usable old) =
+  abbrev pub measured : (ℕ → Bool) → Reply → Plan
+  measured keeps (Usable old) =
       if keeps old then Done (answer.Kept source.addr old)
-      else Part source.place (Allot asked 1) (allotted (min old asked))
-  measured asked keeps reply = Done (answer.Reply reply)
+      else Part source.place (Allot source.asked 1) (allotted (min old source.asked))
+  measured keeps reply = Done (answer.Reply reply)
 
 -- a block at home with so many usable bytes serves the new kind as it is: the class, or the large size, is the same
 abbrev pub keeps : Config → ℕ → Kind → ℕ → Bool
 keeps c home (Small class) old = nat_lt home (region_count c) && ((home % class_count) == class.0)
-keeps c home (Large size) old = (home == large_place c) && (size == old)
+keeps c home (Large size) old = (home == large_index c) && (size == old)
 keeps c home TooLarge old = false
 
 abbrev pub moving_plan : Config → ℕ → ℕ → ℕ → Kind → Option ℕ → Plan
 moving_plan c place a asked kind None = Done answer.Outside
 moving_plan c place a asked kind (Some home) =
-    Part home (Measure a) (measured (record { home = home; place = place; addr = a }) asked (keeps c home kind))
+    Part home (Measure a)
+    (measured (record { home = home; place = place; addr = a; asked = asked }) (keeps c home kind))
 
 abbrev pub resize_plan : Config → ℕ → ℕ → ℕ → Kind → Option ℕ → Plan
 resize_plan c thread a asked kind None = Done answer.TooLarge
 resize_plan c thread a asked kind (Some place) =
-    if a == 0 then allot_plan c thread asked 1 kind else moving_plan c place a asked kind (home_place c a)
+    if a == 0 then allot_plan c thread asked 1 kind else moving_plan c place a asked kind (home_index c a)
 
 pub record IsReallocPlan (c : Config) (thread a asked : ℕ) (plan : Plan) : Type 0 where
   pub kind : Kind
   pub kind_is : IsKindOf asked kind
-  pub is : plan ≡ resize_plan c thread a asked kind (place_for c thread kind)
+  pub is : plan ≡ resize_plan c thread a asked kind (index_for c thread kind)
 
--- ---- where the block of an answer lies
-abbrev pub ReplyInReach : Reply → Type 0
-ReplyInReach (Given a usable) = IsInReach a
-ReplyInReach reply = ⊤
-
-abbrev pub AnswerInReach : Answer → Type 0
-AnswerInReach (answer.Reply reply) = ReplyInReach reply
-AnswerInReach (answer.Kept a usable) = IsInReach a
-AnswerInReach (answer.HalfMoved a usable cause) = IsInReach a
-AnswerInReach other = ⊤
-
+-- ---- how the block of an answer begins
 -- a block that is given begins at a multiple of the alignment
 abbrev pub StartsAligned : ℕ → Answer → Type 0
 StartsAligned align given = (a usable : ℕ) → given ≡ answer.Reply (Given a usable) → a % align ≡ 0

@@ -1,5 +1,5 @@
 -- What a turn and a pass know once they have looked at the changes that a region's entries make.
-use Rattle.std.specs.Prelude.{false, None, ◌≡◌, ◌≤◌, ◌<◌, ℕ, List, [], ◌∷◌, ◌++◌, length, drop, slice_index_or, slice_set, Result, IfOk}
+use Rattle.std.specs.Prelude.{false, None, ◌≡◌, ◌≤◌, ◌<◌, ℕ, length, drop, slice_index_or, slice_set, Result, IfOk}
 use Rattle.hm_base.specs.declared.memory.NoMemory.{NoMemory}
 use Rattle.hm_model.specs.Changes.{changes_of}
 use Rattle.hm_model.specs.Entries.{calls_of}

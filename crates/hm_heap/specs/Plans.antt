@@ -1,13 +1,14 @@
 -- A call of a heap as a plan: its parts, each chosen by the replies before it, and its answer.
-use Rattle.std.specs.Prelude.{◌≡◌, ◌+◌, ℕ, Option, MatchOption, Result, Ok, Err, MatchResult}
+use Rattle.std.specs.Prelude.{◌≡◌, ◌+◌, ℕ, Option, MatchOption, Result, Ok, Err, IfOk, MatchResult}
 use Rattle.hm_base.specs.declared.memory.NoMemory.{NoMemory}
 use Rattle.hm_model.specs.declared.answer.Answer.{Answer}
 use Rattle.hm_model.specs.declared.answer.Answer.TheVariants.{Busy}
 use Rattle.hm_model.specs.declared.entry.Call.{Call}
 use Rattle.hm_model.specs.declared.entry.Reply.{Reply}
 use Rattle.hm_model.specs.declared.entry.Who.{Who}
-use Rattle.hm_heap.specs.Passes.{PassView}
+use Rattle.hm_heap.specs.Passes.{HeapView, PassView, GoesOnAs}
 use Rattle.hm_heap.specs.Parts.{who_of, HasPart, HasTried}
+use Rattle.hm_heap.specs.Requests.{AnswerInReach}
 
 -- an answer, or a call of the region at a place and what follows its reply
 pub data Plan : Type 0 where
@@ -36,11 +37,19 @@ Follows p q step n (Part place call next) answer =
     MakesPart p q place (who_of p step n) call answer
     (λ between reply. Follows between q step (n + 1) (next reply) answer)
 
--- some plan of this kind was followed
-pub record Serves (IsPlan : Plan → Type 0) (p q : PassView) (step : ℕ) (answer : Result Answer NoMemory) : Type 0 where
+-- a call of heap h: pass p goes on as pass q, the plan was followed, and a block that is answered lies in reach
+pub record CarriesOut (h : HeapView) (p q : PassView) (step n : ℕ) (plan : Plan)
+    (answer : Result Answer NoMemory) : Type 0 where
+  pub goes_on : GoesOnAs h p q
+  pub follows : Follows p q step n plan answer
+  pub reach : IfOk answer AnswerInReach
+
+-- some plan of this kind was carried out
+pub record Serves (h : HeapView) (IsPlan : Plan → Type 0) (p q : PassView) (step : ℕ)
+    (answer : Result Answer NoMemory) : Type 0 where
   pub plan : Plan
   pub is : IsPlan plan
-  pub follows : Follows p q step 1 plan answer
+  pub carried : CarriesOut h p q step 1 plan answer
 
 -- ---- a plan is tried
 -- the first part may have found the turn not free: then the answer is Busy
@@ -57,8 +66,16 @@ Tries p q step (Done a) answer = (answer ≡ Ok a) × (q ≡ p)
 Tries p q step (Part place call next) answer =
     TriesPart p q place (who_of p step 1) call answer (λ between reply. Follows between q step 2 (next reply) answer)
 
-pub record ServesTry (IsPlan : Plan → Type 0) (p q : PassView) (step : ℕ)
+-- as CarriesOut, where the plan was tried
+pub record TriesOut (h : HeapView) (p q : PassView) (step : ℕ) (plan : Plan)
+    (answer : Result Answer NoMemory) : Type 0 where
+  pub goes_on : GoesOnAs h p q
+  pub tries : Tries p q step plan answer
+  pub reach : IfOk answer AnswerInReach
+
+-- some plan of this kind was tried
+pub record ServesTry (h : HeapView) (IsPlan : Plan → Type 0) (p q : PassView) (step : ℕ)
     (answer : Result Answer NoMemory) : Type 0 where
   pub plan : Plan
   pub is : IsPlan plan
-  pub tries : Tries p q step plan answer
+  pub tried : TriesOut h p q step plan answer

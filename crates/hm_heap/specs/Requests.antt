@@ -1,5 +1,7 @@
 -- The call of a request, what it asks of its arguments, and what is replied, by the region.
 use Rattle.std.specs.Prelude.{◌≡◌, ◌<◌, ◌≤◌, ◌%◌, ◌^◌, ℕ, List, length, ⊤}
+use Rattle.hm_model.specs.declared.answer.Answer.{Answer}
+use Rattle.hm_model.specs.declared.answer.Answer.TheVariants as answer
 use Rattle.hm_model.specs.declared.entry.Call.{Call}
 use Rattle.hm_model.specs.declared.entry.Call.TheVariants.{Allot, GiveBack, Measure, Fetch, Fill}
 use Rattle.hm_model.specs.declared.entry.Reply.{Reply}
@@ -62,3 +64,14 @@ IsInReach a = (2 ^ 40 ≤ a) × (a < 2 ^ 47)
 pub record Reaches (call : Call) (reply : Reply) : Type 0 where
   pub given : (a usable : ℕ) → reply ≡ Given a usable → IsInReach a
   pub bytes : (a len : ℕ) (runs : List (ℕ × ℕ)) → call ≡ Fetch a len → reply ≡ Bytes runs → length (expand runs) ≡ len
+
+-- ---- where the block of an answer lies
+abbrev pub ReplyInReach : Reply → Type 0
+ReplyInReach (Given a usable) = IsInReach a
+ReplyInReach reply = ⊤
+
+abbrev pub AnswerInReach : Answer → Type 0
+AnswerInReach (answer.Reply reply) = ReplyInReach reply
+AnswerInReach (answer.Kept a usable) = IsInReach a
+AnswerInReach (answer.HalfMoved a usable cause) = IsInReach a
+AnswerInReach other = ⊤

@@ -2,13 +2,13 @@
 ghost use Rattle.std.specs.Prelude.{◌≡◌, ◌≤◌, [], ◌∷◌, ◌++◌, OnOk, length, drop, slice_index_or, IfOk, MatchOption};
 ghost use Rattle.hm_turn.specs.Known.{IsOf, Known, KnowsCallers};
 ghost use Rattle.hm_heap.specs.Regions.{entries_of};
-ghost use Rattle.hm_heap.specs.Calls.{large_place};
+ghost use Rattle.hm_heap.specs.Calls.{large_index};
 ghost use Rattle.hm_heap.specs.Passes.{AreOf};
 ghost use Rattle.hm_model.specs.Changes.{change, changes_of};
 ghost use Rattle.hm_heap.specs.Changes.{Looked, HasLooked, HasJoined};
 
 use crate::heap::Heap;
-use crate::homes::large_place;
+use crate::homes::large_index;
 use crate::pass::Pass;
 use crate::region::Region;
 use core::mem::replace_with;
@@ -151,12 +151,12 @@ impl<'g, P: Pages, G: Gate> Heap<'g, P, G> {
         requires of { AreOf self.now.locks pass.old.turns }
         requires root { pass.old.caller ≡ 0 }
         requires from { (t : Known)
-            → from ≤ length (slice_index_or pass.old.turns (large_place self.now.config) t).knows.seen }
+            → from ≤ length (slice_index_or pass.old.turns (large_index self.now.config) t).knows.seen }
         ensures same { pass.new ≡ record pass.old { turns = pass.new.turns } }
         ensures of { AreOf self.now.locks pass.new.turns }
-        ensures looked { HasLooked pass.old pass.new (large_place self.now.config) from result }
+        ensures looked { HasLooked pass.old pass.new (large_index self.now.config) from result }
     {
-        let place = large_place(&self.config);
+        let place = large_index(&self.config);
         look_at(
             rt,
             alloc,

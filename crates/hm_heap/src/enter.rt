@@ -1,15 +1,11 @@
 //! One call of a region, under its turn.
-ghost use Rattle.std.specs.Prelude.{◌≡◌};
-ghost use Rattle.hm_turn.specs.Known.{IsOf};
-ghost use Rattle.hm_heap.specs.Origins.{origin_in};
-ghost use Rattle.hm_heap.specs.Requests.{call_of, Asks};
-ghost use Rattle.hm_heap.specs.Called.{Called, Tried};
+ghost use Rattle.hm_heap.specs.Called.{MakesCall, MayMake, TriesCall};
 
 use crate::region::Region;
-use crate::request::Request;
+use crate::request::RegionCall;
 use core::mem::replace_with;
-use hm_base::{NoMemory, RegionId};
-use hm_model::{Reply, Who};
+use hm_base::NoMemory;
+use hm_model::Reply;
 use hm_outside::{Gate, Pages};
 use hm_turn::{Turn, TurnLock};
 use std::sync::Wait;
@@ -20,19 +16,14 @@ fn enter<R: Wait, P: Pages, G: Gate>(
     lock: &TurnLock<Region<P>>,
     gate: &G,
     turn: Turn,
-    region: RegionId,
-    who: Who,
-    request: Request,
+    call: RegionCall,
 ) -> (Turn, Result<Reply, NoMemory>)
-    requires lock { IsOf lock.now turn }
-    requires who { who.caller ≡ turn.knows.caller }
-    requires asks { Asks (origin_in turn.knows.origin).region (call_of request) }
-    ensures lock { result.0.lock ≡ turn.lock }
-    ensures called { Called who (call_of request.entry) result.1 turn.knows result.0.knows }
+    requires may { MayMake lock.now turn call }
+    ensures made { MakesCall call.entry result.1 turn result.0 }
 {
     let mut held = lock.take(rt, turn);
-    gate.inside(region, who.caller);
-    let reply = held.value().serve(who, request);
+    gate.inside(call.region, call.who.caller);
+    let reply = held.value().serve(call.who, call.request);
     (lock.give(held), reply)
 }
 
@@ -41,20 +32,15 @@ fn try_enter<P: Pages, G: Gate>(
     lock: &TurnLock<Region<P>>,
     gate: &G,
     turn: Turn,
-    region: RegionId,
-    who: Who,
-    request: Request,
+    call: RegionCall,
 ) -> (Turn, Option<Result<Reply, NoMemory>>)
-    requires lock { IsOf lock.now turn }
-    requires who { who.caller ≡ turn.knows.caller }
-    requires asks { Asks (origin_in turn.knows.origin).region (call_of request) }
-    ensures lock { result.0.lock ≡ turn.lock }
-    ensures tried { Tried who (call_of request.entry) result.1 turn.knows result.0.knows }
+    requires may { MayMake lock.now turn call }
+    ensures tried { TriesCall call.entry result.1 turn result.0 }
 {
     match lock.try_take(turn) {
         Ok(mut held) => {
-            gate.inside(region, who.caller);
-            let reply = held.value().serve(who, request);
+            gate.inside(call.region, call.who.caller);
+            let reply = held.value().serve(call.who, call.request);
             (lock.give(held), Some(reply))
         }
         Err(turn) => (turn, None),
@@ -67,25 +53,18 @@ pub(crate) fn enter_at<R: Wait, P: Pages, G: Gate>(
     lock: &TurnLock<Region<P>>,
     gate: &G,
     turn: &mut Turn,
-    region: RegionId,
-    who: Who,
-    request: Request,
+    call: RegionCall,
 ) -> Result<Reply, NoMemory>
-    requires lock { IsOf lock.now turn.old }
-    requires who { who.caller ≡ turn.old.knows.caller }
-    requires asks { Asks (origin_in turn.old.knows.origin).region (call_of request) }
-    ensures lock { turn.new.lock ≡ turn.old.lock }
-    ensures called { Called who (call_of request.entry) result turn.old.knows turn.new.knows }
+    requires may { MayMake lock.now turn.old call }
+    ensures made { MakesCall call.entry result turn.old turn.new }
 {
     replace_with(
         turn,
-        request,
-        |turn, request|
-            requires { IsOf lock.now turn × (who.caller ≡ turn.knows.caller)
-                × Asks (origin_in turn.knows.origin).region (call_of request) }
-            ensures { (result.0.lock ≡ turn.lock)
-                × Called who (call_of request.entry) result.1 turn.knows result.0.knows }
-        { enter(rt, lock, gate, turn, region, who, request) },
+        call,
+        |turn, call|
+            requires { MayMake lock.now turn call }
+            ensures { MakesCall call.entry result.1 turn result.0 }
+        { enter(rt, lock, gate, turn, call) },
     )
 }
 
@@ -94,24 +73,17 @@ pub(crate) fn try_enter_at<P: Pages, G: Gate>(
     lock: &TurnLock<Region<P>>,
     gate: &G,
     turn: &mut Turn,
-    region: RegionId,
-    who: Who,
-    request: Request,
+    call: RegionCall,
 ) -> Option<Result<Reply, NoMemory>>
-    requires lock { IsOf lock.now turn.old }
-    requires who { who.caller ≡ turn.old.knows.caller }
-    requires asks { Asks (origin_in turn.old.knows.origin).region (call_of request) }
-    ensures lock { turn.new.lock ≡ turn.old.lock }
-    ensures tried { Tried who (call_of request.entry) result turn.old.knows turn.new.knows }
+    requires may { MayMake lock.now turn.old call }
+    ensures tried { TriesCall call.entry result turn.old turn.new }
 {
     replace_with(
         turn,
-        request,
-        |turn, request|
-            requires { IsOf lock.now turn × (who.caller ≡ turn.knows.caller)
-                × Asks (origin_in turn.knows.origin).region (call_of request) }
-            ensures { (result.0.lock ≡ turn.lock)
-                × Tried who (call_of request.entry) result.1 turn.knows result.0.knows }
-        { try_enter(lock, gate, turn, region, who, request) },
+        call,
+        |turn, call|
+            requires { MayMake lock.now turn call }
+            ensures { TriesCall call.entry result.1 turn result.0 }
+        { try_enter(lock, gate, turn, call) },
     )
 }

@@ -7,59 +7,59 @@ ghost use Rattle.hm_sizes.specs.Homes.{region_count};
 ghost use Rattle.hm_sizes.specs.Sizes.{IsKindOf};
 ghost use Rattle.hm_heap.specs.Passes.{region_at};
 ghost use Rattle.hm_heap.specs.Requests.{Asks, IsInReach};
-ghost use Rattle.hm_heap.specs.Calls.{class_place, large_place, home_place, place_for};
+ghost use Rattle.hm_heap.specs.Calls.{class_index, large_index, home_index, index_for};
 
 use crate::heap::CLASSES;
 use hm_sizes::{ClassId, Config, Home, Kind, home_of};
 
-/// The place of the region of a class in the arena of a thread.
-pub(crate) fn class_place(config: &Config, thread: u32, class: ClassId) -> usize
+/// The index of the region of a class in the arena of a thread.
+pub(crate) fn class_index(config: &Config, thread: u32, class: ClassId) -> usize
     requires valid { IsValid config.now }
     requires thread { 1 ≤ thread }
     requires class { class.0 < class_count }
-    ensures place { result ≡ class_place config.now thread class.0 }
+    ensures place { result ≡ class_index config.now thread class.0 }
     ensures below { result < region_count config.now }
 {
     let arena = (thread - 1) % config.arenas;
     (arena * CLASSES + u32::from(class.0)) as usize
 }
 
-/// The place of the large region.
-pub(crate) fn large_place(config: &Config) -> usize
+/// The index of the large region.
+pub(crate) fn large_index(config: &Config) -> usize
     requires { config.now.arenas ≤ 4 }
-    ensures { result ≡ large_place config.now }
+    ensures { result ≡ large_index config.now }
 {
     (config.arenas * CLASSES) as usize
 }
 
-/// The place of the region in which a block of this kind is asked for. None is for one that is too large. `asked` is
+/// The index of the region in which a block of this kind is asked for. None is for one that is too large. `asked` is
 /// read by the clauses alone.
-pub(crate) fn place_for(config: &Config, thread: u32, kind: Kind, asked: u64) -> Option<usize>
+pub(crate) fn index_for(config: &Config, thread: u32, kind: Kind, asked: u64) -> Option<usize>
     requires valid { IsValid config.now }
     requires thread { 1 ≤ thread }
     requires kind { IsKindOf asked kind }
-    ensures place { result ≡ place_for config.now thread kind }
+    ensures place { result ≡ index_for config.now thread kind }
     ensures below { IfSome result (λ place. place < region_count config.now + 1) }
     ensures asks { IfSome result (λ place. Asks (region_at config.now place) (call.Allot asked 1)) }
     ensures few { IfSome result (λ place. asked ≤ 2 ^ 30) }
 {
     match kind {
         Kind::TooLarge => None,
-        Kind::Small(class) => Some(class_place(config, thread, class)),
-        Kind::Large(_size) => Some(large_place(config)),
+        Kind::Small(class) => Some(class_index(config, thread, class)),
+        Kind::Large(_size) => Some(large_index(config)),
     }
 }
 
-/// The place of the region to which an address belongs.
-pub(crate) fn home_place(config: &Config, addr: u64) -> Option<usize>
+/// The index of the region to which an address belongs.
+pub(crate) fn home_index(config: &Config, addr: u64) -> Option<usize>
     requires { IsValid config.now }
-    ensures place { result ≡ home_place config.now addr }
+    ensures place { result ≡ home_index config.now addr }
     ensures below { IfSome result (λ place. place < region_count config.now + 1) }
     ensures reach { IfSome result (λ place. IsInReach addr) }
 {
     match home_of(config, addr) {
         Home::Class(region) => Some(region.0 as usize),
-        Home::Large => Some(large_place(config)),
+        Home::Large => Some(large_index(config)),
         Home::Outside => None,
     }
 }

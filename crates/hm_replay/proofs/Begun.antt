@@ -14,7 +14,7 @@ use Rattle.hm_replay.specs.Gains.{mine_of}
 use Rattle.hm_replay.specs.Names.{Names, seen_in}
 use Rattle.hm_replay.specs.RoundOf.{BeginsRound, LeavesRoot, ended_in}
 use Rattle.hm_replay.specs.Rounds.{AreFronts}
-use Rattle.hm_replay.specs.Scripts.{IsFront, IsRun}
+use Rattle.hm_replay.specs.Scripts.{IsFront, RunsAllSteps}
 use Rattle.hm_replay.specs.Steps.{Terms}
 use Rattle.hm_replay.specs.Uses.{Own, used_up}
 use Rattle.hm_replay.specs.Workers.{HasParted, IsBegun, FinishedTo, MakesFront}
@@ -44,7 +44,7 @@ are_fronts c own caller round names (w ∷ ws) all =
 
 -- a script that was run to its end, or for want of memory to a front of it
 pub front_made : (r : Result Results NoMemory) (t : Terms) (names last : Names) (steps : List StepView) (own : Own)
-    → IfOk r (λ rs. IsRun t names steps rs.items last own) → OnErr r (IsFront t names steps last own)
+    → IfOk r (λ rs. RunsAllSteps t names steps rs.items last own) → OnErr r (IsFront t names steps last own)
     → IsFront t names steps last own
 front_made (Err none) t names last steps own ran stops = stops
 front_made (Ok rs) t names last steps own ran stops = record {

@@ -22,12 +22,12 @@ use Rattle.hm_sizes.specs.declared.config.Config.{Config}
 use Rattle.hm_trace.specs.Traces.{total_steps}
 use Rattle.hm_trace.specs.Views.{ScriptView, StepView, Malloc, Calloc, Aligned, Realloc, Free, Sfree, Write, Read, Size}
 use Rattle.hm_heap.specs.declared.close.History.{History}
-use Rattle.hm_heap.specs.Calls.{IsMallocPlan, allot_plan, aligned_plan, at_home, freed, freeing, filled, fetched, copying, allotted, measured, moving_plan, resize_plan, place_for, home_place, keeps}
+use Rattle.hm_heap.specs.Calls.{IsMallocPlan, allot_plan, aligned_plan, at_home, freed, freeing, filled, fetched, copying, allotted, measured, moving_plan, resize_plan, index_for, home_index, keeps}
 use Rattle.hm_heap.specs.Plans.{Plan, Done, Part}
 use Rattle.hm_replay.specs.Names.{Names, no_names, settled}
 use Rattle.hm_replay.specs.Replays.{AreReplayed}
 use Rattle.hm_replay.specs.Rounds.{RunsRound, RunsRounds, AreOfCallers, script_count, own_in}
-use Rattle.hm_replay.specs.Scripts.{Runs}
+use Rattle.hm_replay.specs.Scripts.{RunsSteps}
 use Rattle.hm_replay.specs.Steps.{Terms, who_at, IsStepPlan, Steps, base_of, names_after}
 use Rattle.hm_replay.specs.Uses.{Own, Stay, Takes, Uses, used_up}
 use Rattle.hm_replay.proofs.Entries.{callers_of}
@@ -160,20 +160,20 @@ allotted_few : (source : _) (count : ℕ) (reply : Reply) → AtMost 3 (allotted
 allotted_few source count (Given new usable) = copying_few (record { source = source; new = new; usable = usable }) count
 allotted_few source count _ = tt
 
-measured_few : (source : _) (asked : ℕ) (stays : ℕ → Bool) (reply : Reply) → AtMost 4 (measured source asked stays reply)
-measured_few source asked stays (Usable old) =
-    cond_both (stays old) _ _ (AtMost 4) (λ kept. tt) (λ moves. (omega arith, λ reply. allotted_few source (min old asked) reply))
-measured_few source asked stays _ = tt
+measured_few : (source : _) (stays : ℕ → Bool) (reply : Reply) → AtMost 4 (measured source stays reply)
+measured_few source stays (Usable old) =
+    cond_both (stays old) _ _ (AtMost 4) (λ kept. tt) (λ moves. (omega arith, λ reply. allotted_few source (min old source.asked) reply))
+measured_few source stays _ = tt
 
 moving_few : (c : Config) (place a asked : ℕ) (kind : Kind) (o : Option ℕ) → AtMost 5 (moving_plan c place a asked kind o)
 moving_few c place a asked kind None = tt
 moving_few c place a asked kind (Some home) =
-    (omega arith, λ reply. measured_few (record { home = home; place = place; addr = a }) asked (keeps c home kind) reply)
+    (omega arith, λ reply. measured_few (record { home = home; place = place; addr = a; asked = asked }) (keeps c home kind) reply)
 
 resize_few : (c : Config) (thread a asked : ℕ) (kind : Kind) (o : Option ℕ) → AtMost 5 (resize_plan c thread a asked kind o)
 resize_few c thread a asked kind None = tt
 resize_few c thread a asked kind (Some place) =
-    cond_both (a == 0) _ _ (AtMost 5) (λ null. allot_few c thread asked 1 kind) (λ some. moving_few c place a asked kind (home_place c a))
+    cond_both (a == 0) _ _ (AtMost 5) (λ null. allot_few c thread asked 1 kind) (λ some. moving_few c place a asked kind (home_index c a))
 
 aligned_few : (c : Config) (thread asked align : ℕ) (o : Option Kind) → AtMost 5 (aligned_plan c thread asked align o)
 aligned_few c thread asked align None = tt
@@ -190,15 +190,15 @@ step_few c thread (Calloc name count size) a plan is = elim (cases_lt (count * s
 ]
 step_few c thread (Aligned name align size) a plan is = subst (AtMost 5) (sym is.is) (aligned_few c thread size align is.kind)
 step_few c thread (Realloc name place size) a plan is =
-    subst (AtMost 5) (sym is.is) (resize_few c thread a size is.kind (place_for c thread is.kind))
+    subst (AtMost 5) (sym is.is) (resize_few c thread a size is.kind (index_for c thread is.kind))
 step_few c thread (Free place) a plan is =
-    subst (AtMost 5) (sym is) (cond_both (a == 0) _ _ (AtMost 5) (λ null. tt) (λ some. home_few (home_place c a) (GiveBack a None)))
+    subst (AtMost 5) (sym is) (cond_both (a == 0) _ _ (AtMost 5) (λ null. tt) (λ some. home_few (home_index c a) (GiveBack a None)))
 step_few c thread (Sfree place size) a plan is =
-    subst (AtMost 5) (sym is) (cond_both (a == 0) _ _ (AtMost 5) (λ null. tt) (λ some. home_few (home_place c a) (GiveBack a (Some size))))
-step_few c thread (Write place len byte) a plan is = subst (AtMost 5) (sym is) (home_few (home_place c a) _)
-step_few c thread (Read place len) a plan is = subst (AtMost 5) (sym is) (home_few (home_place c a) (Fetch a len))
+    subst (AtMost 5) (sym is) (cond_both (a == 0) _ _ (AtMost 5) (λ null. tt) (λ some. home_few (home_index c a) (GiveBack a (Some size))))
+step_few c thread (Write place len byte) a plan is = subst (AtMost 5) (sym is) (home_few (home_index c a) _)
+step_few c thread (Read place len) a plan is = subst (AtMost 5) (sym is) (home_few (home_index c a) (Fetch a len))
 step_few c thread (Size place) a plan is =
-    subst (AtMost 5) (sym is) (cond_both (a == 0) _ _ (AtMost 5) (λ null. tt) (λ some. home_few (home_place c a) (Measure a)))
+    subst (AtMost 5) (sym is) (cond_both (a == 0) _ _ (AtMost 5) (λ null. tt) (λ some. home_few (home_index c a) (Measure a)))
 
 -- ---- steps, scripts and rounds
 step_total : (n : ℕ) (t : Terms) (number : ℕ) (step : StepView) (o : Option ℕ) (r : StepResult) (xs ys : Own) → Steps t number step o r xs ys → total n xs ≤ total n ys + 5
@@ -207,7 +207,7 @@ step_total n t number step (Some base) r xs ys s =
     used n (λ part. who_at t number part) 1 s.answers.plan s.answer xs ys 5 (step_few t.config t.thread step base s.answers.plan s.answers.is) s.answers.uses
 
 runs_total : (n : ℕ) (t : Terms) (number : ℕ) (names : Names) (steps : List StepView) (rs : List StepResult) (last : Names) (xs ys : Own)
-    → Runs t number names steps rs last xs ys → total n xs ≤ total n ys + 5 * length steps
+    → RunsSteps t number names steps rs last xs ys → total n xs ≤ total n ys + 5 * length steps
 runs_total n t number names [] rs last xs ys ran = omega (arith, stayed n xs ys ran.2)
 runs_total n t number names (s ∷ steps) rs last xs ys ran =
     omega (

@@ -17,7 +17,7 @@ use Rattle.hm_heap.specs.Plans.{Plan, Done, Part}
 use Rattle.hm_replay.specs.Names.{Names, no_names, settled}
 use Rattle.hm_replay.specs.Replays.{AreReplayed}
 use Rattle.hm_replay.specs.Rounds.{RunsRound, RunsRounds, AreOfCallers, InRounds, IsOfRound, IsOfTrace, script_count, own_in}
-use Rattle.hm_replay.specs.Scripts.{Runs}
+use Rattle.hm_replay.specs.Scripts.{RunsSteps}
 use Rattle.hm_replay.specs.Steps.{Terms, who_at, Steps, base_of, names_after}
 use Rattle.hm_replay.specs.Uses.{Own, Stay, Takes, Uses, used_up}
 
@@ -53,7 +53,7 @@ module _ (P : Entry → Type 0) where
 
   runs_all : (t : Terms) (n : ℕ) (names : Names) (steps : List StepView) (rs : List StepResult) (last : Names) (xs ys : Own)
       → ((number part : ℕ) (e : Entry) → n ≤ number → number < n + length steps → e.who ≡ who_at t number part → P e)
-      → Runs t n names steps rs last xs ys → AllBefore xs ys
+      → RunsSteps t n names steps rs last xs ys → AllBefore xs ys
   runs_all t n names [] rs last xs ys of ran place rest = stayed xs ys ran.2 place rest
   runs_all t n names (s ∷ steps) rs last xs ys of ran place rest =
       step_all t n s (base_of names s) ran.result xs ran.left

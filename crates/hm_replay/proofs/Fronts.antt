@@ -12,12 +12,12 @@ use Rattle.hm_report.specs.declared.results.StepResult.{StepResult}
 use Rattle.hm_trace.specs.declared.step.Step.{Step}
 use Rattle.hm_trace.specs.Views.{StepView, step_view, steps_view}
 use Rattle.hm_turn.specs.Known.{Known}
-use Rattle.hm_heap.specs.Passes.{HeapView, PassView}
+use Rattle.hm_heap.specs.Passes.{PassView}
 use Rattle.hm_heap.specs.Parts.{who_of, HasPart}
-use Rattle.hm_heap.specs.Plans.{Plan, Done, Part, Follows, GoesOn, Serves}
+use Rattle.hm_heap.specs.Plans.{Plan, Done, Part, Follows, GoesOn}
 use Rattle.hm_replay.specs.Gains.{Gains, GainsFront, mine_of}
 use Rattle.hm_replay.specs.Names.{Names}
-use Rattle.hm_replay.specs.Scripts.{Runs, RunsFront, StopsAt}
+use Rattle.hm_replay.specs.Scripts.{RunsSteps, RunsFront, StopsAt}
 use Rattle.hm_replay.specs.Steps.{Terms, Answers, BreaksOff, Fronts, IsStepPlan, base_of, who_at}
 use Rattle.hm_replay.specs.Uses.{Own, TakesPart, Uses, UsesFront}
 use Rattle.hm_replay.proofs.Gaining.{gains_as, gains_none, gains_then, part_gains}
@@ -92,14 +92,6 @@ pub follows_stops : (IsPlan : Plan → Type 0) (plan : Plan) (p q : PassView) (s
 follows_stops IsPlan plan p q step (Ok a) is f = tt
 follows_stops IsPlan plan p q step (Err e) is f = front_of IsPlan plan p q step e is f
 
-pub serves_stops : (IsPlan : Plan → Type 0) (p q : PassView) (step : ℕ) (r : Result Answer NoMemory)
-    → Serves IsPlan p q step r → OnErr r (GainsFront IsPlan p q step)
-serves_stops IsPlan p q step r s = follows_stops IsPlan s.plan p q step r s.is s.follows
-
-pub stops_is : (plan : Plan) (p q : PassView) (step : ℕ) (r : Result Answer NoMemory) → Follows p q step 1 plan r
-    → OnErr r (GainsFront (λ other. other ≡ plan) p q step)
-stops_is plan p q step r f = follows_stops (λ other. other ≡ plan) plan p q step r refl f
-
 -- the call that waits, after one that found the turn not free
 pub stops_after_busy : (IsPlan : ℕ → Plan → Type 0) (p m q : PassView) (step : ℕ) (r : Result Answer NoMemory)
     → m ≡ record p { turns = m.turns } → Idles p.turns m.turns
@@ -112,14 +104,6 @@ stops_after_busy IsPlan p m q step (Err e) same idle g =
     (subst (λ (z : PassView). Gains m.turns q.turns (Fronts (IsPlan z.thread) (λ part. who_of z step part))) same g)
 
 -- ---- a step
--- the same step, spelled otherwise
-pub stops_respelled : (h : HeapView) (p q : PassView) (number base : ℕ) (step spelled : Step) (r : Result Answer NoMemory)
-    → step ≡ spelled
-    → OnErr r (GainsFront (IsStepPlan h.config p.thread (step_view spelled) base) p q number)
-    → OnErr r (GainsFront (IsStepPlan h.config p.thread (step_view step) base) p q number)
-stops_respelled h p q number base step spelled r is =
-    subst (λ (s : Step). OnErr r (GainsFront (IsStepPlan h.config p.thread (step_view s) base) p q number)) (sym is)
-
 pub gains_broken : (ts us : List Known) (t : Terms) (number base : ℕ) (step : StepView) (o : Option ℕ) → Some base ≡ o
     → Gains ts us (Fronts (IsStepPlan t.config t.thread step base) (λ part. who_at t number part))
     → Gains ts us (BreaksOff t number step o)
@@ -166,9 +150,9 @@ stops_none t number names (s ∷ steps) xs = inl (λ place. refl)
 
 -- so many steps were run, and the next one was not begun
 pub ran_front : (ts us : List Known) (t : Terms) (names last : Names) (steps done later : List StepView) (rs : List StepResult)
-    → steps ≡ done ++ later → Gains ts us (Runs t 1 names done rs last) → Gains ts us (RunsFront t names steps last)
+    → steps ≡ done ++ later → Gains ts us (RunsSteps t 1 names done rs last) → Gains ts us (RunsFront t names steps last)
 ran_front ts us t names last steps done later rs is g =
-    gains_as ts us (Runs t 1 names done rs last) (RunsFront t names steps last)
+    gains_as ts us (RunsSteps t 1 names done rs last) (RunsFront t names steps last)
     (λ xs ys runs. record {
       done = done;
       later = later;
@@ -182,10 +166,10 @@ ran_front ts us t names last steps done later rs is g =
 -- so many steps were run, and the next one was not begun, or not run to its end
 pub stopped_front : (ts us vs : List Known) (t : Terms) (names last : Names) (steps done later : List StepView) (s : StepView)
     (rs : List StepResult) (number : ℕ) → number ≡ 1 + length done
-    → steps ≡ done ++ s ∷ later → Gains ts us (Runs t 1 names done rs last)
+    → steps ≡ done ++ s ∷ later → Gains ts us (RunsSteps t 1 names done rs last)
     → Gains us vs (StopsAt t number last (s ∷ [])) → Gains ts vs (RunsFront t names steps last)
 stopped_front ts us vs t names last steps done later s rs number number_is is g b =
-    gains_then ts us vs (Runs t 1 names done rs last) (StopsAt t number last (s ∷ [])) (RunsFront t names steps last)
+    gains_then ts us vs (RunsSteps t 1 names done rs last) (StopsAt t number last (s ∷ [])) (RunsFront t names steps last)
     (λ xs ys zs runs stops. record {
       done = done;
       later = s ∷ later;

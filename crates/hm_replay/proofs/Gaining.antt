@@ -14,14 +14,14 @@ use Rattle.hm_model.specs.declared.entry.Reply.{Reply}
 use Rattle.hm_model.specs.declared.entry.Who.{Who}
 use Rattle.hm_turn.specs.Histories.{StartsWith}
 use Rattle.hm_turn.specs.Knowledge.{Knowledge}
-use Rattle.hm_turn.specs.Known.{Known}
+use Rattle.hm_turn.specs.Known.{Lock, Known}
 use Rattle.hm_turn.proofs.Histories.{starts_itself, starts_longer}
 use Rattle.hm_heap.specs.Called.{Called, Makes}
-use Rattle.hm_heap.specs.Passes.{PassView}
+use Rattle.hm_heap.specs.Passes.{PassView, AreOf}
 use Rattle.hm_heap.specs.Parts.{who_of, HasPart}
-use Rattle.hm_heap.specs.Plans.{Plan, Done, Part, Follows, GoesOn, Serves}
+use Rattle.hm_heap.specs.Plans.{Plan, Done, Part, Follows, GoesOn}
 use Rattle.hm_replay.specs.Uses.{Own, Takes, TakesPart, Uses}
-use Rattle.hm_replay.specs.Gains.{mine_of, Gains, Grew, AllGrew}
+use Rattle.hm_replay.specs.Gains.{mine_of, Gains, Grew, AllGrew, WentOn}
 use Rattle.hm_replay.specs.Steps.{Answers}
 
 -- ---- what is gained
@@ -115,6 +115,16 @@ all_grew_then ts us vs a b = record {
   each = λ place t.
       grew_then (slice_index_or ts place t) (slice_index_or us place t) (slice_index_or vs place t) (a.each place t)
       (b.each place t);
+}
+
+pub run_none : (locks : List Lock) (p : PassView) → AreOf locks p.turns → WentOn locks p p
+run_none locks p of = record { same = refl; of = of; grew = all_grew_none p.turns p.turns refl }
+
+pub run_then : (locks : List Lock) (p m q : PassView) → WentOn locks p m → WentOn locks m q → WentOn locks p q
+run_then locks p m q a b = record {
+  same = b.same ∙ ap (λ (z : PassView). record z { turns = q.turns }) a.same;
+  of = b.of;
+  grew = all_grew_then p.turns m.turns q.turns a.grew b.grew;
 }
 
 pub all_grew_one : (ts us : List Known) (place : ℕ) (u : Known) → place < length ts → us ≡ slice_set ts place u
@@ -215,17 +225,3 @@ follows_answer IsPlan plan p q step (Ok a) is f =
     gains_as p.turns q.turns (λ xs ys. Uses (λ part. who_of p step part) 1 plan a xs ys)
     (Answers IsPlan (λ part. who_of p step part) a) (λ xs ys uses. record { plan = plan; is = is; uses = uses })
     (follows_gains p q step 1 plan a f)
-
-pub serves_answer : (IsPlan : Plan → Type 0) (p q : PassView) (step : ℕ) (r : Result Answer NoMemory)
-    → Serves IsPlan p q step r
-    → IfOk r (λ a. Gains p.turns q.turns (Answers IsPlan (λ part. who_of p step part) a))
-serves_answer IsPlan p q step r s = follows_answer IsPlan s.plan p q step r s.is s.follows
-
-pub serves_grew : (IsPlan : Plan → Type 0) (p q : PassView) (step : ℕ) (r : Result Answer NoMemory)
-    → Serves IsPlan p q step r
-    → AllGrew p.turns q.turns
-serves_grew IsPlan p q step r s = follows_grew p q step 1 s.plan r s.follows
-
-pub follows_is : (plan : Plan) (p q : PassView) (step : ℕ) (r : Result Answer NoMemory) → Follows p q step 1 plan r
-    → IfOk r (λ a. Gains p.turns q.turns (Answers (λ other. other ≡ plan) (λ part. who_of p step part) a))
-follows_is plan p q step r f = follows_answer (λ other. other ≡ plan) plan p q step r refl f

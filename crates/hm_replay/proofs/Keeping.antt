@@ -18,7 +18,7 @@ use Rattle.hm_trace.specs.Views.{name_view}
 use Rattle.hm_heap.specs.Requests.{IsInReach}
 use Rattle.hm_replay.specs.declared.left.NameLeft.{NameLeft}
 use Rattle.hm_replay.specs.Names.{held, seen_in, with_name}
-use Rattle.hm_replay.specs.Rooms.{set_also, set_in, Once, AreRooms, AreOwn, HaveRooms, HaveAllRooms}
+use Rattle.hm_replay.specs.Rooms.{set_also, set_in, Once, AreRooms, KeepsRooms, AreOwn, HaveRooms, HaveAllRooms}
 use Rattle.hm_replay.proofs.Held.{Updated, by_bytes, by_order, inserted_each, looked, set_over, updated, word_itself}
 use Rattle.hm_replay.proofs.Starts.{each_pushed}
 
@@ -130,6 +130,12 @@ module _ (es fs : List (Name × Option ℕ)) (name : Name) (given : Option ℕ) 
       no : IsSome {T = Option ℕ} None → ⊥
       no is = absurd cc
 
+pub keeps_itself : (es : List (Name × Option ℕ)) → KeepsRooms es es
+keeps_itself es = record { rooms = λ rooms. rooms; others = λ q some. some }
+
+pub keeps_then : (es fs gs : List (Name × Option ℕ)) → KeepsRooms es fs → KeepsRooms fs gs → KeepsRooms es gs
+keeps_then es fs gs a b = record { rooms = λ rooms. b.rooms (a.rooms rooms); others = λ q some. b.others q (a.others q some) }
+
 -- ---- names one after another
 module _ (e : Name × Option ℕ) (es : List (Name × Option ℕ)) (rooms : AreRooms (e ∷ es)) where
   pub first_reach : IfSome e.1 IsInReach
@@ -151,23 +157,21 @@ module _ (e : Name × Option ℕ) (es : List (Name × Option ℕ)) (rooms : AreR
 
 -- ---- room for names
 pub rooms_more : (es fs : List (Name × Option ℕ)) (left : List NameLeft) (n : NameLeft) → HaveRooms es left
-    → ((q : List ℕ) → IsSome (held es q) → IsSome (held fs q)) → IsSome (held fs (name_view n.name))
-    → HaveRooms fs (left ++ n ∷ [])
-rooms_more es fs left n have stay this = record {
+    → KeepsRooms es fs → IsSome (held fs (name_view n.name)) → HaveRooms fs (left ++ n ∷ [])
+rooms_more es fs left n have kept this = record {
   each =
       each_pushed (λ (i : ℕ) (m : NameLeft). IsSome (held fs (name_view m.name))) left n
-      (λ i m l. stay _ (have.each i m l)) this;
+      (λ i m l. kept.others _ (have.each i m l)) this;
 }
 
-pub rooms_stay : (es fs : List (Name × Option ℕ)) (left : List NameLeft) → HaveRooms es left
-    → ((q : List ℕ) → IsSome (held es q) → IsSome (held fs q)) → HaveRooms fs left
-rooms_stay es fs left have stay = record { each = λ i n l. stay _ (have.each i n l) }
+pub rooms_stay : (es fs : List (Name × Option ℕ)) (left : List NameLeft) → HaveRooms es left → KeepsRooms es fs
+    → HaveRooms fs left
+rooms_stay es fs left have kept = record { each = λ i n l. kept.others _ (have.each i n l) }
 
 pub all_rooms_more : (es fs : List (Name × Option ℕ)) (lists : List (Vec NameLeft Global)) (left : Vec NameLeft Global)
-    → HaveAllRooms es lists → ((q : List ℕ) → IsSome (held es q) → IsSome (held fs q)) → HaveRooms fs left.items
-    → HaveAllRooms fs (lists ++ left ∷ [])
-all_rooms_more es fs lists left have stay this = record {
+    → HaveAllRooms es lists → KeepsRooms es fs → HaveRooms fs left.items → HaveAllRooms fs (lists ++ left ∷ [])
+all_rooms_more es fs lists left have kept this = record {
   each =
       each_pushed (λ (i : ℕ) (v : Vec NameLeft Global). HaveRooms fs v.items) lists left
-      (λ i v l. rooms_stay es fs (slice_index_or lists i v).items (have.each i v l) stay) this;
+      (λ i v l. rooms_stay es fs (slice_index_or lists i v).items (have.each i v l) kept) this;
 }

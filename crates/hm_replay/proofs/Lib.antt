@@ -3,6 +3,7 @@ pub mod Keeping
 pub mod Gaining
 pub mod Trying
 pub mod Fronts
+pub mod Calling
 pub mod Running
 pub mod Turns
 pub mod Order

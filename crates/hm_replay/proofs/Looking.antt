@@ -1,5 +1,5 @@
 -- A look at a region's entries by the first pass.
-use Rattle.std.proofs.Common.{◌≡◌, ℕ, ◌<◌, List, [], length, map, slice_index_or, Option, Result, arith, ap, ◌∙◌, sym, subst}
+use Rattle.std.proofs.Common.{◌≡◌, ℕ, ◌<◌, List, [], length, map, slice_index_or, Result, arith, ap, ◌∙◌, sym, subst}
 use Rattle.std.proofs.lemmas.List.{get_or-map, length-set}
 use Rattle.std.proofs.Math.Seq.{map-set_same}
 use mathlib.Core.Path.{fun_ext}

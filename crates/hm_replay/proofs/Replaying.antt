@@ -19,7 +19,7 @@ use Rattle.hm_replay.specs.Names.{Names, no_names, settled}
 use Rattle.hm_replay.specs.RoundOf.{calls_in, ended_in, LeavesRoot}
 use Rattle.hm_replay.specs.Rounds.{RunsRound, RunsRounds, AreOfCallers, InRounds, script_count, own_in}
 use Rattle.hm_replay.specs.Replays.{HasReplayed, AreReplayed}
-use Rattle.hm_replay.specs.Scripts.{IsRun}
+use Rattle.hm_replay.specs.Scripts.{RunsAllSteps}
 use Rattle.hm_replay.specs.Uses.{Own}
 use Rattle.hm_replay.proofs.Order.{AllJoined, has_one, none_after, seen_calls}
 use Rattle.hm_replay.proofs.Turns.{some_of}
@@ -40,7 +40,7 @@ round_as c own own' caller round names now (s ∷ scripts) results last same ran
   round_is = ran.round_is;
   thread_is = ran.thread_is;
   last = ran.last;
-  run = subst (λ (o : Own). IsRun (record { config = c; caller = caller; round = round; thread = s.thread }) names s.steps
+  run = subst (λ (o : Own). RunsAllSteps (record { config = c; caller = caller; round = round; thread = s.thread }) names s.steps
       ran.result.items ran.last o) (same caller (omega arith) (omega arith)) ran.run;
   rest = round_as c own own' (caller + 1) round names (settled now s.steps ran.last) scripts ran.later last
       (λ k l m. same k (omega (arith, l)) (omega (arith, m))) ran.rest;

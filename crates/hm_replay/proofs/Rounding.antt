@@ -18,13 +18,13 @@ use Rattle.hm_turn.specs.Known.{Lock, Known, KnowsCallers}
 use Rattle.hm_turn.proofs.Histories.{starts_itself}
 use Rattle.hm_heap.specs.Passes.{PassView, AreOf, AllKnow}
 use Rattle.hm_replay.specs.declared.round.Worker.{Worker}
-use Rattle.hm_replay.specs.Gains.{mine_of}
+use Rattle.hm_replay.specs.Gains.{WentOn, mine_of}
 use Rattle.hm_replay.specs.Names.{Names, seen_in, settled}
 use Rattle.hm_replay.specs.RoundOf.{calls_in, ended_in, IsGathered, Stays, SeesMore, AllSeeMore, LeavesRoot}
 use Rattle.hm_replay.specs.Rounds.{AreOfCallers, RunsRound}
-use Rattle.hm_replay.specs.Scripts.{IsRun}
+use Rattle.hm_replay.specs.Scripts.{RunsAllSteps}
 use Rattle.hm_replay.specs.Uses.{Own}
-use Rattle.hm_replay.specs.Workers.{AllCalledBy, HasRun, HasMade, KeepsMade, HasParted, IsBegun, FinishedTo, after_joins}
+use Rattle.hm_replay.specs.Workers.{AllCalledBy, HasMade, KeepsMade, HasParted, IsBegun, FinishedTo, after_joins}
 use Rattle.hm_replay.proofs.Ends.{InOrder, joins_keep, keeps, knows, own_stays, these_end}
 use Rattle.hm_replay.proofs.Gaining.{starts_trans}
 use Rattle.hm_replay.proofs.Merging.{all_settled, kept_ok}
@@ -46,7 +46,7 @@ in_order locks first r ws o b = record {
 
 abbrev pub AllRan : List Lock → List Worker → List Worker → Type 0
 AllRan locks ws vs = (i : ℕ) (w : Worker) → i < length ws
-    → HasRun locks (slice_index_or ws i w).pass (slice_index_or vs i w).pass
+    → WentOn locks (slice_index_or ws i w).pass (slice_index_or vs i w).pass
 
 -- what was seen by the passes goes on from what the first pass had seen
 abbrev AllGoOn : List Lock → PassView → List Worker → Type 0
@@ -322,7 +322,7 @@ pub record IsMade (c : Config) (round : ℕ) (names : Names) (caller : ℕ) (own
     (rs : Results) : Type 0 where
   pub round_is : rs.round ≡ round
   pub thread_is : rs.thread ≡ w.script.now.thread
-  pub run : IsRun (record { config = c; caller = caller; round = round; thread = w.script.now.thread }) names
+  pub run : RunsAllSteps (record { config = c; caller = caller; round = round; thread = w.script.now.thread }) names
       w.script.now.steps rs.items (seen_in w.scope) own
 
 pub runs_round : (c : Config) (own : ℕ → Own) (caller round : ℕ) (names now : Names) (ws : List Worker) (rs : List Results)
@@ -401,20 +401,20 @@ is_made c locks round total p q z names ws vs found s n ran h same f i w r l is 
       thread_is = m.thread_is ∙ ap (λ (s : ScriptView). s.thread) script;
       run =
           transport
-          (λ j. IsRun (record { config = c; caller = begun.caller_is j; round = begun.round_is j; thread = thread j })
+          (λ j. RunsAllSteps (record { config = c; caller = begun.caller_is j; round = begun.round_is j; thread = thread j })
           (begun.names_are j) (script j).steps r.items (seen_in v.scope) (own j)) m.run;
     }
 
 -- what a run answered, as a worker keeps it
 pub made_of : (r : Result Results NoMemory) (o : Option Results) (c : Config) (p q : PassView) (s : ScriptView)
     (names last : Names) → o ≡ result_ok r → IfOk r (λ rs. (rs.round ≡ p.round) × (rs.thread ≡ s.thread))
-    → IfOk r (λ rs. IsRun (record { config = c; caller = p.caller; round = p.round; thread = p.thread }) names s.steps
+    → IfOk r (λ rs. RunsAllSteps (record { config = c; caller = p.caller; round = p.round; thread = p.thread }) names s.steps
     rs.items last (mine_of q.turns))
     → IfSome o (λ rs. HasMade c p q s names rs last)
 made_of r o c p q s names last e numbers ran = kept_ok r o (λ rs. HasMade c p q s names rs last) e (by r numbers ran)
   where
     by : (r : Result Results NoMemory) → IfOk r (λ rs. (rs.round ≡ p.round) × (rs.thread ≡ s.thread))
-        → IfOk r (λ rs. IsRun (record { config = c; caller = p.caller; round = p.round; thread = p.thread }) names s.steps
+        → IfOk r (λ rs. RunsAllSteps (record { config = c; caller = p.caller; round = p.round; thread = p.thread }) names s.steps
         rs.items last (mine_of q.turns))
         → IfOk r (λ rs. HasMade c p q s names rs last)
     by (Err none) numbers ran = tt

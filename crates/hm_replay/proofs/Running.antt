@@ -1,12 +1,10 @@
 -- One more step of a script.
-use Rattle.std.proofs.Common.{◌≡◌, ℕ, ◌+◌, ◌<◌, ◌||◌, zero, suc, Bool, true, get_or, List, [], ◌∷◌, ◌++◌, append-nil, length, take, Option, Some, None, Result, refl, sym, ◌∙◌, ap, subst, arith}
-use Rattle.std.specs.Prelude.{IfOk}
+use Rattle.std.proofs.Common.{◌≡◌, ℕ, ◌+◌, ◌<◌, ◌||◌, zero, suc, Bool, true, get_or, List, [], ◌∷◌, ◌++◌, append-nil, length, take, Option, Some, None, refl, sym, ◌∙◌, ap, subst, arith}
 use Rattle.std.specs.List.{list_all, list_any}
 use Rattle.std.proofs.Math.Bool.{or-false, or_assoc}
 use Rattle.std.proofs.lemmas.Bool.{and_parts}
 use Rattle.std.proofs.lemmas.List.{length-map, length-take-le}
 use mathlib.Core.Path.{fun_ext, transport}
-use Rattle.hm_base.specs.declared.memory.NoMemory.{NoMemory}
 use Rattle.hm_model.specs.declared.answer.Answer.{Answer}
 use Rattle.hm_report.specs.declared.results.StepResult.{StepResult}
 use Rattle.hm_trace.specs.Traces.{sets_name}
@@ -17,19 +15,11 @@ use Rattle.hm_heap.specs.Passes.{HeapView, PassView}
 use Rattle.hm_replay.specs.Names.{Names, Touched, touched_all, touched_by}
 use Rattle.hm_replay.specs.Uses.{Own, used_up}
 use Rattle.hm_replay.specs.Steps.{Terms, who_at, Answers, skipped, IsStepPlan, Steps, base_of, names_after}
-use Rattle.hm_replay.specs.Scripts.{Runs}
-use Rattle.hm_replay.specs.Gains.{Gains, GainsAnswer, GainsResult, GainsResults, mine_of, terms_of}
+use Rattle.hm_replay.specs.Scripts.{RunsSteps}
+use Rattle.hm_replay.specs.Gains.{Gains, GainsResult, GainsResults, mine_of, terms_of}
 use Rattle.hm_replay.proofs.Gaining.{gains_as, gains_none, gains_then}
 
 -- ---- the call of a step
--- the same step, spelled otherwise
-pub respelled : (h : HeapView) (p q : PassView) (number base : ℕ) (step spelled : Step) (r : Result Answer NoMemory)
-    → step ≡ spelled
-    → IfOk r (GainsAnswer (IsStepPlan h.config p.thread (step_view spelled) base) p q number)
-    → IfOk r (GainsAnswer (IsStepPlan h.config p.thread (step_view step) base) p q number)
-respelled h p q number base step spelled r is =
-    subst (λ (s : Step). IfOk r (GainsAnswer (IsStepPlan h.config p.thread (step_view s) base) p q number)) (sym is)
-
 pub gains_called : (ts us : List Known) (t : Terms) (number base : ℕ) (step : StepView) (o : Option ℕ) (a : Answer)
     → Some base ≡ o
     → Gains ts us (Answers (IsStepPlan t.config t.thread step base) (λ part. who_at t number part) a)
@@ -49,8 +39,8 @@ gains_skipped ts t number step o is =
 
 -- ---- a script
 pub pushed : (t : Terms) (n : ℕ) (names last : Names) (steps : List StepView) (s : StepView) (rs : List StepResult) (r : StepResult)
-    (xs ys zs : Own) → Runs t n names steps rs last xs ys → Steps t (n + length steps) s (base_of last s) r ys zs
-    → Runs t n names (steps ++ s ∷ []) (rs ++ r ∷ []) (names_after last s r.answer) xs zs
+    (xs ys zs : Own) → RunsSteps t n names steps rs last xs ys → Steps t (n + length steps) s (base_of last s) r ys zs
+    → RunsSteps t n names (steps ++ s ∷ []) (rs ++ r ∷ []) (names_after last s r.answer) xs zs
 pushed t n names last [] s rs r xs ys zs ran step =
     let here : n + 0 ≡ n = omega arith in
     record {
@@ -89,8 +79,8 @@ ran_more h p m q names last steps i s rs r lt same ran one =
     let step : Gains m.turns q.turns (One (i + 1)) =
     subst (λ (z : Terms). Gains m.turns q.turns (Steps z (i + 1) (step_view s) (base_of last (step_view s)) r))
     (ap (λ (z : PassView). terms_of h z) same) one in
-    gains_then p.turns m.turns q.turns (Runs t 1 names before rs last) (One (i + 1))
-    (Runs t 1 names (before ++ step_view s ∷ []) (rs ++ r ∷ []) (names_after last (step_view s) r.answer))
+    gains_then p.turns m.turns q.turns (RunsSteps t 1 names before rs last) (One (i + 1))
+    (RunsSteps t 1 names (before ++ step_view s ∷ []) (rs ++ r ∷ []) (names_after last (step_view s) r.answer))
     (λ xs ys zs runs this.
     pushed t 1 names last before (step_view s) rs r xs ys zs runs
     (subst (λ (k : ℕ). One k ys zs) (steps_before steps i lt) this))

@@ -18,7 +18,7 @@ use Rattle.hm_turn.specs.Histories.{StartsWith}
 use Rattle.hm_turn.specs.Knowledge.{Knowledge, with_lost}
 use Rattle.hm_turn.specs.Known.{Known}
 use Rattle.hm_turn.proofs.Histories.{starts_itself}
-use Rattle.hm_heap.specs.Calls.{replied, at_home, home_place, allot_plan, free_plan, IsMallocPlan}
+use Rattle.hm_heap.specs.Calls.{replied, at_home, home_index, allot_plan, free_plan, IsMallocPlan}
 use Rattle.hm_heap.specs.Passes.{PassView}
 use Rattle.hm_heap.specs.Parts.{who_of, HasTried}
 use Rattle.hm_heap.specs.Plans.{Plan, Done, Part, Follows, GoesOn, Tries}
@@ -50,7 +50,7 @@ home_single (Some place) call = λ reply. refl
 
 pub free_single : (c : Config) (a : ℕ) (stated : Option ℕ) → IsSingle (free_plan c a stated)
 free_single c a stated =
-    cond_both (a == 0) (Done answer.Nothing) _ IsSingle (λ e. tt) (λ e. home_single (home_place c a) _)
+    cond_both (a == 0) (Done answer.Nothing) _ IsSingle (λ e. tt) (λ e. home_single (home_index c a) _)
 
 -- ---- the turn was not free: nothing was gained
 pub record Idles (ts us : List Known) : Type 0 where

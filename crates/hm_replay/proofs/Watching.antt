@@ -1,6 +1,6 @@
 -- Numbers that are made after each round.
-use Rattle.std.proofs.Common.{◌≡◌, ℕ, ◌+◌, ◌<◌, ◌≤◌, nat_le, Bool, true, false, cond, List, [], ◌∷◌, ◌++◌, append_assoc, length, map, slice_index_or, arith, refl, ap, ◌∙◌, sym, subst}
-use Rattle.std.specs.List.{filter, AllByRecursion as EachIs}
+use Rattle.std.proofs.Common.{◌≡◌, ℕ, ◌+◌, ◌<◌, ◌≤◌, nat_le, Bool, cond, List, [], ◌∷◌, ◌++◌, append_assoc, length, map, slice_index_or, arith, refl, ap, ◌∙◌, sym, subst}
+use Rattle.std.specs.List.{AllByRecursion as EachIs}
 use Rattle.std.proofs.lemmas.Bool.{cases_lt, le-leb, lt-leb}
 use Rattle.std.proofs.lemmas.List.{append-nil, get_or-map, get_or_past, length-map}
 use Rattle.std.proofs.lemmas.List.Elements.{filter-append}

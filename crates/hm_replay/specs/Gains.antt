@@ -1,16 +1,18 @@
 -- What the calls of a pass add to its own entries, and what they leave.
-use Rattle.std.specs.Prelude.{◌≡◌, Bool, true, false, ℕ, ◌++◌, List, [], ◌∷◌, length, map, slice_index_or}
+use Rattle.std.specs.Prelude.{◌≡◌, Bool, true, false, ℕ, ◌++◌, List, [], ◌∷◌, length, map, slice_index_or, Result, IfOk, OnErr}
+use Rattle.hm_base.specs.declared.memory.NoMemory.{NoMemory}
 use Rattle.hm_model.specs.declared.answer.Answer.{Answer}
 use Rattle.hm_model.specs.declared.answer.Answer.TheVariants as answer
 use Rattle.hm_turn.specs.Histories.{StartsWith}
-use Rattle.hm_turn.specs.Known.{Known}
+use Rattle.hm_turn.specs.Known.{Lock, Known}
 use Rattle.hm_heap.specs.Parts.{who_of}
-use Rattle.hm_heap.specs.Passes.{HeapView, PassView}
+use Rattle.hm_heap.specs.Passes.{HeapView, PassView, AreOf}
 use Rattle.hm_heap.specs.Plans.{Plan}
+use Rattle.hm_heap.specs.Requests.{AnswerInReach}
 use Rattle.hm_report.specs.declared.results.StepResult.{StepResult}
 use Rattle.hm_trace.specs.Views.{StepView}
 use Rattle.hm_replay.specs.Names.{Names}
-use Rattle.hm_replay.specs.Scripts.{Runs, RunsFront, StopsAt}
+use Rattle.hm_replay.specs.Scripts.{RunsSteps, RunsFront, StopsAt}
 use Rattle.hm_replay.specs.Steps.{Terms, Answers, Steps, Fronts, base_of}
 use Rattle.hm_replay.specs.Uses.{Own}
 
@@ -38,7 +40,7 @@ GainsResult h p q number names step r = Gains p.turns q.turns (Steps (terms_of h
 
 -- steps had these results, and the names at the end
 abbrev pub GainsResults : HeapView → PassView → PassView → Names → List StepView → List StepResult → Names → Type 0
-GainsResults h p q names steps rs last = Gains p.turns q.turns (Runs (terms_of h p) 1 names steps rs last)
+GainsResults h p q names steps rs last = Gains p.turns q.turns (RunsSteps (terms_of h p) 1 names steps rs last)
 
 -- ---- for want of memory
 -- the first parts of a call of this step by one of these plans were made
@@ -62,6 +64,21 @@ pub record Grew (t u : Known) : Type 0 where
 pub record AllGrew (ts us : List Known) : Type 0 where
   pub as_many : length us ≡ length ts
   pub each : (place : ℕ) (t : Known) → Grew (slice_index_or ts place t) (slice_index_or us place t)
+
+-- pass p is pass q some calls later: only its turns are others, they are of these locks, and what they know has grown
+pub record WentOn (locks : List Lock) (p q : PassView) : Type 0 where
+  pub same : q ≡ record p { turns = q.turns }
+  pub of : AreOf locks q.turns
+  pub grew : AllGrew p.turns q.turns
+
+-- ---- a call
+-- a call of the step with this number, by one of these plans, had this answer or, for want of memory, some parts alone
+pub record HasCalled (h : HeapView) (IsPlan : Plan → Type 0) (p q : PassView) (number : ℕ)
+    (answer : Result Answer NoMemory) : Type 0 where
+  pub run : WentOn h.locks p q
+  pub gains : IfOk answer (GainsAnswer IsPlan p q number)
+  pub stops : OnErr answer (GainsFront IsPlan p q number)
+  pub reach : IfOk answer AnswerInReach
 
 -- the turn was not free
 abbrev pub is_busy : Answer → Bool

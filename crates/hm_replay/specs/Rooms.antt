@@ -24,6 +24,11 @@ pub record AreRooms (rooms : List (Name × Option ℕ)) : Type 0 where
   pub once : Once rooms
   pub reach : GivenInReach rooms
 
+-- each name still has at most one room, all addresses are still in reach, and a name that had room still has it
+pub record KeepsRooms (before after : List (Name × Option ℕ)) : Type 0 where
+  pub rooms : AreRooms before → AreRooms after
+  pub others : (q : List ℕ) → IsSome (held before q) → IsSome (held after q)
+
 -- the names that a script has set or unset, and the one that it set last
 pub record AreOwn (own : List (Name × Option ℕ)) (last : Option NameLeft) : Type 0 where
   pub rooms : AreRooms own

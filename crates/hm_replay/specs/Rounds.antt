@@ -8,7 +8,7 @@ use Rattle.hm_sizes.specs.declared.config.Config.{Config}
 use Rattle.hm_trace.specs.Views.{ScriptView}
 use Rattle.hm_heap.specs.declared.close.History.{History}
 use Rattle.hm_replay.specs.Names.{Names, settled}
-use Rattle.hm_replay.specs.Scripts.{IsFront, IsRun}
+use Rattle.hm_replay.specs.Scripts.{IsFront, RunsAllSteps}
 use Rattle.hm_replay.specs.Steps.{Terms}
 use Rattle.hm_replay.specs.Uses.{Own}
 
@@ -22,7 +22,7 @@ pub record RunsScript (t : Terms) (own : Own) (names now : Names) (s : ScriptVie
   pub round_is : result.round ≡ t.round
   pub thread_is : result.thread ≡ t.thread
   pub last : Names
-  pub run : IsRun t names s.steps result.items last own
+  pub run : RunsAllSteps t names s.steps result.items last own
   pub rest : Rest (settled now s.steps last) later
 
 module _ (c : Config) (own : ℕ → Own) where

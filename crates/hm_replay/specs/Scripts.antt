@@ -17,14 +17,14 @@ pub record Goes (t : Terms) (number : ℕ) (names : Names) (step : StepView) (re
   pub rest : Rest (names_after names step result.answer) later left
 
 -- the steps from this number on, one after another: their results, and the names at the end
-abbrev pub Runs : Terms → ℕ → Names → List StepView → List StepResult → Names → Own → Own → Type 0
-Runs t number names [] results last xs ys = (results ≡ []) × (last ≡ names) × Stay xs ys
-Runs t number names (step ∷ steps) results last xs ys =
-    Goes t number names step results xs (λ now later left. Runs t (number + 1) now steps later last left ys)
+abbrev pub RunsSteps : Terms → ℕ → Names → List StepView → List StepResult → Names → Own → Own → Type 0
+RunsSteps t number names [] results last xs ys = (results ≡ []) × (last ≡ names) × Stay xs ys
+RunsSteps t number names (step ∷ steps) results last xs ys =
+    Goes t number names step results xs (λ now later left. RunsSteps t (number + 1) now steps later last left ys)
 
 -- all entries of the caller are those of the script
-abbrev pub IsRun : Terms → Names → List StepView → List StepResult → Names → Own → Type 0
-IsRun t names steps results last own = Runs t 1 names steps results last own used_up
+abbrev pub RunsAllSteps : Terms → Names → List StepView → List StepResult → Names → Own → Type 0
+RunsAllSteps t names steps results last own = RunsSteps t 1 names steps results last own used_up
 
 -- ---- a script that ends for want of memory
 -- the step with this number, the first of these, was not run to its end
@@ -39,7 +39,7 @@ pub record RunsFront (t : Terms) (names : Names) (steps : List StepView) (last :
   pub steps_are : steps ≡ done ++ later
   pub results : List StepResult
   pub left : Own
-  pub runs : Runs t 1 names done results last xs left
+  pub runs : RunsSteps t 1 names done results last xs left
   pub stops : StopsAt t (1 + length done) last later left ys
 
 -- all entries of the caller are those of a front of the script

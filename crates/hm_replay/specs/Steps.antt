@@ -1,5 +1,5 @@
 -- One step of a script: where it refers to, its plan, and the name that it sets.
-use Rattle.std.specs.Prelude.{◌≡◌, ℕ, suc, ◌+◌, ◌-◌, List, Option, Some, None, IfSome, ℤ, pos, negsuc}
+use Rattle.std.specs.Prelude.{◌≡◌, ℕ, suc, ◌+◌, ◌-◌, List, Option, Some, None, ℤ, pos, negsuc}
 use Rattle.std.specs.Option.{option_map}
 use Rattle.hm_model.specs.declared.answer.Answer.{Answer}
 use Rattle.hm_model.specs.declared.answer.Answer.TheVariants as answer
@@ -8,24 +8,23 @@ use Rattle.hm_model.specs.declared.entry.Who.{Who}
 use Rattle.hm_model.specs.Runs.{same_runs}
 use Rattle.hm_report.specs.declared.results.StepResult.{StepResult}
 use Rattle.hm_sizes.specs.declared.config.Config.{Config}
-use Rattle.hm_trace.specs.Traces.{name_set}
 use Rattle.hm_trace.specs.Views.{PlaceView, Null, At, Named, StepView, Malloc, Calloc, Aligned, Realloc, Free, Sfree, Write, Read, Size}
-use Rattle.hm_heap.specs.Calls.{IsMallocPlan, IsCallocPlan, IsAlignedPlan, IsReallocPlan, free_plan, usable_plan, read_plan, write_plan, AnswerInReach}
+use Rattle.hm_heap.specs.Calls.{IsMallocPlan, IsCallocPlan, IsAlignedPlan, IsReallocPlan, free_plan, usable_plan, read_plan, write_plan}
 use Rattle.hm_heap.specs.Plans.{Plan}
 use Rattle.hm_replay.specs.Names.{Names, with_name}
 use Rattle.hm_replay.specs.Uses.{Own, Stay, Uses, UsesFront}
 
 -- ---- where a step refers to
 -- an address and an offset
-abbrev pub moved : ℕ → ℤ → ℕ
-moved a (pos n) = a + n
-moved a (negsuc n) = a - suc n
+abbrev pub with_offset : ℕ → ℤ → ℕ
+with_offset a (pos n) = a + n
+with_offset a (negsuc n) = a - suc n
 
 -- the address of a place: none where its name is not set
 abbrev pub referred : Names → PlaceView → Option ℕ
 referred names Null = Some 0
 referred names (At a) = Some a
-referred names (Named name offset) = option_map (λ a. moved a offset) (names name)
+referred names (Named name offset) = option_map (λ a. with_offset a offset) (names name)
 
 -- the address that a step refers to, and 0 where it refers to none
 abbrev pub base_of : Names → StepView → Option ℕ
@@ -58,11 +57,11 @@ given_by (answer.Reply (Given a usable)) = Some a
 given_by other = None
 
 -- the address of the block that a reallocation leaves
-abbrev pub moved_by : Answer → Option ℕ
-moved_by (answer.Reply (Given a usable)) = Some a
-moved_by (answer.Kept a usable) = Some a
-moved_by (answer.HalfMoved a usable cause) = Some a
-moved_by other = None
+abbrev pub new_address_by : Answer → Option ℕ
+new_address_by (answer.Reply (Given a usable)) = Some a
+new_address_by (answer.Kept a usable) = Some a
+new_address_by (answer.HalfMoved a usable cause) = Some a
+new_address_by other = None
 
 -- a name is set where there is an address
 abbrev pub with_some : Names → List ℕ → Option ℕ → Names
@@ -75,17 +74,13 @@ abbrev pub named : Names → StepView → Answer → Names
 named names (Malloc name size) a = with_name names name (given_by a)
 named names (Calloc name count size) a = with_name names name (given_by a)
 named names (Aligned name align size) a = with_name names name (given_by a)
-named names (Realloc name place size) a = with_some names name (moved_by a)
+named names (Realloc name place size) a = with_some names name (new_address_by a)
 named names step a = names
 
 -- a skipped step leaves all names
 abbrev pub names_after : Names → StepView → Option Answer → Names
 names_after names step None = names
 names_after names step (Some a) = named names step a
-
--- where the step sets a name, the block of the answer lies where blocks lie
-abbrev pub SetsInReach : StepView → Answer → Type 0
-SetsInReach step a = IfSome (name_set step) (λ name. AnswerInReach a)
 
 -- ---- the run of a step
 -- who runs the script, and on which configuration

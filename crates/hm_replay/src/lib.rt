@@ -12,6 +12,7 @@ mod rooms;
 mod round;
 mod scope;
 mod script;
+mod setting;
 
 pub use env::Env;
 pub use hm_report::{Results, StepResult};

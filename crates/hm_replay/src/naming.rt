@@ -1,10 +1,9 @@
 //! The name that a step sets by its answer, or leaves as it is.
 ghost use Rattle.std.specs.Prelude.{◌≡◌, IfSome, OnOk, OnErr};
 ghost use Rattle.hm_trace.specs.Views.{name_view, step_view};
-ghost use Rattle.hm_heap.specs.Requests.{IsInReach};
-ghost use Rattle.hm_heap.specs.Calls.{AnswerInReach};
+ghost use Rattle.hm_heap.specs.Requests.{AnswerInReach, IsInReach};
 ghost use Rattle.hm_replay.specs.Names.{touched_by, touched_too};
-ghost use Rattle.hm_replay.specs.Steps.{given_by, moved_by, named, SetsInReach};
+ghost use Rattle.hm_replay.specs.Steps.{given_by, new_address_by, named};
 
 use crate::addresses::Addresses;
 use hm_base::NoMemory;
@@ -23,8 +22,8 @@ fn given(answer: &Answer) -> Option<u64>
 }
 
 // The address of the block that a reallocation leaves.
-fn moved(answer: &Answer) -> Option<u64>
-    ensures value { result ≡ moved_by answer.now }
+fn new_address(answer: &Answer) -> Option<u64>
+    ensures value { result ≡ new_address_by answer.now }
     ensures reach { AnswerInReach answer.now → IfSome result IsInReach }
 {
     match answer {
@@ -59,7 +58,7 @@ pub(crate) fn skip<E: Addresses>(env: &mut E, step: &Step) -> Result<(), NoMemor
 
 /// Sets the name of a step that was answered.
 pub(crate) fn name<E: Addresses>(env: &mut E, step: &Step, answer: &Answer) -> Result<(), NoMemory>
-    requires reach { SetsInReach (step_view step.now) answer.now }
+    requires reach { AnswerInReach answer.now }
     ensures value { OnOk result (E.names env.new ≡ named (E.names env.old) (step_view step.now) answer.now) }
     ensures touched { OnOk result (E.touched env.new ≡ touched_by (E.touched env.old) (step_view step.now)) }
     ensures memory { OnErr result (env.new ≡ env.old) }
@@ -68,7 +67,7 @@ pub(crate) fn name<E: Addresses>(env: &mut E, step: &Step, answer: &Answer) -> R
         Step::Malloc { name, .. } | Step::Calloc { name, .. } | Step::Aligned { name, .. } => {
             env.set(*name, given(answer))
         }
-        Step::Realloc { name, .. } => match moved(answer) {
+        Step::Realloc { name, .. } => match new_address(answer) {
             Some(addr) => env.set(*name, Some(addr)),
             None => touch(env, *name),
         },

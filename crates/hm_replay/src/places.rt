@@ -3,16 +3,16 @@ ghost use Rattle.std.specs.Prelude.{◌≡◌, true};
 ghost use Rattle.hm_trace.specs.Traces.{is_offset, is_place, is_step};
 ghost use Rattle.hm_trace.specs.Views.{place_view, step_view};
 ghost use Rattle.hm_heap.specs.Requests.{IsInReach};
-ghost use Rattle.hm_replay.specs.Steps.{moved, referred, base_of};
+ghost use Rattle.hm_replay.specs.Steps.{with_offset, referred, base_of};
 
 use crate::addresses::Addresses;
 use hm_trace::{Place, Step};
 
 // The address so many bytes up or down.
-fn moved(addr: u64, offset: i64) -> u64
+fn with_offset(addr: u64, offset: i64) -> u64
     requires reach { IsInReach addr }
     requires offset { is_offset offset ≡ true }
-    ensures { result ≡ moved addr offset }
+    ensures { result ≡ with_offset addr offset }
 {
     if offset < 0 {
         addr - offset.unsigned_abs()
@@ -31,7 +31,7 @@ fn referred<E: Addresses>(env: &E, place: &Place) -> Option<u64>
         Place::At(addr) => Some(*addr),
         Place::Named { name, offset } => {
             let addr = env.get(name)?;
-            Some(moved(addr, *offset))
+            Some(with_offset(addr, *offset))
         }
     }
 }

@@ -1,8 +1,8 @@
 //! Rooms for names: all that may take memory is done before the first name is set.
-ghost use Rattle.std.specs.Prelude.{◌≡◌, List, ℕ, OnOk, IsSome};
+ghost use Rattle.std.specs.Prelude.{◌≡◌, OnOk, IsSome};
 ghost use Rattle.hm_trace.specs.Views.{name_view};
 ghost use Rattle.hm_replay.specs.Names.{held, with_name, with_all, with_lists};
-ghost use Rattle.hm_replay.specs.Rooms.{set_in, AreRooms, HaveRooms, HaveAllRooms};
+ghost use Rattle.hm_replay.specs.Rooms.{set_in, AreRooms, KeepsRooms, HaveRooms, HaveAllRooms};
 
 use crate::left::NameLeft;
 use hm_base::NoMemory;
@@ -11,11 +11,9 @@ use std::collections::BTreeMap;
 
 // Takes room for a name, which stays as it is.
 fn take_room(rooms: &mut BTreeMap<Name, Option<u64>>, name: Name) -> Result<(), NoMemory>
-    requires rooms { AreRooms rooms.old.entries }
-    ensures rooms { AreRooms rooms.new.entries }
+    ensures kept { KeepsRooms rooms.old.entries rooms.new.entries }
     ensures same { set_in rooms.new.entries ≡ set_in rooms.old.entries }
     ensures room { OnOk result (IsSome (held rooms.new.entries (name_view name))) }
-    ensures others { (q : List ℕ) → IsSome (held rooms.old.entries q) → IsSome (held rooms.new.entries q) }
 {
     if rooms.contains_key(&name) {
         return Ok(());
@@ -26,11 +24,9 @@ fn take_room(rooms: &mut BTreeMap<Name, Option<u64>>, name: Name) -> Result<(), 
 
 // Takes room for each of these names, which stay as they are.
 fn take_rooms(rooms: &mut BTreeMap<Name, Option<u64>>, left: &[NameLeft]) -> Result<(), NoMemory>
-    requires rooms { AreRooms rooms.old.entries }
-    ensures rooms { AreRooms rooms.new.entries }
+    ensures kept { KeepsRooms rooms.old.entries rooms.new.entries }
     ensures same { set_in rooms.new.entries ≡ set_in rooms.old.entries }
     ensures room { OnOk result (HaveRooms rooms.new.entries left.now) }
-    ensures others { (q : List ℕ) → IsSome (held rooms.old.entries q) → IsSome (held rooms.new.entries q) }
 {
     for name in left {
         take_room(rooms, name.name)?;
@@ -43,8 +39,7 @@ pub(crate) fn take_all_rooms(
     rooms: &mut BTreeMap<Name, Option<u64>>,
     lists: &[Vec<NameLeft>],
 ) -> Result<(), NoMemory>
-    requires rooms { AreRooms rooms.old.entries }
-    ensures rooms { AreRooms rooms.new.entries }
+    ensures kept { KeepsRooms rooms.old.entries rooms.new.entries }
     ensures same { set_in rooms.new.entries ≡ set_in rooms.old.entries }
     ensures room { OnOk result (HaveAllRooms rooms.new.entries lists.now) }
 {
@@ -58,10 +53,9 @@ pub(crate) fn take_all_rooms(
 fn put(rooms: &mut BTreeMap<Name, Option<u64>>, left: &NameLeft)
     requires rooms { AreRooms rooms.old.entries }
     requires room { IsSome (held rooms.old.entries (name_view left.now.name)) }
-    ensures rooms { AreRooms rooms.new.entries }
+    ensures kept { KeepsRooms rooms.old.entries rooms.new.entries }
     ensures value { held (set_in rooms.new.entries)
         ≡ with_name (held (set_in rooms.old.entries)) (name_view left.now.name) left.now.address }
-    ensures others { (q : List ℕ) → IsSome (held rooms.old.entries q) → IsSome (held rooms.new.entries q) }
 {
     // A name that has room takes no memory, so this does not fail.
     let _ = rooms.insert(left.name, left.address);
@@ -71,9 +65,8 @@ fn put(rooms: &mut BTreeMap<Name, Option<u64>>, left: &NameLeft)
 fn put_all(rooms: &mut BTreeMap<Name, Option<u64>>, left: &[NameLeft])
     requires rooms { AreRooms rooms.old.entries }
     requires room { HaveRooms rooms.old.entries left.now }
-    ensures rooms { AreRooms rooms.new.entries }
+    ensures kept { KeepsRooms rooms.old.entries rooms.new.entries }
     ensures value { held (set_in rooms.new.entries) ≡ with_all (held (set_in rooms.old.entries)) left.now }
-    ensures others { (q : List ℕ) → IsSome (held rooms.old.entries q) → IsSome (held rooms.new.entries q) }
 {
     for name in left {
         put(rooms, name);
@@ -84,7 +77,7 @@ fn put_all(rooms: &mut BTreeMap<Name, Option<u64>>, left: &[NameLeft])
 pub(crate) fn put_lists(rooms: &mut BTreeMap<Name, Option<u64>>, lists: &[Vec<NameLeft>])
     requires rooms { AreRooms rooms.old.entries }
     requires room { HaveAllRooms rooms.old.entries lists.now }
-    ensures rooms { AreRooms rooms.new.entries }
+    ensures kept { KeepsRooms rooms.old.entries rooms.new.entries }
     ensures value { held (set_in rooms.new.entries) ≡ with_lists (held (set_in rooms.old.entries)) lists.now }
 {
     for left in lists {

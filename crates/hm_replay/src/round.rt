@@ -10,6 +10,7 @@ use crate::env::Env;
 use crate::left::NameLeft;
 use crate::scope::Scope;
 use crate::script::run_with;
+use crate::setting::Setting;
 use hm_base::NoMemory;
 use hm_heap::{Heap, Pass};
 use hm_outside::{Gate, Pages};
@@ -77,22 +78,21 @@ fn work<R: Threads + Wait + Sync, P: Pages, G: Gate>(
 }
 
 // Splits a pass off for each script, until memory runs out.
-fn start<'s, 'e, P: Pages, G: Gate>(
-    alloc: Global,
-    heap: &Heap<'_, P, G>,
+fn start<'s, 'e, R, P: Pages, G: Gate>(
+    setting: &Setting<'_, '_, R, P, G>,
     root: &mut Pass,
     round_number: u32,
     scripts: &'s [Script],
     env: &'e Env,
     workers: &mut Vec<Worker<'s, 'e>>,
 ) -> Result<(), NoMemory>
-    requires of { AreOf heap.now.locks root.old.turns }
+    requires of { AreOf setting.now.heap.now.locks root.old.turns }
     requires root { root.old.caller ≡ 0 }
     requires few { root.old.splits + length scripts.now < 2 ^ 32 }
     requires room { (workers.old.items ≡ []) × (length scripts.now ≤ vec_capacity workers.old) }
-    ensures root { HasParted heap.now.locks (vec_len workers.new) root.old root.new }
+    ensures root { HasParted setting.now.heap.now.locks (vec_len workers.new) root.old root.new }
     ensures workers { (i : ℕ) (w : _) → i < vec_len workers.new
-        → IsBegun heap.now.locks (root.old.splits + 1 + i) round_number root.old (held env.now)
+        → IsBegun setting.now.heap.now.locks (root.old.splits + 1 + i) round_number root.old (held env.now)
         (slice_index_or workers.new.items i w) }
     ensures scripts { (i : ℕ) (w : _) (s : _) → i < vec_len workers.new
         → (slice_index_or workers.new.items i w).script.now ≡ slice_index_or scripts.now i s }
@@ -100,11 +100,13 @@ fn start<'s, 'e, P: Pages, G: Gate>(
     ensures some { vec_len workers.new ≤ length scripts.now }
 {
     for script in scripts {
-        let pass = heap.split(alloc, root, round_number, script.thread())?;
+        let pass = setting
+            .heap
+            .split(setting.alloc, root, round_number, script.thread())?;
         workers.push_reserved(Worker {
             script,
             pass,
-            scope: Scope::build(alloc, env),
+            scope: Scope::build(setting.alloc, env),
             results: None,
             left: None,
         });
@@ -171,7 +173,8 @@ pub fn run_round<R: Threads + Wait + Sync, P: Pages, G: Gate>(
     ensures of { AreOf heap.now.locks root.new.turns }
     ensures root { LeavesRoot (length round.now.scripts) root.old root.new }
     ensures splits { IfOk result (λ _. root.new.splits ≡ root.old.splits + length round.now.scripts) }
-    ensures at_most { (root.old.splits ≤ root.new.splits) × (root.new.splits ≤ root.old.splits + length round.now.scripts) }
+    ensures at_most { (root.old.splits ≤ root.new.splits)
+        × (root.new.splits ≤ root.old.splits + length round.now.scripts) }
     ensures ran { IfOk result (λ results. RunsRound heap.now.config (ended_in root.new.turns) (root.old.splits + 1)
         number (held env.old) (held env.old) round.now.scripts results.items (held env.new)) }
     ensures begun { BeginsRound heap.now.config number (held env.old) round.now.scripts root.old root.new }
@@ -181,7 +184,8 @@ pub fn run_round<R: Threads + Wait + Sync, P: Pages, G: Gate>(
     let mut workers = Vec::with_capacity(alloc, scripts.len())?;
     let mut found = Vec::with_capacity(alloc, scripts.len())?;
     let mut lists = Vec::with_capacity(alloc, scripts.len())?;
-    if start(alloc, heap, root, number, scripts, env, &mut workers).is_err() {
+    let setting = Setting { rt, alloc, heap };
+    if start(&setting, root, number, scripts, env, &mut workers).is_err() {
         finish(heap, root, workers, &mut found, &mut lists);
         return Err(NoMemory);
     }

@@ -4,10 +4,10 @@ ghost use Rattle.std.specs.List.{list_all};
 ghost use Rattle.hm_trace.specs.Limits.{most_steps};
 ghost use Rattle.hm_trace.specs.Traces.{is_step};
 ghost use Rattle.hm_trace.specs.Views.{step_view, steps_view};
-ghost use Rattle.hm_heap.specs.Passes.{AreOf, GoesOnAs};
-ghost use Rattle.hm_replay.specs.Gains.{GainsResult, GainsResults, GainsStop, GainsFrontOf, AllGrew, terms_of, mine_of};
+ghost use Rattle.hm_heap.specs.Passes.{AreOf};
+ghost use Rattle.hm_replay.specs.Gains.{GainsResult, GainsResults, GainsStop, GainsFrontOf, WentOn, terms_of, mine_of};
 ghost use Rattle.hm_replay.specs.Names.{held, touched_all, touched_by};
-ghost use Rattle.hm_replay.specs.Scripts.{IsFront, IsRun};
+ghost use Rattle.hm_replay.specs.Scripts.{IsFront, RunsAllSteps};
 ghost use Rattle.hm_replay.specs.Steps.{names_after};
 
 use crate::addresses::Addresses;
@@ -15,6 +15,7 @@ use crate::calls::call;
 use crate::env::Env;
 use crate::naming::{name, skip};
 use crate::places::base_of;
+use crate::setting::Setting;
 use hm_base::{List, NoMemory};
 use hm_heap::{Heap, Pass};
 use hm_outside::{Gate, Pages};
@@ -25,24 +26,21 @@ use std::sync::Wait;
 
 // Runs one step.
 fn run_step<R: Wait, P: Pages, G: Gate, E: Addresses>(
-    rt: &R,
-    alloc: Global,
-    heap: &Heap<'_, P, G>,
+    setting: &Setting<'_, '_, R, P, G>,
     pass: &mut Pass,
     env: &mut E,
     step_number: u32,
     step: &Step,
 ) -> Result<StepResult, NoMemory>
-    requires of { AreOf heap.now.locks pass.old.turns }
+    requires of { AreOf setting.now.heap.now.locks pass.old.turns }
     requires valid { is_step (step_view step.now) ≡ true }
-    ensures goes_on { GoesOnAs heap.now pass.old pass.new }
-    ensures grew { AllGrew pass.old.turns pass.new.turns }
+    ensures run { WentOn setting.now.heap.now.locks pass.old pass.new }
     ensures ran { IfOk result
-        (GainsResult heap.now pass.old pass.new step_number (E.names env.old) (step_view step.now)) }
+        (GainsResult setting.now.heap.now pass.old pass.new step_number (E.names env.old) (step_view step.now)) }
     ensures names { IfOk result (λ r. E.names env.new ≡ names_after (E.names env.old) (step_view step.now) r.answer) }
     ensures touched { IfOk result (λ _. E.touched env.new ≡ touched_by (E.touched env.old) (step_view step.now)) }
     ensures stops { OnErr result
-        (GainsStop heap.now pass.old pass.new step_number (E.names env.old) (step_view step.now)) }
+        (GainsStop setting.now.heap.now pass.old pass.new step_number (E.names env.old) (step_view step.now)) }
     ensures kept { OnErr result (env.new ≡ env.old) }
 {
     let Some(base) = base_of(env, step) else {
@@ -52,7 +50,7 @@ fn run_step<R: Wait, P: Pages, G: Gate, E: Addresses>(
             answer: None,
         });
     };
-    let answer = call(rt, alloc, heap, pass, step_number, step, base)?;
+    let answer = call(setting, pass, step_number, step, base)?;
     name(env, step, &answer)?;
     Ok(StepResult {
         base,
@@ -62,27 +60,24 @@ fn run_step<R: Wait, P: Pages, G: Gate, E: Addresses>(
 
 // Runs the steps, one after another.
 fn run_steps<R: Wait, P: Pages, G: Gate, E: Addresses>(
-    rt: &R,
-    alloc: Global,
-    heap: &Heap<'_, P, G>,
+    setting: &Setting<'_, '_, R, P, G>,
     pass: &mut Pass,
     env: &mut E,
     steps: &[Step],
 ) -> Result<Vec<StepResult>, NoMemory>
-    requires of { AreOf heap.now.locks pass.old.turns }
+    requires of { AreOf setting.now.heap.now.locks pass.old.turns }
     requires valid { list_all is_step (steps_view steps.now) ≡ true }
     requires few { length steps.now ≤ most_steps }
-    ensures goes_on { GoesOnAs heap.now pass.old pass.new }
-    ensures grew { AllGrew pass.old.turns pass.new.turns }
-    ensures ran { IfOk result (λ rs. GainsResults heap.now pass.old pass.new (E.names env.old) (steps_view steps.now)
-        rs.items (E.names env.new)) }
+    ensures run { WentOn setting.now.heap.now.locks pass.old pass.new }
+    ensures ran { IfOk result (λ rs. GainsResults setting.now.heap.now pass.old pass.new (E.names env.old)
+        (steps_view steps.now) rs.items (E.names env.new)) }
     ensures touched { IfOk result (λ _. E.touched env.new ≡ touched_all (E.touched env.old) (steps_view steps.now)) }
-    ensures stops { OnErr result
-        (GainsFrontOf heap.now pass.old pass.new (E.names env.old) (steps_view steps.now) (E.names env.new)) }
+    ensures stops { OnErr result (GainsFrontOf setting.now.heap.now pass.old pass.new (E.names env.old)
+        (steps_view steps.now) (E.names env.new)) }
 {
-    let mut results = Vec::with_capacity(alloc, steps.len())?;
+    let mut results = Vec::with_capacity(setting.alloc, steps.len())?;
     for (index, step) in steps.iter().enumerate() {
-        let result = run_step(rt, alloc, heap, pass, env, index as u32 + 1, step)?;
+        let result = run_step(setting, pass, env, index as u32 + 1, step)?;
         results.push(result)?;
     }
     Ok(results)
@@ -100,16 +95,16 @@ pub(crate) fn run_with<R: Wait, P: Pages, G: Gate, E: Addresses>(
     requires of { AreOf heap.now.locks pass.old.turns }
     requires thread { pass.old.thread ≡ script.now.thread }
     requires fresh { (place : ℕ) → mine_of pass.old.turns place ≡ [] }
-    ensures goes_on { GoesOnAs heap.now pass.old pass.new }
-    ensures grew { AllGrew pass.old.turns pass.new.turns }
+    ensures run { WentOn heap.now.locks pass.old pass.new }
     ensures results { IfOk result (λ rs. (rs.round ≡ pass.old.round) × (rs.thread ≡ script.now.thread)) }
-    ensures ran { IfOk result (λ rs. IsRun (terms_of heap.now pass.old) (E.names env.old) script.now.steps rs.items
-        (E.names env.new) (mine_of pass.new.turns)) }
+    ensures ran { IfOk result (λ rs. RunsAllSteps (terms_of heap.now pass.old) (E.names env.old) script.now.steps
+        rs.items (E.names env.new) (mine_of pass.new.turns)) }
     ensures touched { IfOk result (λ _. E.touched env.new ≡ touched_all (E.touched env.old) script.now.steps) }
     ensures stops { OnErr result (IsFront (terms_of heap.now pass.old) (E.names env.old) script.now.steps
         (E.names env.new) (mine_of pass.new.turns)) }
 {
-    let items = run_steps(rt, alloc, heap, pass, env, script.steps())?;
+    let setting = Setting { rt, alloc, heap };
+    let items = run_steps(&setting, pass, env, script.steps())?;
     Ok(Results {
         round: pass.round(),
         thread: script.thread(),
@@ -131,10 +126,9 @@ pub fn run_script<R: Wait, P: Pages, G: Gate>(
     requires of { AreOf heap.now.locks pass.old.turns }
     requires thread { pass.old.thread ≡ script.now.thread }
     requires fresh { (place : ℕ) → mine_of pass.old.turns place ≡ [] }
-    ensures goes_on { GoesOnAs heap.now pass.old pass.new }
-    ensures grew { AllGrew pass.old.turns pass.new.turns }
+    ensures run { WentOn heap.now.locks pass.old pass.new }
     ensures results { IfOk result (λ rs. (rs.round ≡ pass.old.round) × (rs.thread ≡ script.now.thread)) }
-    ensures ran { IfOk result (λ rs. IsRun (terms_of heap.now pass.old) (held env.old) script.now.steps rs.items
+    ensures ran { IfOk result (λ rs. RunsAllSteps (terms_of heap.now pass.old) (held env.old) script.now.steps rs.items
         (held env.new) (mine_of pass.new.turns)) }
     ensures stops { OnErr result (IsFront (terms_of heap.now pass.old) (held env.old) script.now.steps (held env.new)
         (mine_of pass.new.turns)) }

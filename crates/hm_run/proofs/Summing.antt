@@ -18,7 +18,7 @@ use Rattle.hm_large.specs.Rules.{Terms, Allowed}
 use Rattle.hm_large.specs.State.{State, start, step}
 use Rattle.hm_heap.specs.declared.close.Closed.{Closed}
 use Rattle.hm_heap.specs.declared.close.History.{History}
-use Rattle.hm_heap.specs.Calls.{large_place}
+use Rattle.hm_heap.specs.Calls.{large_index}
 use Rattle.hm_heap.specs.Closes.{Closes}
 use Rattle.hm_heap.specs.Lawful.{large_terms}
 use Rattle.hm_heap.specs.Passes.{PassView, region_at}
@@ -39,17 +39,17 @@ same_state : (t u : Terms) (s : State) (es : List Entry) → run step (Allowed t
 same_state t u s [] = refl
 same_state t u s (e ∷ es) = same_state t u (step s e) es
 
-large_there : (c : Config) → region_at c (large_place c) ≡ large_region_number
+large_there : (c : Config) → region_at c (large_index c) ≡ large_region_number
 large_there c =
-    ap (λ (b : Bool). cond b (large_place c) large_region_number) (le-ltb (region_count c) (region_count c) (omega arith))
+    ap (λ (b : Bool). cond b (large_index c) large_region_number) (le-ltb (region_count c) (region_count c) (omega arith))
 
 module _ {P : Type 0} (meaning : pages.Ghosts P) (o : Options) (closed : Closed P) where
   -- of whatever the large region's history begins with
   sums_alike : LiveSizes → AreEnds meaning o closed → (front later : List Entry)
-      → entries_at closed.histories (large_place (config_of o)) ≡ front ++ later
+      → entries_at closed.histories (large_index (config_of o)) ≡ front ++ later
       → size_sum front ≡ live_sum (config_of o) front
   sums_alike law ends front later is =
-      let place : ℕ = large_place (config_of o) in
+      let place : ℕ = large_index (config_of o) in
       let b : place < length closed.histories = omega (arith, ends.histories) in
       let b' : place < length closed.pages = omega (arith, b, ends.pages) in
       let h : History = some_of closed.histories place b in
@@ -75,7 +75,7 @@ module _ {P : Type 0} (meaning : pages.Ghosts P) (o : Options) (closed : Closed 
       → HasReplayed c p rounds results last → Closes meaning c number p.turns closed.histories closed.pages
       → IsWatched size_sum 1 rounds [] (large_seen c p) totals → totals ≡ live_sums (config_of o) rounds closed.histories
   totals_are c number p rounds results last totals close law ends is ran closes watched =
-      close (config_of o) p closed.histories rounds results last (large_place (config_of o)) size_sum
+      close (config_of o) p closed.histories rounds results last (large_index (config_of o)) size_sum
       (live_sum (config_of o)) totals
       (subst (λ (d : Config). HasReplayed d p rounds results last) is ran) closes.histories
       (λ r t h below. (closes.each r t h (some_of closed.pages r (omega (arith, below, closes.pages))) below).whole)

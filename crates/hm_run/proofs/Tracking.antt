@@ -14,7 +14,7 @@ use Rattle.hm_trace.specs.Views.{ScriptView}
 use Rattle.hm_turn.specs.Histories.{StartsWith}
 use Rattle.hm_turn.specs.Known.{Known}
 use Rattle.hm_heap.specs.declared.changes.Changes.{Changes}
-use Rattle.hm_heap.specs.Calls.{large_place}
+use Rattle.hm_heap.specs.Calls.{large_index}
 use Rattle.hm_heap.specs.Changes.{HasLooked}
 use Rattle.hm_heap.specs.Passes.{PassView}
 use Rattle.hm_heap.proofs.Changing.{changes-append}
@@ -96,7 +96,7 @@ own_sum w es f = ap (λ (s : Shown). total_of s.map) f.own ∙ ap total_of (map_
 
 -- ---- looks
 pub has_looked : (c : Config) (p q : PassView) (from : ℕ) (found : Result Changes NoMemory) → q ≡ record p { turns = q.turns }
-    → HasLooked p q (large_place c) from found → MayHaveLooked c p q
+    → HasLooked p q (large_index c) from found → MayHaveLooked c p q
 has_looked c p q from found same l = record { same = same; looked = inr (from, found, l) }
 
 pub has_not_looked : (c : Config) (p : PassView) → MayHaveLooked c p p
@@ -108,11 +108,11 @@ pub may_keep : (c : Config) (p q : PassView) (rounds : List (List ScriptView)) (
     → HasReplayed c q rounds results last × (large_seen c q ≡ large_seen c p)
 may_keep c p q rounds results last keep h may = by may.looked
   where
-    by : (q ≡ p) ⊎ ((from : ℕ) × (found : Result Changes NoMemory) × HasLooked p q (large_place c) from found)
+    by : (q ≡ p) ⊎ ((from : ℕ) × (found : Result Changes NoMemory) × HasLooked p q (large_index c) from found)
         → HasReplayed c q rounds results last × (large_seen c q ≡ large_seen c p)
     by (inl same) = (
       subst (λ (v : PassView). HasReplayed c v rounds results last) (sym same) h,
       ap (large_seen c) same,
     )
     by (inr l) =
-        let kept = keep c p q rounds results last (large_place c) l.0 l.1 h may.same l.2 in (kept.0, kept.1 (large_place c))
+        let kept = keep c p q rounds results last (large_index c) l.0 l.1 h may.same l.2 in (kept.0, kept.1 (large_index c))

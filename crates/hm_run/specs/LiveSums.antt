@@ -6,7 +6,7 @@ use Rattle.hm_sizes.specs.declared.config.Config.{Config}
 use Rattle.hm_trace.specs.Views.{ScriptView}
 use Rattle.hm_large.specs.Blocks.{Block}
 use Rattle.hm_large.specs.Rules as large
-use Rattle.hm_heap.specs.Calls.{large_place}
+use Rattle.hm_heap.specs.Calls.{large_index}
 use Rattle.hm_heap.specs.declared.close.History.{History}
 use Rattle.hm_replay.specs.Watched.{entries_at, numbers_upto}
 
@@ -17,4 +17,4 @@ live_sum c es = sum_by (λ (b : ℕ × Block). b.1.size) (large.state (record { 
 
 -- for each of the rounds, after the entries of the large region's history that are of the rounds up to it
 abbrev pub live_sums : Config → List (List ScriptView) → List History → List ℕ
-live_sums c rounds hs = numbers_upto (live_sum c) 1 rounds (entries_at hs (large_place c))
+live_sums c rounds hs = numbers_upto (live_sum c) 1 rounds (entries_at hs (large_index c))

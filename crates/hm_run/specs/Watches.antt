@@ -6,7 +6,7 @@ use Rattle.hm_model.specs.Changes.{changes_of, sizes, total_of}
 use Rattle.hm_sizes.specs.declared.config.Config.{Config}
 use Rattle.hm_turn.specs.Histories.{StartsWith}
 use Rattle.hm_heap.specs.declared.changes.Changes.{Changes}
-use Rattle.hm_heap.specs.Calls.{large_place}
+use Rattle.hm_heap.specs.Calls.{large_index}
 use Rattle.hm_heap.specs.Changes.{HasLooked}
 use Rattle.hm_heap.specs.Passes.{PassView}
 use Rattle.hm_replay.specs.Watched.{seen_of}
@@ -18,7 +18,7 @@ use Rattle.hm_run.specs.declared.watching.Watcher.TheVariants.{Off, On}
 -- ---- the large region
 -- the entries of it that the pass has seen
 abbrev pub large_seen : Config → PassView → List Entry
-large_seen c p = seen_of p.turns (large_place c)
+large_seen c p = seen_of p.turns (large_index c)
 
 -- the sum of the sizes that the changes of these entries make
 abbrev pub size_sum : List Entry → ℕ
@@ -61,4 +61,4 @@ TracksFront (On w) es = FollowsFront w es
 -- the pass may have looked at the changes of the large region, and all else of it is as before
 pub record MayHaveLooked (c : Config) (p q : PassView) : Type 0 where
   pub same : q ≡ record p { turns = q.turns }
-  pub looked : (q ≡ p) ⊎ ((from : ℕ) × (found : Result Changes NoMemory) × HasLooked p q (large_place c) from found)
+  pub looked : (q ≡ p) ⊎ ((from : ℕ) × (found : Result Changes NoMemory) × HasLooked p q (large_index c) from found)

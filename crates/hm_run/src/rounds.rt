@@ -6,7 +6,7 @@ ghost use Rattle.hm_stats.specs.Tables.{entry_count};
 ghost use Rattle.hm_report.specs.Findings.{ascends};
 ghost use Rattle.hm_trace.specs.Traces.{is_round};
 ghost use Rattle.hm_trace.specs.Views.{scripts_of};
-ghost use Rattle.hm_heap.specs.Calls.{large_place};
+ghost use Rattle.hm_heap.specs.Calls.{large_index};
 ghost use Rattle.hm_heap.specs.Founds.{Founds};
 ghost use Rattle.hm_heap.specs.Passes.{AreOf, first_pass};
 ghost use Rattle.hm_replay.specs.Replays.{HasReplayed};
@@ -64,7 +64,7 @@ fn run_rounds<R: Threads + Wait + Sync, P: Pages, G: Gate>(
     watcher: &mut Watcher,
 ) -> Result<Vec<Results>, NoMemory>
     requires of { AreOf heap.now.locks root.old.turns }
-    requires place { large_place heap.now.config < length heap.now.locks }
+    requires place { large_index heap.now.config < length heap.now.locks }
     requires first { root.old ≡ first_pass root.old.turns }
     requires founds { Founds heap.now.locks root.old.turns }
     requires valid { list_all (λ r. is_round r.scripts) rounds.now ≡ true }
@@ -101,7 +101,7 @@ fn watch_rounds<R: Threads + Wait + Sync, P: Pages, G: Gate>(
     watched: bool,
 ) -> Result<(Vec<Results>, Vec<u128>), NoMemory>
     requires of { AreOf heap.now.locks root.old.turns }
-    requires place { large_place heap.now.config < length heap.now.locks }
+    requires place { large_index heap.now.config < length heap.now.locks }
     requires first { root.old ≡ first_pass root.old.turns }
     requires founds { Founds heap.now.locks root.old.turns }
     requires valid { list_all (λ r. is_round r.scripts) rounds.now ≡ true }

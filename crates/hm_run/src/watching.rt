@@ -1,6 +1,6 @@
 //! What stands between rounds where the sizes of large blocks are watched: what changed is published, and the sum is read.
 ghost use Rattle.std.specs.Prelude.{◌≡◌, ◌<◌, [], ◌∷◌, ◌++◌, true, fold, length, IfOk, OnOk};
-ghost use Rattle.hm_heap.specs.Calls.{large_place};
+ghost use Rattle.hm_heap.specs.Calls.{large_index};
 ghost use Rattle.hm_heap.specs.Passes.{AreOf};
 ghost use Rattle.hm_model.specs.Changes.{total_of};
 ghost use Rattle.hm_snapshot.specs.Shown.{absorbed};
@@ -66,7 +66,7 @@ impl Watch {
     ) -> Result<(), NoMemory>
         requires of { AreOf heap.now.locks root.old.turns }
         requires root { root.old.caller ≡ 0 }
-        requires place { large_place heap.now.config < length root.old.turns }
+        requires place { large_index heap.now.config < length root.old.turns }
         requires front { FollowsFront self.old (large_seen heap.now.config root.old) }
         ensures of { AreOf heap.now.locks root.new.turns }
         ensures looked { MayHaveLooked heap.now.config root.old root.new }
@@ -126,7 +126,7 @@ impl Watcher {
     ) -> Result<(), NoMemory>
         requires of { AreOf heap.now.locks root.old.turns }
         requires root { root.old.caller ≡ 0 }
-        requires place { large_place heap.now.config < length root.old.turns }
+        requires place { large_index heap.now.config < length root.old.turns }
         requires front { TracksFront self.old (large_seen heap.now.config root.old) }
         ensures of { AreOf heap.now.locks root.new.turns }
         ensures looked { MayHaveLooked heap.now.config root.old root.new }

@@ -1,4 +1,4 @@
-use Rattle.std.proofs.Common.{rules, ◌≡◌, ◌++◌, List, ap, sym, ◌∙◌, take, get_or}
+use Rattle.std.proofs.Common.{◌++◌, List, ap, sym, ◌∙◌, take}
 use Rattle.hm_model.specs.declared.entry.Entry.{Entry}
 use Rattle.hm_model.specs.declared.change.SizeChange.{SizeChange}
 use Rattle.hm_model.specs.Changes.{change, changes_of}

@@ -1,11 +1,17 @@
-use Rattle.std.proofs.Common.{◌≡◌, ◌+◌, ◌∷◌, List, Vec, drop, sym, ◌∙◌, ap, subst}
+use Rattle.std.proofs.Common.{◌≡◌, ◌+◌, ◌∷◌, List, Vec, drop, refl, sym, ◌∙◌, ap, subst}
 use Rattle.std.proofs.lemmas.List.{drop_more}
 use Rattle.std.specs.declared.alloc.Global.{Global}
 use Rattle.hm_replay.specs.declared.left.NameLeft.{NameLeft}
 use Rattle.hm_replay.specs.Names.{Names, held, with_all, with_lists}
 use Rattle.hm_replay.specs.Rooms.{set_in, HaveRooms}
-use Rattle.hm_replay.proofs.Keeping.{rooms_stay}
+use Rattle.hm_replay.proofs.Keeping.{keeps_itself, keeps_then, rooms_stay}
 use Rattle.hm_replay.proofs.rooms.put_lists.Goals as goal
+
+pub put_all-requires-clause-rooms : goal.put_all-requires-clause-rooms
+put_all-requires-clause-rooms c = c.loop-left.invariant.kept.rooms c.requires.rooms
+
+pub loop-left-init : goal.loop-left-init
+loop-left-init c = record { kept = keeps_itself _; room = c.requires.room; value = refl }
 
 pub put_all-requires-clause-room : goal.put_all-requires-clause-room
 put_all-requires-clause-room c =
@@ -24,8 +30,8 @@ loop-left-preserved c =
     let dropped : v ∷ rest ≡ drop i lists =
     ap (λ (u : Vec NameLeft Global). u ∷ rest) c.left-item.is ∙ sym (drop_more lists i v c.loop-left-test.true) in
     record {
-      rooms = c.put_all.ensures.rooms;
-      room = record { each = λ j u l. rooms_stay _ _ _ (old.room.each j u l) c.put_all.ensures.others };
+      kept = keeps_then _ _ _ old.kept c.put_all.ensures.kept;
+      room = record { each = λ j u l. rooms_stay _ _ _ (old.room.each j u l) c.put_all.ensures.kept };
       value =
           ap (λ (z : Names). with_lists z rest)
           (c.put_all.ensures.value ∙ ap (λ (l : List NameLeft). with_all before l) c.deref.ensures.value)

@@ -3,12 +3,12 @@ use Rattle.std.proofs.lemmas.List.{take_all, take_more}
 use Rattle.std.specs.declared.alloc.Global.{Global}
 use Rattle.hm_replay.specs.declared.left.NameLeft.{NameLeft}
 use Rattle.hm_replay.specs.Rooms.{HaveAllRooms, HaveRooms}
-use Rattle.hm_replay.proofs.Keeping.{all_rooms_more}
+use Rattle.hm_replay.proofs.Keeping.{all_rooms_more, keeps_itself, keeps_then}
 use Rattle.hm_replay.proofs.rooms.take_all_rooms.Goals as goal
 
 pub loop-left-init : goal.loop-left-init
 loop-left-init c = record {
-  rooms = c.requires.rooms;
+  kept = keeps_itself _;
   same = refl;
   room = record { each = λ i v l. absurd (omega (arith, l)) };
 }
@@ -24,11 +24,11 @@ loop-left-preserved c =
     sym (take_more lists i v c.loop-left-test.true
     ∙ ap (λ (u : Vec NameLeft Global). take i lists ++ u ∷ []) (sym c.left-item.is)) in
     record {
-      rooms = c.take_rooms.ensures.rooms;
+      kept = keeps_then _ _ _ old.kept c.take_rooms.ensures.kept;
       same = c.take_rooms.ensures.same ∙ old.same;
       room =
           subst (λ (l : List (Vec NameLeft Global)). HaveAllRooms fs l) taken
-          (all_rooms_more c.loop-left.rooms.entries fs (take i lists) v old.room c.take_rooms.ensures.others
+          (all_rooms_more c.loop-left.rooms.entries fs (take i lists) v old.room c.take_rooms.ensures.kept
           (subst (λ (l : List NameLeft). HaveRooms fs l) c.deref.ensures.value c.in_ok-take_rooms.ensures.room));
     }
 

@@ -5,7 +5,7 @@ use Rattle.hm_trace.specs.Views.{name_view}
 use Rattle.hm_replay.specs.Names.{held}
 use Rattle.hm_replay.specs.Rooms.{set_in}
 use Rattle.hm_replay.proofs.Held.{looked}
-use Rattle.hm_replay.proofs.Keeping.{are_rooms, has_room, none_of, others_stay, room_taken}
+use Rattle.hm_replay.proofs.Keeping.{are_rooms, has_room, keeps_itself, none_of, others_stay, room_taken}
 use Rattle.hm_replay.proofs.rooms.take_room.Goals as goal
 
 pub returns-then-contains_key-clause-room : goal.returns-then-contains_key-clause-room
@@ -13,10 +13,19 @@ returns-then-contains_key-clause-room c =
     ap (λ (o : Option (Option ℕ)). is_some o) (sym (looked c.args.rooms.now.entries (name_view c.args.name)))
     ∙ sym c.contains_key.ensures ∙ c.if-contains_key.true
 
-pub returns-clause-rooms : goal.returns-clause-rooms
-returns-clause-rooms c =
-    are_rooms c.args.rooms.now.entries c.insert.new.self.entries c.args.name None c.insert.result (λ u. u.0)
-    c.insert.ensures.updates c.insert.ensures.err c.insert.ensures.ordered c.requires.rooms tt
+pub returns-then-contains_key-clause-kept : goal.returns-then-contains_key-clause-kept
+returns-then-contains_key-clause-kept c = keeps_itself _
+
+pub returns-clause-kept : goal.returns-clause-kept
+returns-clause-kept c =
+    let es : List (Name × Option ℕ) = c.args.rooms.now.entries in
+    let fs : List (Name × Option ℕ) = c.insert.new.self.entries in
+    record {
+      rooms = λ rooms.
+          are_rooms es fs c.args.name None c.insert.result (λ u. u.0) c.insert.ensures.updates c.insert.ensures.err
+          c.insert.ensures.ordered rooms tt;
+      others = others_stay es fs c.args.name None c.in_ok-insert.ensures.updates.0;
+    }
 
 pub returns-clause-same : goal.returns-clause-same
 returns-clause-same c =
@@ -29,7 +38,3 @@ returns-clause-same c =
 pub returns-clause-room : goal.returns-clause-room
 returns-clause-room c =
     has_room c.args.rooms.now.entries c.insert.new.self.entries c.args.name None c.in_ok-insert.ensures.updates.1
-
-pub returns-clause-others : goal.returns-clause-others
-returns-clause-others c =
-    others_stay c.args.rooms.now.entries c.insert.new.self.entries c.args.name None c.in_ok-insert.ensures.updates.0

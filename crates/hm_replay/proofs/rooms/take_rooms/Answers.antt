@@ -2,15 +2,14 @@ use Rattle.std.proofs.Common.{arith, ◌≡◌, ◌+◌, ◌∷◌, ◌++◌, Li
 use Rattle.std.proofs.lemmas.List.{take_all, take_more}
 use Rattle.hm_replay.specs.declared.left.NameLeft.{NameLeft}
 use Rattle.hm_replay.specs.Rooms.{HaveRooms}
-use Rattle.hm_replay.proofs.Keeping.{rooms_more}
+use Rattle.hm_replay.proofs.Keeping.{keeps_itself, keeps_then, rooms_more}
 use Rattle.hm_replay.proofs.rooms.take_rooms.Goals as goal
 
 pub loop-name-init : goal.loop-name-init
 loop-name-init c = record {
-  rooms = c.requires.rooms;
+  kept = keeps_itself _;
   same = refl;
   room = record { each = λ i n l. absurd (omega (arith, l)) };
-  others = λ q some. some;
 }
 
 pub loop-name-preserved : goal.loop-name-preserved
@@ -23,13 +22,12 @@ loop-name-preserved c =
     let taken : take i left ++ n ∷ [] ≡ take (i + 1) left =
     sym (take_more left i n c.loop-name-test.true ∙ ap (λ (m : NameLeft). take i left ++ m ∷ []) (sym c.name-item.is)) in
     record {
-      rooms = c.take_room.ensures.rooms;
+      kept = keeps_then _ _ _ old.kept c.take_room.ensures.kept;
       same = c.take_room.ensures.same ∙ old.same;
       room =
           subst (λ (l : List NameLeft). HaveRooms fs l) taken
-          (rooms_more c.loop-name.rooms.entries fs (take i left) n old.room c.take_room.ensures.others
+          (rooms_more c.loop-name.rooms.entries fs (take i left) n old.room c.take_room.ensures.kept
           c.in_ok-take_room.ensures.room);
-      others = λ q some. c.take_room.ensures.others q (old.others q some);
     }
 
 pub returns-clause-room : goal.returns-clause-room

@@ -15,7 +15,7 @@ loop-script-preserved g c =
     let b : k < length scripts = c.loop-script-test.true in
     let n : length c.loop-script.workers.items ≡ k = grind (arith, i.1.0) in (
       rw c.push_reserved.ensures.items
-          (started_more c.args.heap.now.locks c.args.round_number c.args.root.now c.loop-script.root c.split.new.root
+          (started_more c.args.setting.now.heap.now.locks c.args.round_number c.args.root.now c.loop-script.root c.split.new.root
           scripts (held c.args.env.now) c.loop-script.workers.items _ i.0 h.root
           (grind (arith, h.pass, c.thread.ensures.thread))
           (λ s. c.script-item.is ∙ (get_or_default scripts k d s b ∙ ap (λ m. slice_index_or scripts m s) (sym n)))

@@ -3,7 +3,7 @@ use mathlib.Core.Path.{transport}
 use Rattle.hm_trace.specs.Views.{StepView}
 use Rattle.hm_replay.specs.Gains.{Gains, terms_of, mine_of}
 use Rattle.hm_replay.specs.Names.{Names, touched_all}
-use Rattle.hm_replay.specs.Scripts.{Runs, RunsFront, IsRun}
+use Rattle.hm_replay.specs.Scripts.{RunsSteps, RunsFront, RunsAllSteps}
 use Rattle.hm_replay.proofs.Fronts.{on_err}
 use Rattle.hm_replay.proofs.Running.{gained_all}
 use Rattle.hm_replay.proofs.script.run_with.Goals as goal
@@ -14,8 +14,8 @@ returns-clause-ran g c =
     let q = c.run_steps.new.pass in
     let names : Names = g.E.Addresses.names c.args.env.now in
     let last : Names = g.E.Addresses.names c.run_steps.new.env in
-    transport (λ i. IsRun t names (c.steps.ensures.all i) (sym c.of.ensures i) last (mine_of q.turns))
-    (gained_all c.args.pass.now.turns q.turns (Runs t 1 names _ c.in_ok-items.items.items last) c.requires.fresh
+    transport (λ i. RunsAllSteps t names (c.steps.ensures.all i) (sym c.of.ensures i) last (mine_of q.turns))
+    (gained_all c.args.pass.now.turns q.turns (RunsSteps t 1 names _ c.in_ok-items.items.items last) c.requires.fresh
     c.in_ok-items.ensures.ran)
 
 pub returns-in_err-items-clause-stops : goal.returns-in_err-items-clause-stops

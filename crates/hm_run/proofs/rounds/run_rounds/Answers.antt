@@ -4,7 +4,7 @@ use Rattle.hm_model.specs.declared.entry.Entry.{Entry}
 use Rattle.hm_report.specs.declared.results.Results.{Results}
 use Rattle.hm_trace.specs.Views.{RoundView, ScriptView}
 use Rattle.hm_turn.specs.Known.{Known}
-use Rattle.hm_heap.specs.Calls.{large_place}
+use Rattle.hm_heap.specs.Calls.{large_index}
 use Rattle.hm_heap.specs.Passes.{PassView}
 use Rattle.hm_replay.specs.Names.{Names, no_names, held}
 use Rattle.hm_replay.specs.Replays.{HasReplayed}
@@ -23,7 +23,7 @@ loop-index-init g c =
     let heap = c.args.heap.now in
     let root : PassView = c.args.root.now in
     let new = c.replayed_rounds.ensures.first heap.config heap.locks root c.requires.of.same c.requires.founds (ap (λ (p : PassView). p.splits) c.requires.first) in
-    let place : ℕ = large_place heap.config in
+    let place : ℕ = large_index heap.config in
     let below : place < length root.turns = omega (arith, c.requires.place, c.requires.of.same) in
     let t : Known = some_of root.turns place below in
     let none : large_seen heap.config root ≡ [] = seen_before root place t below ∙ new.seen place t below in
@@ -57,7 +57,7 @@ after_round-requires-clause-front g c κs within =
     let q : PassView = c.run_round.new.root in
     let before = c.loop-index.invariant in
     let left = c.in_ok-results.ensures.root in
-    let more = sees_more (p.splits + 1) (length c.index-rounds-index.result.scripts) p.turns q.turns left.stays.as_many (left.seen before.ran.gathered) (large_place config) in
+    let more = sees_more (p.splits + 1) (length c.index-rounds-index.result.scripts) p.turns q.turns left.stays.as_many (left.seen before.ran.gathered) (large_index config) in
     tracks_front c.loop-index.watcher (large_seen config p) (large_seen config q) (more.more, more.is) before.tracks
 
 pub loop-index-preserved : goal.loop-index-preserved
@@ -94,7 +94,7 @@ loop-index-preserved g c =
       on = after.on ∙ before.on;
       tracks = after.tracks;
       watched = λ on.
-          let next = c.watched_rounds.ensures.more config p q done round.scripts c.loop-index.all.items (held c.loop-index.env) (large_place config) size_sum totals before.ran made.root (before.watched on) in
+          let next = c.watched_rounds.ensures.more config p q done round.scripts c.loop-index.all.items (held c.loop-index.env) (large_index config) size_sum totals before.ran made.root (before.watched on) in
           let here = subst (λ (es : List Entry). IsWatched size_sum 1 (done ++ round.scripts ∷ []) [] es (totals ++ size_sum es ∷ [])) (sym kept.1) next in
           subst (λ (ts : List (List ScriptView)). IsWatched size_sum 1 ts [] (large_seen config last) (totals_of c.after_round.new.self)) (sym taken)
           (subst (λ (ns : List ℕ). IsWatched size_sum 1 (done ++ round.scripts ∷ []) [] (large_seen config last) ns) (sym (after.totals (before.on ∙ on))) here);

@@ -5,46 +5,52 @@ use Rattle.hm_heap.specs.Calls.{moving_plan}
 use Rattle.hm_heap.proofs.Answering.{answers_at_once, too_large, moves, place_seen, home_seen}
 use Rattle.hm_heap.proofs.heap.Heap.realloc.Goals as goal
 
-pub returns-in_default-clause-answer : goal.returns-in_default-clause-answer
-returns-in_default-clause-answer g c =
+pub returns-in_default : goal.returns-in_default
+returns-in_default g c =
     let h = c.args.self.now in
     let p = c.args.pass.now in
     let a = c.args.addr in
     let kind = c.class_of-kind.result in
-    let at = place_seen kind c.self.view_is c.pass.view_is c.place_for.ensures.place in
+    let at = place_seen kind c.self.view_is c.pass.view_is c.index_for.ensures.place in
     record {
-      plan = Done TooLarge;
-      is = too_large h.config p.thread a c.args.asked kind c.class_of-kind.ensures (sym c.in_default.is ∙ at);
-      follows = answers_at_once p c.args.step TooLarge;
+      served = record {
+        plan = Done TooLarge;
+        is = too_large h.config p.thread a c.args.asked kind c.class_of-kind.ensures (sym c.in_default.is ∙ at);
+        carried = answers_at_once h p c.args.step TooLarge c.requires.of tt;
+      };
     }
 
-pub returns-in-None-clause-answer : goal.returns-in-None-clause-answer
-returns-in-None-clause-answer g c =
+pub returns-in-None : goal.returns-in-None
+returns-in-None g c =
     let h = c.args.self.now in
     let p = c.args.pass.now in
     let a = c.args.addr in
     let kind = c.class_of-kind.result in
-    let at = place_seen kind c.self.view_is c.pass.view_is c.place_for.ensures.place in
-    let home = home_seen a c.self.view_is c.home_place.ensures.place in
+    let at = place_seen kind c.self.view_is c.pass.view_is c.index_for.ensures.place in
+    let home = home_seen a c.self.view_is c.home_index.ensures.place in
     let some : (a == 0) ≡ false = grind (arith, c.if-addr-eq0.false) in
     record {
-      plan = Done Outside;
-      is = moves h.config p.thread a c.args.asked kind c.class_of-kind.ensures c.in-Some.place None (sym c.in-Some.is ∙ at) some (sym c.in-None.is ∙ home);
-      follows = answers_at_once p c.args.step Outside;
+      served = record {
+        plan = Done Outside;
+        is = moves h.config p.thread a c.args.asked kind c.class_of-kind.ensures c.in-Some.place None (sym c.in-Some.is ∙ at) some (sym c.in-None.is ∙ home);
+        carried = answers_at_once h p c.args.step Outside c.requires.of tt;
+      };
     }
 
-pub returns-in-Some-home_place-clause-answer : goal.returns-in-Some-home_place-clause-answer
-returns-in-Some-home_place-clause-answer g c =
+pub returns-in-Some-home_index : goal.returns-in-Some-home_index
+returns-in-Some-home_index g c =
     let h = c.args.self.now in
     let p = c.args.pass.now in
     let a = c.args.addr in
     let kind = c.class_of-kind.result in
-    let at = place_seen kind c.self.view_is c.pass.view_is c.place_for.ensures.place in
-    let home = home_seen a c.self.view_is c.home_place.ensures.place in
+    let at = place_seen kind c.self.view_is c.pass.view_is c.index_for.ensures.place in
+    let home = home_seen a c.self.view_is c.home_index.ensures.place in
     let some : (a == 0) ≡ false = grind (arith, c.if-addr-eq0.false) in
-    let there = Some c.in-Some-home_place.home in
+    let there = Some c.in-Some-home_index.home in
     record {
-      plan = moving_plan h.config c.in-Some.place a c.args.asked kind there;
-      is = moves h.config p.thread a c.args.asked kind c.class_of-kind.ensures c.in-Some.place there (sym c.in-Some.is ∙ at) some (sym c.in-Some-home_place.is ∙ home);
-      follows = c.resize.ensures.answer;
+      served = record {
+        plan = moving_plan h.config c.in-Some.place a c.args.asked kind there;
+        is = moves h.config p.thread a c.args.asked kind c.class_of-kind.ensures c.in-Some.place there (sym c.in-Some.is ∙ at) some (sym c.in-Some-home_index.is ∙ home);
+        carried = c.resize.ensures.carried;
+      };
     }

@@ -13,7 +13,7 @@ pub returns : goal.returns
 returns g c = record {
   run = record {
     script = refl;
-    run = record { same = c.run_with.ensures.goes_on.same; of = c.run_with.ensures.goes_on.of; grew = c.run_with.ensures.grew };
+    run = c.run_with.ensures.run;
     made =
         made_of c.run_with.result c.ok-results.result c.args.heap.now.config c.args.self.now.pass c.run_with.new.pass
         c.args.self.now.script.now (seen_in c.args.self.now.scope) (seen_in c.run_with.new.env)

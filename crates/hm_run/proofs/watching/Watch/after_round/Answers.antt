@@ -1,5 +1,5 @@
 use Rattle.std.proofs.Common.{ℕ, [], ◌∷◌, ◌++◌, length, length-append, ◌∙◌, ap, arith}
-use Rattle.hm_heap.specs.Calls.{large_place}
+use Rattle.hm_heap.specs.Calls.{large_index}
 use Rattle.hm_heap.specs.Passes.{PassView}
 use Rattle.hm_snapshot.specs.Known.{Published}
 use Rattle.hm_run.specs.Watches.{large_seen}
@@ -8,7 +8,7 @@ use Rattle.hm_run.proofs.watching.Watch.after_round.Goals as goal
 
 pub large_changes-requires-clause-from : goal.large_changes-requires-clause-from
 large_changes-requires-clause-from g c κs within t =
-    let place : ℕ = large_place c.args.heap.now.config in
+    let place : ℕ = large_index c.args.heap.now.config in
     let front = c.requires.front in
     let known = ap (λ es. length es) (seen_before c.args.root.now place t c.requires.place) in
     let all = ap (λ es. length es) front.begins.1 in
@@ -34,7 +34,7 @@ returns-clause-follows g c =
     let q : PassView = c.large_changes.new.pass in
     let front = c.requires.front in
     let changes = c.in_ok-changes.changes in
-    let more = looked_more p q (large_place config) c.args.self.now.upto changes front.front c.in_ok-changes.ensures.looked front.begins front.follows.upto in
+    let more = looked_more p q (large_index config) c.args.self.now.upto changes front.front c.in_ok-changes.ensures.looked front.begins front.follows.upto in
     all_ok c.count.result
     (λ writer own upto. follows_on c.args.self.now c.count.new.self front.front (large_seen config q) changes.list.items front.follows more.1 writer own (upto ∙ more.0))
     c.count.ensures.writer c.count.ensures.own c.count.ensures.upto
