@@ -11,6 +11,7 @@ ghost use Rattle.hm_class_book.specs.Book.{state_in, is_index, Marks};
 use crate::places::{slab_of, slab_start};
 use hm_sizes::Shape;
 use std::alloc::Global;
+use std::collections::VecDeque;
 
 /// A slab that is open.
 #[derive(Drop)]
@@ -25,8 +26,8 @@ pub struct Book {
     pub live: Vec<(u64, u64)>,
     pub held: Vec<u64>,
     pub condemned: Vec<u64>,
-    pub given: Vec<u64>,
-    pub frees: Vec<u64>,
+    pub given: VecDeque<u64>,
+    pub frees: VecDeque<u64>,
     pub opens: Vec<(u64, OpenSlab)>,
     pub parked: Vec<u64>,
     pub shut: Vec<u64>,
@@ -177,6 +178,17 @@ fn first_ones(numbers: &[u64], len: usize) -> &[u64]
     &numbers[..len.min(numbers.len())]
 }
 
+// Whether a number is among the first of a queue, as many as there are up to a length.
+fn is_among_first(numbers: &VecDeque<u64>, len: usize, number: u64) -> bool
+    ensures { result ≡ among number (take len numbers.now.items) }
+{
+    let (front, back) = numbers.as_slices();
+    let left = len.saturating_sub(front.len());
+    let first = is_among(first_ones(front, len), number);
+    let later = is_among(first_ones(back, left), number);
+    first | later
+}
+
 // How many of these are other numbers.
 pub(crate) fn count_without(numbers: &[u64], number: u64) -> usize
     ensures value { result ≡ length (without number numbers.now) }
@@ -200,8 +212,8 @@ impl Book {
             live: Vec::new(alloc),
             held: Vec::new(alloc),
             condemned: Vec::new(alloc),
-            given: Vec::new(alloc),
-            frees: Vec::new(alloc),
+            given: VecDeque::new(alloc),
+            frees: VecDeque::new(alloc),
             opens: Vec::new(alloc),
             parked: Vec::new(alloc),
             shut: Vec::new(alloc),
@@ -276,7 +288,7 @@ impl Book {
         ensures { IsTrue result ↔ Releases shape.now (state_in self.now) (Some slot) }
     {
         let held = is_among(&self.held, slot);
-        let late = is_among(first_ones(&self.frees, delay_of(shape)), slot);
+        let late = is_among_first(&self.frees, delay_of(shape), slot);
         let left = count_without(&self.held, slot) as u64;
         held && !late && left <= most_held(shape)
     }
