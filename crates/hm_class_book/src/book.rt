@@ -1,12 +1,12 @@
 //! What a class region's state is after some entries, as lists with their newest members first.
-ghost use Rattle.std.specs.Prelude.{◌≡◌, ◌==◌, ◌+◌, ◌-◌, ◌++◌, find, ◌<◌, ◌≤◌, ◌↔◌, ◌||◌, ℕ, IsTrue, IfSome, MatchOption, Some, length, take, get_or, not, false, true};
+ghost use Rattle.std.specs.Prelude.{◌≡◌, ◌==◌, ◌+◌, ◌-◌, ◌++◌, find, ◌*◌, ◌<◌, ◌≤◌, ◌↔◌, ◌||◌, ℕ, IsTrue, IfSome, Some, length, take, get_or, not, false, true};
 ghost use Rattle.std.specs.List.{list_any, list_all, range_with_len};
 ghost use Rattle.hm_model.specs.Maps.{among, without, keys};
-ghost use Rattle.hm_sizes.specs.Shapes.{IsShape, slab_at, place, delay, slab_of};
+ghost use Rattle.hm_sizes.specs.Shapes.{IsShape, place, delay, slab_of};
 ghost use Rattle.hm_class_rules.specs.State.{start, is_open, has_free, is_empty};
 ghost use Rattle.hm_class_rules.specs.Drawn.{first_free};
 ghost use Rattle.hm_class_rules.specs.Rules.{Releases};
-ghost use Rattle.hm_class_book.specs.Book.{state_in, is_index, Marks};
+ghost use Rattle.hm_class_book.specs.Book.{state_in, is_index, IsStart, Marks};
 
 use crate::places::{slab_of, slab_start};
 use hm_sizes::Shape;
@@ -38,28 +38,34 @@ pub struct Book {
 /// The most slots that a slab has.
 const MOST_SLOTS: usize = 256;
 
-// How far an address lies past the beginning of a slab.
-fn offset_in(shape: &Shape, slab: u64, addr: u64) -> Option<u64>
-    ensures { MatchOption result (addr < slab_at shape.now slab) (λ offset. addr ≡ slab_at shape.now slab + offset) }
-{
-    match slab_start(shape, slab) {
-        Some(start) => addr.checked_sub(start),
-        None => None,
-    }
-}
-
-// Which slot of this slab begins at an address.
-fn index_of(shape: &Shape, slab: u64, addr: u64) -> Option<usize>
+// Which slot begins at an address, where slot 0 begins at `start`. Most addresses lie in other slabs, and are not divided.
+fn index_from(shape: &Shape, start: u64, addr: u64) -> Option<usize>
     requires { IsShape shape.now }
     ensures within { IfSome result (λ i. i < shape.now.slots) }
-    ensures exact { (i : ℕ) → i < shape.now.slots → (addr == place shape.now slab i) ≡ is_index result i }
+    ensures exact { (i : ℕ) → i < shape.now.slots → (addr == start + i * shape.now.slot) ≡ is_index result i }
 {
-    let offset = offset_in(shape, slab, addr)?;
+    let offset = addr.checked_sub(start)?;
+    if shape.slab <= offset {
+        return None;
+    }
     let index = offset / shape.slot;
     if index < u64::from(shape.slots) && offset % shape.slot == 0 {
         Some(index as usize)
     } else {
         None
+    }
+}
+
+// Which slot of a slab begins at an address. `start` is where the slab begins.
+fn index_of(shape: &Shape, start: Option<u64>, addr: u64) -> Option<usize>
+    requires { IsShape shape.now }
+    ensures within { IfSome result (λ i. i < shape.now.slots) }
+    ensures exact { (slab i : ℕ) → IsStart shape.now slab start → i < shape.now.slots
+        → (addr == place shape.now slab i) ≡ is_index result i }
+{
+    match start {
+        Some(start) => index_from(shape, start, addr),
+        None => None,
     }
 }
 
@@ -80,8 +86,9 @@ fn mark(marks: &mut [bool], shape: &Shape, slab: u64, addrs: &[u64])
     ensures marked { (i : ℕ) → i < shape.now.slots
         → get_or marks.new i false ≡ (get_or marks.old i false || among (place shape.now slab i) addrs.now) }
 {
+    let start = slab_start(shape, slab);
     for addr in addrs {
-        if let Some(index) = index_of(shape, slab, *addr) {
+        if let Some(index) = index_of(shape, start, *addr) {
             marks[index] = true;
         }
     }
@@ -95,8 +102,9 @@ fn mark_live(marks: &mut [bool], shape: &Shape, slab: u64, live: &[(u64, u64)])
     ensures marked { (i : ℕ) → i < shape.now.slots
         → get_or marks.new i false ≡ (get_or marks.old i false || among (place shape.now slab i) (keys live.now)) }
 {
+    let start = slab_start(shape, slab);
     for (addr, _) in live {
-        if let Some(index) = index_of(shape, slab, *addr) {
+        if let Some(index) = index_of(shape, start, *addr) {
             marks[index] = true;
         }
     }
@@ -269,7 +277,7 @@ impl Book {
         }
         let marks = self.marks(shape, slab);
         match cyclic(&marks, from as usize, shape.slots as usize) {
-            Some(first) => is_index(index_of(shape, slab, addr), first),
+            Some(first) => is_index(index_of(shape, slab_start(shape, slab), addr), first),
             None => false,
         }
     }
