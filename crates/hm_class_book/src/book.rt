@@ -44,10 +44,10 @@ fn index_from(shape: &Shape, start: u64, addr: u64) -> Option<usize>
     ensures within { IfSome result (λ i. i < shape.now.slots) }
     ensures exact { (i : ℕ) → i < shape.now.slots → (addr == start + i * shape.now.slot) ≡ is_index result i }
 {
-    let offset = addr.checked_sub(start)?;
-    if shape.slab <= offset {
+    if shape.slab <= addr.wrapping_sub(start) {
         return None;
     }
+    let offset = addr.checked_sub(start)?;
     let index = offset / shape.slot;
     if index < u64::from(shape.slots) && offset % shape.slot == 0 {
         Some(index as usize)
