@@ -32,7 +32,7 @@ use Rattle.hm_large_book.proofs.Finding.{at_index, slice_pairs}
 pub none_byte : (q : ℕ) (live : List (ℕ × LiveBlock)) → list_any (reaches q) live ≡ false → byte_at (blocks_in live) q ≡ None
 none_byte q [] e = refl
 none_byte q (y ∷ live) e =
-    elim (reaches q y) as (λ t. (t || list_any (reaches q) live) ≡ false → cond t (slice_get y.1.bytes.items (q - y.0)) (byte_at (blocks_in live) q) ≡ None) [
+    elim (reaches q y) as (λ t. (t || list_any (reaches q) live) ≡ false → cond t (slice_get y.1.bytes (q - y.0)) (byte_at (blocks_in live) q) ≡ None) [
       | true ↦ λ h. absurd (true_false h)
       | false ↦ λ h. none_byte q live h
     ] e
@@ -51,10 +51,10 @@ module _ (c : Config) (s : State) (live : List (ℕ × LiveBlock)) (sound : IsSo
       let once : times e.0 (keys (blocks_in live)) ≤ 1 = subst (λ (m : Blocks). times e.0 (keys m) ≤ 1) (sym is) (live_once c s e.0 sound) in
       subst (λ (m : Blocks). at e.0 m ≡ Some (block_of e.1)) is (at_index (blocks_in live) i (block_in e) (slice_pairs block_of live i ∙ ap (option_map block_in) got) once)
 
-  whole : (i : ℕ) (e : ℕ × LiveBlock) → slice_get live i ≡ Some e → length e.1.bytes.items ≡ e.1.size
+  whole : (i : ℕ) (e : ℕ × LiveBlock) → slice_get live i ≡ Some e → length e.1.bytes ≡ e.1.size
   whole i e got = (placed_at c e.0 (block_of e.1) s.live sound.live (there i e got)).whole
 
-  pub left_some : (q i left : ℕ) (e : ℕ × LiveBlock) → slice_get live i ≡ Some e → e.0 ≤ q → 1 ≤ left → q + left ≡ e.0 + length e.1.bytes.items → IsLeft s.live q left
+  pub left_some : (q i left : ℕ) (e : ℕ × LiveBlock) → slice_get live i ≡ Some e → e.0 ≤ q → 1 ≤ left → q + left ≡ e.0 + length e.1.bytes → IsLeft s.live q left
   left_some q i left e got low some sum = left_is s.live q e.0 left (block_of e.1) (there i e got) low some (omega (arith, sum, whole i e got))
 
   pub left_none : (q : ℕ) → list_any (reaches q) live ≡ false → IsLeft s.live q 0
@@ -67,31 +67,31 @@ module _ (c : Config) (s : State) (live : List (ℕ × LiveBlock)) (sound : IsSo
     pub lies_none : first_trap s.live a len ≡ None
     lies_none =
         let e = lies.entry in
-        none_left c s a len (length e.1.bytes.items - p.offset) sound some
-        (left_some a p.block (length e.1.bytes.items - p.offset) e lies.there (omega (arith, lies.begins)) (omega (arith, lies.fits, some)) (omega (arith, lies.begins, lies.fits)))
+        none_left c s a len (length e.1.bytes - p.offset) sound some
+        (left_some a p.block (length e.1.bytes - p.offset) e lies.there (omega (arith, lies.begins)) (omega (arith, lies.fits, some)) (omega (arith, lies.begins, lies.fits)))
         (omega (arith, lies.fits))
 
-    pub lies_bytes : bytes_read s.live a len ≡ take len (drop p.offset lies.entry.1.bytes.items)
+    pub lies_bytes : bytes_read s.live a len ≡ take len (drop p.offset lies.entry.1.bytes)
     lies_bytes =
         let e = lies.entry in
         bytes_there c s.live e.0 a len (block_of e.1) sound.live (λ k. omega (arith, sound.once k)) (there p.block e lies.there) (omega (arith, lies.begins)) (omega (arith, lies.begins, lies.fits, whole p.block e lies.there))
-        ∙ ap (λ (n : ℕ). take len (drop n e.1.bytes.items)) {x = a - e.0} {y = p.offset} (omega (arith, lies.begins))
+        ∙ ap (λ (n : ℕ). take len (drop n e.1.bytes)) {x = a - e.0} {y = p.offset} (omega (arith, lies.begins))
 
 -- ---- a block that was found to reach an address
-pub reach_parts : (live : List (ℕ × LiveBlock)) (q i : ℕ) (e : ℕ × LiveBlock) → i < length live → e ≡ get_or live i e → IfSome (slice_get live i) (λ x. IsTrue (reaches q x)) → (e.0 ≤ q) × (q < e.0 + length e.1.bytes.items)
+pub reach_parts : (live : List (ℕ × LiveBlock)) (q i : ℕ) (e : ℕ × LiveBlock) → i < length live → e ≡ get_or live i e → IfSome (slice_get live i) (λ x. IsTrue (reaches q x)) → (e.0 ≤ q) × (q < e.0 + length e.1.bytes)
 reach_parts live q i e lt is has =
     let got : slice_get live i ≡ Some e = slice_get_read live (length live) i e refl lt is in
-    let parts = and_parts (nat_le e.0 q) (nat_lt q (e.0 + length e.1.bytes.items)) (subst (λ (o : Option (ℕ × LiveBlock)). IfSome o (λ x. IsTrue (reaches q x))) got has) in
-    (leb-true e.0 q parts.0, ltb-true q (e.0 + length e.1.bytes.items) parts.1)
+    let parts = and_parts (nat_le e.0 q) (nat_lt q (e.0 + length e.1.bytes)) (subst (λ (o : Option (ℕ × LiveBlock)). IfSome o (λ x. IsTrue (reaches q x))) got has) in
+    (leb-true e.0 q parts.0, ltb-true q (e.0 + length e.1.bytes) parts.1)
 
 module _ (c : Config) (s : State) (live : List (ℕ × LiveBlock)) (sound : IsSound c s) (is : blocks_in live ≡ s.live) where
-  pub left_holder : (q i left : ℕ) (e : ℕ × LiveBlock) → i < length live → e ≡ get_or live i e → IfSome (slice_get live i) (λ x. IsTrue (reaches q x)) → left ≡ length e.1.bytes.items - (q - e.0) → IsLeft s.live q left
+  pub left_holder : (q i left : ℕ) (e : ℕ × LiveBlock) → i < length live → e ≡ get_or live i e → IfSome (slice_get live i) (λ x. IsTrue (reaches q x)) → left ≡ length e.1.bytes - (q - e.0) → IsLeft s.live q left
   left_holder q i left e lt at_i has left_is =
       let parts = reach_parts live q i e lt at_i has in
       left_some c s live sound is q i left e (slice_get_read live (length live) i e refl lt at_i) parts.0 (omega (arith, parts.1, parts.0, left_is)) (omega (arith, parts.0, parts.1, left_is))
 
 pub lies_at : (live : List (ℕ × LiveBlock)) (q len i offset : ℕ) (e : ℕ × LiveBlock) → i < length live → e ≡ get_or live i e → IfSome (slice_get live i) (λ x. IsTrue (reaches q x)) → offset ≡ q - e.0
-    → len ≤ length e.1.bytes.items - offset → 1 ≤ len → LiesAt live q len (record { block = i; offset = offset })
+    → len ≤ length e.1.bytes - offset → 1 ≤ len → LiesAt live q len (record { block = i; offset = offset })
 lies_at live q len i offset e lt at_i has offset_is fits some =
     let parts = reach_parts live q i e lt at_i has in
     record { entry = e; there = slice_get_read live (length live) i e refl lt at_i; begins = omega (arith, parts.0, offset_is); fits = omega (arith, fits, some) }
@@ -158,11 +158,11 @@ pub written_one : (c : Config) (s : State) (live : List (ℕ × LiveBlock)) (a :
 written_one c s live a w p lies e new some sound is there_e made =
     let same : lies.entry ≡ e = same_Some lies.entry e (sym lies.there ∙ there_e) in
     let begins : e.0 + p.offset ≡ a = subst (λ (z : ℕ × LiveBlock). z.0 + p.offset ≡ a) same lies.begins in
-    let fits : p.offset + length w ≤ length e.1.bytes.items = subst (λ (z : ℕ × LiveBlock). p.offset + length w ≤ length z.1.bytes.items) same lies.fits in
+    let fits : p.offset + length w ≤ length e.1.bytes = subst (λ (z : ℕ × LiveBlock). p.offset + length w ≤ length z.1.bytes) same lies.fits in
     let placed : AreInSpace c (blocks_in live) = subst (AreInSpace c) (sym is) sound.live in
     let once : (q : ℕ) → covered q (blocks_in live) ≤ 1 = λ q. subst (λ (m : Blocks). covered q m ≤ 1) (sym is) (omega (arith, sound.once q)) in
     let got : slice_get (blocks_in live) p.block ≡ Some (block_in e) = slice_pairs block_of live p.block ∙ ap (option_map block_in) there_e in
-    let over : written e.1.bytes.items p.offset w ≡ overlaid a w e.0 e.1.bytes.items = sym (overlaid_written p.offset e.0 w e.1.bytes.items (omega (arith, fits))) ∙ ap (λ (n : ℕ). overlaid n w e.0 e.1.bytes.items) begins in
+    let over : written e.1.bytes p.offset w ≡ overlaid a w e.0 e.1.bytes = sym (overlaid_written p.offset e.0 w e.1.bytes (omega (arith, fits))) ∙ ap (λ (n : ℕ). overlaid n w e.0 e.1.bytes) begins in
     map-set block_in live p.block new
     ∙ ap (set (blocks_in live) p.block) made
     ∙ ap (λ (l : List ℕ). set (blocks_in live) p.block (e.0, record (block_of e.1) { bytes = l })) over
@@ -171,16 +171,16 @@ written_one c s live a w p lies e new some sound is there_e made =
 
 -- what a part of the block's bytes says of the range
 pub range_is : (c : Config) (s : State) (live : List (ℕ × LiveBlock)) (a len : ℕ) (p : Place) (lies : LiesAt live a len p) (e : ℕ × LiveBlock) (bytes : List ℕ) (runs : List ℕ) (r : Bool) → 1 ≤ len → IsSound c s → blocks_in live ≡ s.live
-    → slice_get live p.block ≡ Some e → bytes ≡ e.1.bytes.items → IsTrue r ↔ ((length runs ≡ len) × (runs ≡ take len (drop p.offset bytes)))
+    → slice_get live p.block ≡ Some e → bytes ≡ e.1.bytes → IsTrue r ↔ ((length runs ≡ len) × (runs ≡ take len (drop p.offset bytes)))
     → IsTrue r ↔ ((length runs ≡ len) × (first_trap s.live a len ≡ None) × (runs ≡ bytes_read s.live a len))
 range_is c s live a len p lies e bytes runs r some sound is there_e same exact =
-    let own : bytes ≡ lies.entry.1.bytes.items = same ∙ ap (λ (z : ℕ × LiveBlock). z.1.bytes.items) (same_Some e lies.entry (sym there_e ∙ lies.there)) in
+    let own : bytes ≡ lies.entry.1.bytes = same ∙ ap (λ (z : ℕ × LiveBlock). z.1.bytes) (same_Some e lies.entry (sym there_e ∙ lies.there)) in
     let read : bytes_read s.live a len ≡ take len (drop p.offset bytes) = lies_bytes c s live sound is a len p lies some ∙ ap (λ l. take len (drop p.offset l)) (sym own) in
     ((λ t. (let x = exact.0 t in (x.0, lies_none c s live sound is a len p lies some, x.1 ∙ sym read))), (λ h. exact.1 (h.0, h.2 ∙ read)))
 
-pub fits_at : (live : List (ℕ × LiveBlock)) (a len : ℕ) (p : Place) (e : ℕ × LiveBlock) → LiesAt live a len p → slice_get live p.block ≡ Some e → (p.offset + len ≤ length e.1.bytes.items) × (p.offset ≤ a)
+pub fits_at : (live : List (ℕ × LiveBlock)) (a len : ℕ) (p : Place) (e : ℕ × LiveBlock) → LiesAt live a len p → slice_get live p.block ≡ Some e → (p.offset + len ≤ length e.1.bytes) × (p.offset ≤ a)
 fits_at live a len p e lies is =
-    (subst (λ (z : ℕ × LiveBlock). p.offset + len ≤ length z.1.bytes.items) (same_Some lies.entry e (sym lies.there ∙ is)) lies.fits, omega (arith, lies.begins))
+    (subst (λ (z : ℕ × LiveBlock). p.offset + len ≤ length z.1.bytes) (same_Some lies.entry e (sym lies.there ∙ is)) lies.fits, omega (arith, lies.begins))
 
 pub read_at : (live : List (ℕ × LiveBlock)) (i : ℕ) (e : ℕ × LiveBlock) → i < length live → e ≡ get_or live i e → slice_get live i ≡ Some e
 read_at live i e lt is = slice_get_read live (length live) i e refl lt is

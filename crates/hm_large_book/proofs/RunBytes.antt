@@ -1,10 +1,27 @@
 -- Bytes beside the runs that stand for them, run by run.
 use Rattle.std.proofs.Common.{◌≡◌, ℕ, ◌+◌, ◌-◌, ◌<◌, ◌≤◌, List, [], ◌∷◌, ◌++◌, length, take, drop, replicate, get_or, refl, sym, ◌∙◌, ap, arith, append_assoc, length-append, length-take, length-drop}
-use Rattle.std.proofs.lemmas.List.{take-append-drop, length-replicate, take_more, replicate_more, get_or-replicate}
+use Rattle.std.proofs.lemmas.List.{take_at, take-append-drop, drop-drop, drop-take, length-replicate, take-replicate, drop-replicate, replicate-append-replicate, take_more, replicate_more, get_or-replicate}
+use Rattle.std.proofs.lemmas.Slice.{drop-append-drop}
 use Rattle.std.proofs.Math.Seq.{take-add, drop-append_seam, take-append_seam}
+use Rattle.hm_base.specs.Lists.{written}
 use Rattle.hm_model.specs.Runs.{expand}
 use Rattle.hm_model.proofs.RunsOf.{length_expand}
 use Rattle.hm_large.proofs.Parts.{expand_front, total_within}
+
+-- ---- bytes that are written over
+written_length : (b : List ℕ) (i : ℕ) (w : List ℕ) → i + length w ≤ length b → length (written b i w) ≡ length b
+written_length b i w fits =
+    omega (arith, fits, length-append (take i b ++ w) (drop (i + length w) b), length-append (take i b) w, length-take i b, length-drop (i + length w) b)
+
+two_written : (b : List ℕ) (i : ℕ) (w v : List ℕ) → i + (length w + length v) ≤ length b → written (written b i w) (i + length w) v ≡ written b i (w ++ v)
+two_written b i w v fits =
+    let front = take i b ++ w in
+    let rest = drop (i + length w) b in
+    let long : length front ≡ i + length w = omega (arith, fits, length-append (take i b) w, length-take i b) in
+    let past : i + length w + length v ≡ i + length (w ++ v) = omega (arith, length-append w v) in
+    ap (λ (l : List ℕ). l ++ v ++ drop (i + length w + length v) (front ++ rest)) (take_at front rest (i + length w) long)
+    ∙ ap (λ (l : List ℕ). front ++ v ++ l) (drop-append-drop (i + length w) b front (i + length w + length v) (omega arith) long ∙ ap (λ (n : ℕ). drop n b) past)
+    ∙ ap (λ (l : List ℕ). l ++ drop (i + length (w ++ v)) b) (append_assoc (take i b) w v)
 
 expand_both : (runs more : List (ℕ × ℕ)) {all : List (ℕ × ℕ)} → runs ++ more ≡ all → expand all ≡ expand runs ++ expand more
 expand_both runs more e = ap expand (sym e) ∙ joined runs more
@@ -38,20 +55,75 @@ module _ (pairs : List (ℕ × ℕ)) (i byte n : ℕ) (lt : i < length pairs) (i
       ∙ ap (λ (k : ℕ). take k (replicate n byte ++ rest)) (sym (length-replicate {A = ℕ} n byte))
       ∙ take-append_seam (replicate n byte) rest
 
+  -- ---- from a place on
+  pub run_alike : (b : List ℕ) (from at : ℕ) → at ≡ from + length (expand (take i pairs)) → take (length (expand (take i pairs))) (drop from b) ≡ expand (take i pairs) → take n (drop at b) ≡ replicate n byte
+      → take (length (expand (take (i + 1) pairs))) (drop from b) ≡ expand (take (i + 1) pairs)
+  run_alike b from at at_is so_far part =
+      let count = length (expand (take i pairs)) in
+      ap (λ (k : ℕ). take k (drop from b)) next_length
+      ∙ next_alike count (drop from b) so_far (ap (take n) (drop-drop count from b ∙ ap (λ (k : ℕ). drop k b) (sym at_is)) ∙ part)
+
+  pub run_there : (b : List ℕ) (from at : ℕ) → at ≡ from + length (expand (take i pairs)) → from + length (expand pairs) ≤ length b → expand pairs ≡ take (length (expand pairs)) (drop from b)
+      → take n (drop at b) ≡ replicate n byte
+  run_there b from at at_is fits all =
+      let count = length (expand (take i pairs)) in
+      let rest = length (expand pairs) - (count + n) in
+      let total : length (expand pairs) ≡ count + (n + rest) = omega (arith, next_within) in
+      let long : length (take n (drop at b)) ≡ n = omega (arith, next_within, at_is, fits, length-take n (drop at b), length-drop at b) in
+      sym (take_at (take n (drop at b)) (take rest (drop n (drop at b))) n long)
+      ∙ ap (take n) (sym (take-add n rest (drop at b)))
+      ∙ ap (λ (k : ℕ). take n (take (n + rest) (drop k b))) at_is
+      ∙ ap (λ (l : List ℕ). take n (take (n + rest) l)) (sym (drop-drop count from b))
+      ∙ ap (take n) (sym (drop-take count (n + rest) (drop from b)))
+      ∙ ap (λ (k : ℕ). take n (drop count (take k (drop from b)))) (sym total)
+      ∙ part_alike count (take (length (expand pairs)) (drop from b)) refl all
+
+  -- ---- written from a place on
+  pub runs_on : (b : List ℕ) (from at : ℕ) (now new : List ℕ) → at ≡ from + length (expand (take i pairs)) → from + length (expand pairs) ≤ length b → now ≡ written b from (expand (take i pairs))
+      → new ≡ written now at (replicate n byte) → new ≡ written b from (expand (take (i + 1) pairs))
+  runs_on b from at now new at_is fits so_far is =
+      let w = expand (take i pairs) in
+      is ∙ ap (λ (l : List ℕ). written l at (replicate n byte)) so_far
+      ∙ ap (λ (k : ℕ). written (written b from w) k (replicate n byte)) at_is
+      ∙ two_written b from w (replicate n byte) (omega (arith, fits, next_within, length-replicate {A = ℕ} n byte))
+      ∙ ap (written b from) (sym front)
+
+  pub runs_fit : (b : List ℕ) (from at : ℕ) (now : List ℕ) → at ≡ from + length (expand (take i pairs)) → from + length (expand pairs) ≤ length b → now ≡ written b from (expand (take i pairs))
+      → at + n ≤ length now
+  runs_fit b from at now at_is fits so_far =
+      omega (arith, at_is, fits, next_within, ap (λ (l : List ℕ). length l) so_far, written_length b from (expand (take i pairs)) (omega (arith, fits, next_within)))
+
+-- ---- one byte over a range, piece by piece
+pub piece_on : (b : List ℕ) (from done byte : ℕ) (piece : List ℕ) → piece ≡ take (length piece) (drop (from + done) b) → take done (drop from b) ≡ replicate done byte → piece ≡ replicate (length piece) byte
+    → take (done + length piece) (drop from b) ≡ replicate (done + length piece) byte
+piece_on b from done byte piece is so_far all =
+    take-add done (length piece) (drop from b)
+    ∙ ap (λ (l : List ℕ). l ++ take (length piece) (drop done (drop from b))) so_far
+    ∙ ap (λ (l : List ℕ). replicate done byte ++ l) (ap (take (length piece)) (drop-drop done from b) ∙ sym is ∙ all)
+    ∙ replicate-append-replicate done (length piece) byte
+
+pub piece_there : (b : List ℕ) (from len done byte : ℕ) (piece : List ℕ) → piece ≡ take (length piece) (drop (from + done) b) → done ≤ len → length piece ≤ len - done → take len (drop from b) ≡ replicate len byte
+    → piece ≡ replicate (length piece) byte
+piece_there b from len done byte piece is within fits all =
+    let k = length piece in
+    let rest = len - (done + k) in
+    let total : len ≡ done + (k + rest) = omega (arith, within, fits) in
+    let part : take k (take (k + rest) (drop (from + done) b)) ≡ replicate k byte =
+    ap (λ (l : List ℕ). take k (take (k + rest) l)) (sym (drop-drop done from b))
+    ∙ ap (take k) (sym (drop-take done (k + rest) (drop from b)))
+    ∙ ap (λ (m : ℕ). take k (drop done (take m (drop from b)))) (sym total)
+    ∙ ap (λ (l : List ℕ). take k (drop done l)) all
+    ∙ ap (take k) (drop-replicate done len byte)
+    ∙ take-replicate k (len - done) byte fits in
+    let front : take k (take (k + rest) (drop (from + done) b)) ≡ piece =
+    ap (take k) (take-add k rest (drop (from + done) b))
+    ∙ ap (λ (l : List ℕ). take k (l ++ take rest (drop k (drop (from + done) b)))) (sym is)
+    ∙ take_at piece (take rest (drop k (drop (from + done) b))) k refl in
+    sym front ∙ part
+
 -- ---- equal bytes, byte by byte
 pub all_next : (bytes : List ℕ) (i byte d : ℕ) → i < length bytes → take i bytes ≡ replicate i byte → get_or bytes i d ≡ byte → take (i + 1) bytes ≡ replicate (i + 1) byte
 all_next bytes i byte d lt so_far is = take_more bytes i d lt ∙ (λ j. so_far j ++ is j ∷ []) ∙ replicate_more i byte
 
 pub not_all : (bytes : List ℕ) (i byte d : ℕ) → i < length bytes → (get_or bytes i d ≡ byte → ⊥) → bytes ≡ replicate (length bytes) byte → ⊥
 not_all bytes i byte d lt other all = other (ap (λ (l : List ℕ). get_or l i d) all ∙ get_or-replicate (length bytes) i byte d lt)
-
--- ---- a part of the bytes
-pub slice_alike : (part : List ℕ) (n byte : ℕ) → part ≡ replicate n byte → part ≡ replicate (length part) byte
-slice_alike part n byte e = e ∙ ap (λ (k : ℕ). replicate k byte) (sym (ap (λ (l : List ℕ). length l) e ∙ length-replicate n byte))
-
-pub part_from : (bytes : List ℕ) (at n byte : ℕ) (part : List ℕ) → part ≡ take n (drop at bytes) → at + n ≤ length bytes → part ≡ replicate (length part) byte → take n (drop at bytes) ≡ replicate n byte
-part_from bytes at n byte part is fits all =
-    sym is ∙ all ∙ ap (λ (k : ℕ). replicate k byte) (ap (λ (l : List ℕ). length l) is ∙ (omega (arith, length-take n (drop at bytes), length-drop at bytes, fits)))
-
-pub part_end : (bytes : List ℕ) (at n : ℕ) → take (at + n - at) (drop at bytes) ≡ take n (drop at bytes)
-part_end bytes at n = ap (λ (k : ℕ). take k (drop at bytes)) {x = at + n - at} {y = n} (omega arith)

@@ -19,7 +19,7 @@ use Rattle.hm_large_book.specs.Places.{IsSpaceOf}
 
 -- ---- blocks
 abbrev pub block_of : LiveBlock → Block
-block_of b = record { asked = b.asked; size = b.size; guard = b.guard; failed = b.failed; bytes = b.bytes.items }
+block_of b = record { asked = b.asked; size = b.size; guard = b.guard; failed = b.failed; bytes = b.bytes }
 
 abbrev pub block_in : ℕ × LiveBlock → ℕ × Block
 block_in e = (e.0, block_of e.1)
@@ -29,7 +29,7 @@ blocks_in live = map block_in live
 
 -- one of its bytes has the address
 abbrev pub reaches : ℕ → ℕ × LiveBlock → Bool
-reaches q e = nat_le e.0 q && nat_lt q (e.0 + length e.1.bytes.items)
+reaches q e = nat_le e.0 q && nat_lt q (e.0 + length e.1.bytes)
 
 abbrev pub extent_of : Block → Extent
 extent_of b = record { size = b.size; guard = b.guard }

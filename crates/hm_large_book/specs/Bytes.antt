@@ -10,7 +10,7 @@ pub record LiesAt (live : List (ℕ × LiveBlock)) (a len : ℕ) (place : Place)
   pub entry : ℕ × LiveBlock
   pub there : slice_get live place.block ≡ Some entry
   pub begins : entry.0 + place.offset ≡ a
-  pub fits : place.offset + len ≤ length entry.1.bytes.items
+  pub fits : place.offset + len ≤ length entry.1.bytes
 
 -- a block with w written so far into it
 abbrev pub over_block : ℕ → List ℕ → ℕ × Block → ℕ × Block

@@ -6,6 +6,7 @@ ghost use Rattle.hm_large.specs.Blocks.{Block};
 ghost use Rattle.hm_large.specs.Rules.{wrong_size};
 ghost use Rattle.hm_large_book.specs.Book.{blocks_in, extent_of, reaches, Accepts, IsAccepted};
 
+use hm_frames::PageRun;
 use hm_sizes::block_size;
 use hm_space::Space;
 
@@ -16,7 +17,7 @@ pub struct LiveBlock {
     pub size: u64,
     pub guard: u64,
     pub failed: bool,
-    pub bytes: Vec<u8>,
+    pub bytes: PageRun,
 }
 
 /// How far a block reaches: its size, and the pages of its guard on each side.

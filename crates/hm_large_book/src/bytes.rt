@@ -1,7 +1,8 @@
 //! The bytes of live blocks: where a range of addresses lies, whether its bytes are those of some runs, and writing runs
-//! over it. Runs are never expanded.
+//! over it. Runs are never expanded, and only a byte that is not zero touches a page.
 ghost use Rattle.std.specs.Prelude.{◌≡◌, ◌↔◌, ◌+◌, ◌<◌, ◌≤◌, ◌^◌, ℕ, IsTrue, IfSome, IfNone, None, Some, length, replicate, take, drop};
 ghost use Rattle.std.specs.Bool.{MatchBool};
+ghost use Rattle.hm_base.specs.Lists.{written};
 ghost use Rattle.hm_model.specs.Runs.{expand};
 ghost use Rattle.hm_sizes.specs.declared.config.Config.{Config};
 ghost use Rattle.hm_large.specs.Blocks.{first_trap, bytes_read, written_over};
@@ -13,6 +14,7 @@ ghost use Rattle.hm_large_book.specs.Book.{block_in, blocks_in};
 ghost use Rattle.hm_large_book.specs.Bytes.{LiesAt, over_block};
 
 use crate::blocks::{LiveBlock, holder};
+use hm_frames::PageRun;
 use hm_model::Runs;
 
 // How many bytes a live block has from an address on: 0 where the address is in none.
@@ -98,16 +100,35 @@ fn are_all(bytes: &[u8], byte: u8) -> bool
     true
 }
 
-// Whether these are the bytes of runs, of which there are as many.
-fn are_bytes(bytes: &[u8], pairs: &[(u8, u64)]) -> bool
-    requires same { length (expand pairs.now) ≡ length bytes.now }
-    requires few { length bytes.now ≤ 2 ^ 30 }
-    ensures { IsTrue result ↔ (expand pairs.now ≡ bytes.now) }
+// Whether so many bytes from a place on are all this one.
+fn is_run(bytes: &PageRun, from: usize, len: usize, byte: u8) -> bool
+    requires within { from + len ≤ length bytes.now }
+    requires most { len ≤ 2 ^ 30 }
+    requires low { from < 2 ^ 63 }
+    ensures { IsTrue result ↔ (take len (drop from bytes.now) ≡ replicate len byte) }
 {
-    let mut at = 0;
+    let mut done = 0;
+    while done < len {
+        let piece = bytes.front(from + done, len - done);
+        if !are_all(piece, byte) {
+            return false;
+        }
+        done += piece.len();
+    }
+    true
+}
+
+// Whether the bytes from a place on are those of runs.
+fn are_bytes(bytes: &PageRun, from: usize, pairs: &[(u8, u64)]) -> bool
+    requires within { from + length (expand pairs.now) ≤ length bytes.now }
+    requires most { length (expand pairs.now) ≤ 2 ^ 30 }
+    requires low { from < 2 ^ 62 }
+    ensures { IsTrue result ↔ (expand pairs.now ≡ take (length (expand pairs.now)) (drop from bytes.now)) }
+{
+    let mut at = from;
     for (byte, len) in pairs {
         let end = at + *len as usize;
-        if !are_all(&bytes[at..end], *byte) {
+        if !is_run(bytes, at, *len as usize, *byte) {
             return false;
         }
         at = end;
@@ -122,22 +143,35 @@ fn fill_with_byte(bytes: &mut [u8], byte: u8)
     bytes.fill(byte);
 }
 
-// Writes the bytes of runs over all of these, of which there are as many.
-fn write_runs(bytes: &mut [u8], pairs: &[(u8, u64)])
-    requires same { length (expand pairs.now) ≡ length bytes.old }
-    requires few { length bytes.old ≤ 2 ^ 30 }
-    ensures { bytes.new ≡ expand pairs.now }
+// Writes one byte over so many from a place on. Zeros touch no page.
+fn write_run(bytes: &mut PageRun, from: usize, len: usize, byte: u8)
+    requires { from + len ≤ length bytes.old }
+    ensures { bytes.new ≡ written bytes.old from (replicate len byte) }
 {
-    let mut at = 0;
+    if byte == 0 {
+        bytes.zero(from, len);
+    } else {
+        fill_with_byte(bytes.part_mut(from, len), byte);
+    }
+}
+
+// Writes the bytes of runs from a place on.
+fn write_runs(bytes: &mut PageRun, from: usize, pairs: &[(u8, u64)])
+    requires within { from + length (expand pairs.now) ≤ length bytes.old }
+    requires most { length (expand pairs.now) ≤ 2 ^ 30 }
+    requires low { from < 2 ^ 62 }
+    ensures { bytes.new ≡ written bytes.old from (expand pairs.now) }
+{
+    let mut at = from;
     for (byte, len) in pairs {
         let end = at + *len as usize;
-        fill_with_byte(&mut bytes[at..end], *byte);
+        write_run(bytes, at, *len as usize, *byte);
         at = end;
     }
 }
 
 // Whether so many bytes from an offset on are those of runs.
-fn part_is(bytes: &[u8], offset: usize, len: usize, runs: &Runs) -> bool
+fn part_is(bytes: &PageRun, offset: usize, len: usize, runs: &Runs) -> bool
     requires fits { offset + len ≤ length bytes.now }
     requires most { len ≤ 2 ^ 30 }
     requires low { offset < 2 ^ 62 }
@@ -146,7 +180,7 @@ fn part_is(bytes: &[u8], offset: usize, len: usize, runs: &Runs) -> bool
     if runs.len() != len as u64 {
         return false;
     }
-    are_bytes(&bytes[offset..offset + len], runs.pairs())
+    are_bytes(bytes, offset, runs.pairs())
 }
 
 /// Whether the bytes of a range are those of runs.
@@ -166,13 +200,12 @@ pub(crate) fn has_bytes(live: &[(u64, LiveBlock)], addr: u64, len: u64, runs: &R
 
 // Writes the bytes of runs into a block.
 fn write_block(entry: &mut (u64, LiveBlock), offset: usize, runs: &Runs)
-    requires fits { offset + length (expand runs.now) ≤ length entry.old.1.bytes.items }
+    requires fits { offset + length (expand runs.now) ≤ length entry.old.1.bytes }
     requires most { length (expand runs.now) ≤ 2 ^ 30 }
     requires low { offset < 2 ^ 62 }
     ensures { block_in entry.new ≡ over_block offset (expand runs.now) (block_in entry.old) }
 {
-    let end = offset + runs.len() as usize;
-    write_runs(&mut entry.1.bytes[offset..end], runs.pairs());
+    write_runs(&mut entry.1.bytes, offset, runs.pairs());
 }
 
 // Writes the bytes of runs from an address on, if all the addresses are accessible. Answers whether they are.

@@ -1,5 +1,5 @@
 //! What an entry changes of the blocks.
-ghost use Rattle.std.specs.Prelude.{◌≡◌, ◌∷◌, ◌+◌, ◌*◌, ◌≤◌, ◌^◌, ◌↔◌, ℕ, IsTrue, true, IfOk, OnOk, Some, length, take};
+ghost use Rattle.std.specs.Prelude.{◌≡◌, ◌∷◌, ◌+◌, ◌*◌, ◌%◌, ◌≤◌, ◌^◌, ◌↔◌, ℕ, IsTrue, true, IfOk, OnOk, Some, length, take};
 ghost use Rattle.std.specs.Bool.{MatchBool};
 ghost use Rattle.hm_base.specs.Lists.{zeros};
 ghost use Rattle.hm_model.specs.Maps.{at, removed};
@@ -14,6 +14,7 @@ ghost use Rattle.hm_large_book.specs.Changes.{HasPlace, IsLive, IsShown};
 
 use crate::blocks::{BlockBook, Extent, LiveBlock, held_at};
 use hm_base::NoMemory;
+use hm_frames::PageRun;
 use hm_sizes::{Config, LARGE_START, PAGE, large_size, raised};
 use hm_space::Space;
 use std::alloc::Global;
@@ -30,16 +31,19 @@ pub(crate) fn size_of_block(asked: u64) -> u64
     ensures value { result ≡ size_for asked }
     ensures some { 1 ≤ result }
     ensures most { result ≤ 2 ^ 30 }
+    ensures pages { result % 4096 ≡ 0 }
 {
     large_size(raised(asked))
 }
 
-// So many zeros.
-fn zero_bytes(alloc: Global, len: usize) -> Result<Vec<u8>, NoMemory>
-    ensures { IfOk result (λ bytes. bytes.items ≡ zeros len) }
+// So many zeros, in whole pages.
+fn zero_bytes(alloc: Global, size: u64) -> Result<PageRun, NoMemory>
+    requires some { 1 ≤ size }
+    requires most { size ≤ 2 ^ 30 }
+    requires pages { size % 4096 ≡ 0 }
+    ensures { IfOk result (λ bytes. bytes ≡ zeros size) }
 {
-    let bytes = vec![in alloc; 0u8; len]?;
-    Ok(bytes)
+    PageRun::zeroed(alloc, (size / PAGE) as u32)
 }
 
 // How many addresses a block has with its guards.
@@ -142,7 +146,7 @@ impl BlockBook {
     {
         let size = size_of_block(asked);
         self.space.reserve_two()?;
-        let bytes = zero_bytes(alloc, size as usize)?;
+        let bytes = zero_bytes(alloc, size)?;
         let block = LiveBlock {
             asked,
             size,

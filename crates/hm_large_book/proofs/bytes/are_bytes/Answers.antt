@@ -1,25 +1,34 @@
-use Rattle.std.proofs.Common.{◌+◌, ◌≤◌, length, get_or, true≢false, refl, sym, ◌∙◌, arith}
-use Rattle.hm_large_book.proofs.RunBytes.{next_length, next_within, next_alike, part_alike, slice_alike, part_from, part_end}
+use Rattle.std.proofs.Common.{ℕ, get_or, true≢false, refl, sym, ◌∙◌, arith}
+use Rattle.hm_large_book.proofs.RunBytes.{next_length, next_within, run_alike, run_there}
 use Rattle.hm_large_book.proofs.bytes.are_bytes.Goals as goal
 
 pub overflow_add-end : goal.overflow_add-end
-overflow_add-end c = omega (arith, next_within c.args.pairs.now c.loop-byte.byte-index (get_or c.args.pairs.now c.loop-byte.byte-index (0, 0)).0 (get_or c.args.pairs.now c.loop-byte.byte-index (0, 0)).1 c.loop-byte-test.true refl, c.requires.same, c.requires.few, c.loop-byte.invariant.at_is)
+overflow_add-end c = (let run : ℕ × ℕ = get_or c.args.pairs.now c.loop-byte.byte-index (0, 0) in
+    omega (arith, next_within c.args.pairs.now c.loop-byte.byte-index run.0 run.1 c.loop-byte-test.true refl, c.requires.most, c.requires.low, c.loop-byte.invariant.at_is))
 
-pub slice_bounds-are_all-end : goal.slice_bounds-are_all-end
-slice_bounds-are_all-end c = (let h : c.loop-byte.at + (get_or c.args.pairs.now c.loop-byte.byte-index (0, 0)).1 ≤ length c.args.bytes.now = omega (arith, next_within c.args.pairs.now c.loop-byte.byte-index (get_or c.args.pairs.now c.loop-byte.byte-index (0, 0)).0 (get_or c.args.pairs.now c.loop-byte.byte-index (0, 0)).1 c.loop-byte-test.true refl, c.requires.same, c.loop-byte.invariant.at_is) in h)
+pub is_run-requires-clause-within : goal.is_run-requires-clause-within
+is_run-requires-clause-within c = (let run : ℕ × ℕ = get_or c.args.pairs.now c.loop-byte.byte-index (0, 0) in
+    omega (arith, next_within c.args.pairs.now c.loop-byte.byte-index run.0 run.1 c.loop-byte-test.true refl, c.requires.within, c.loop-byte.invariant.at_is))
 
-pub returns-then-not-are_all : goal.returns-then-not-are_all
-returns-then-not-are_all c = (
+pub is_run-requires-clause-most : goal.is_run-requires-clause-most
+is_run-requires-clause-most c = (let run : ℕ × ℕ = get_or c.args.pairs.now c.loop-byte.byte-index (0, 0) in
+    omega (arith, next_within c.args.pairs.now c.loop-byte.byte-index run.0 run.1 c.loop-byte-test.true refl, c.requires.most))
+
+pub is_run-requires-clause-low : goal.is_run-requires-clause-low
+is_run-requires-clause-low c = (let run : ℕ × ℕ = get_or c.args.pairs.now c.loop-byte.byte-index (0, 0) in
+    omega (arith, next_within c.args.pairs.now c.loop-byte.byte-index run.0 run.1 c.loop-byte-test.true refl, c.requires.most, c.requires.low, c.loop-byte.invariant.at_is))
+
+pub returns-then-not-is_run : goal.returns-then-not-is_run
+returns-then-not-is_run c = (
   (λ t. absurd (true≢false (sym t))),
-  (λ all. absurd (true≢false (sym (c.are_all.ensures.1 (slice_alike _ (get_or c.args.pairs.now c.loop-byte.byte-index (0, 0)).1 (get_or c.args.pairs.now c.loop-byte.byte-index (0, 0)).0
-      (part_end c.args.bytes.now c.loop-byte.at (get_or c.args.pairs.now c.loop-byte.byte-index (0, 0)).1 ∙ part_alike c.args.pairs.now c.loop-byte.byte-index (get_or c.args.pairs.now c.loop-byte.byte-index (0, 0)).0 (get_or c.args.pairs.now c.loop-byte.byte-index (0, 0)).1 c.loop-byte-test.true refl c.loop-byte.at c.args.bytes.now c.loop-byte.invariant.at_is all))) ∙ c.if-not-are_all.true))),
+  (λ all. let run : ℕ × ℕ = get_or c.args.pairs.now c.loop-byte.byte-index (0, 0) in
+      absurd (true≢false (sym (c.is_run.ensures.1 (run_there c.args.pairs.now c.loop-byte.byte-index run.0 run.1 c.loop-byte-test.true refl c.args.bytes.now c.args.from c.loop-byte.at c.loop-byte.invariant.at_is c.requires.within all)) ∙ c.if-not-is_run.true))),
 )
 
 pub loop-byte-preserved : goal.loop-byte-preserved
 loop-byte-preserved c =
-    let fits : c.loop-byte.at + (get_or c.args.pairs.now c.loop-byte.byte-index (0, 0)).1 ≤ length c.args.bytes.now = omega (arith, next_within c.args.pairs.now c.loop-byte.byte-index (get_or c.args.pairs.now c.loop-byte.byte-index (0, 0)).0 (get_or c.args.pairs.now c.loop-byte.byte-index (0, 0)).1 c.loop-byte-test.true refl, c.requires.same, c.loop-byte.invariant.at_is) in
+    let run : ℕ × ℕ = get_or c.args.pairs.now c.loop-byte.byte-index (0, 0) in
     record {
-      at_is = omega (arith, next_length c.args.pairs.now c.loop-byte.byte-index (get_or c.args.pairs.now c.loop-byte.byte-index (0, 0)).0 (get_or c.args.pairs.now c.loop-byte.byte-index (0, 0)).1 c.loop-byte-test.true refl, c.loop-byte.invariant.at_is);
-      alike = next_alike c.args.pairs.now c.loop-byte.byte-index (get_or c.args.pairs.now c.loop-byte.byte-index (0, 0)).0 (get_or c.args.pairs.now c.loop-byte.byte-index (0, 0)).1 c.loop-byte-test.true refl c.loop-byte.at c.args.bytes.now c.loop-byte.invariant.alike
-          (part_from c.args.bytes.now c.loop-byte.at (get_or c.args.pairs.now c.loop-byte.byte-index (0, 0)).1 (get_or c.args.pairs.now c.loop-byte.byte-index (0, 0)).0 _ (part_end c.args.bytes.now c.loop-byte.at (get_or c.args.pairs.now c.loop-byte.byte-index (0, 0)).1) fits (c.are_all.ensures.0 c.if-not-are_all.false));
+      at_is = omega (arith, next_length c.args.pairs.now c.loop-byte.byte-index run.0 run.1 c.loop-byte-test.true refl, c.loop-byte.invariant.at_is);
+      alike = run_alike c.args.pairs.now c.loop-byte.byte-index run.0 run.1 c.loop-byte-test.true refl c.args.bytes.now c.args.from c.loop-byte.at c.loop-byte.invariant.at_is c.loop-byte.invariant.alike (c.is_run.ensures.0 c.if-not-is_run.false);
     }

@@ -4,7 +4,7 @@ use Rattle.hm_large_book.proofs.bytes.left_at.Goals as goal
 
 pub returns-in-Some : goal.returns-in-Some
 returns-in-Some c = λ config s sound is.
-    let count : c.len.result ≡ length c.index-live-index.result.1.bytes.items = search rules in
+    let count : c.len.result ≡ length c.index-live-index.result.1.bytes = search rules in
     left_holder config s c.args.live.now sound is c.args.addr c.in-Some.index _ c.index-live-index.result c.in-Some.ensures.within c.index-live-index.is c.in-Some.ensures.some
     (ap (λ (n : ℕ). n - (c.args.addr - c.index-live-index.result.0)) count)
 

@@ -9,7 +9,7 @@ use Rattle.hm_large_book.proofs.bytes.write.Goals as goal
 
 pub write_block-requires-clause-fits : goal.write_block-requires-clause-fits
 write_block-requires-clause-fits c = (let f = fits_at c.args.live.now c.args.addr (length (expand c.args.runs.now)) c.in-Some.place c.index-live-place.result (subst (λ (n : ℕ). LiesAt c.args.live.now c.args.addr n c.in-Some.place) c.len.ensures.bytes c.in-Some.ensures.some) (read_at c.args.live.now c.in-Some.place.block c.index-live-place.result c.in-Some.ensures.within c.index-live-place.is) in
-    subst (λ (x : ℕ × LiveBlock). c.in-Some.place.offset + length (expand c.args.runs.now) ≤ length x.1.bytes.items) c.index-live-place.is f.0)
+    subst (λ (x : ℕ × LiveBlock). c.in-Some.place.offset + length (expand c.args.runs.now) ≤ length x.1.bytes) c.index-live-place.is f.0)
 
 pub write_block-requires-clause-low : goal.write_block-requires-clause-low
 write_block-requires-clause-low c = (let f = fits_at c.args.live.now c.args.addr (length (expand c.args.runs.now)) c.in-Some.place c.index-live-place.result (subst (λ (n : ℕ). LiesAt c.args.live.now c.args.addr n c.in-Some.place) c.len.ensures.bytes c.in-Some.ensures.some) (read_at c.args.live.now c.in-Some.place.block c.index-live-place.result c.in-Some.ensures.within c.index-live-place.is) in omega (arith, f.1, c.requires.low))
