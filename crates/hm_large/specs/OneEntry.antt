@@ -28,5 +28,6 @@ pub record MayFollow (seed : ℕ) (t : Terms) (s : State) (e : Entry) : Type 0 w
 abbrev pub OneEntry : Type 0
 OneEntry = (seed : ℕ) (t : Terms) (s : State) (e f : Entry) → IsTrue t.told
     → MayFollow seed t s e → MayFollow seed t s f
-    → e.who ≡ f.who → e.call ≡ f.call → e.faults_after ≡ f.faults_after → is_pages_failed e.reply ≡ is_pages_failed f.reply
+    → e.who ≡ f.who → e.call ≡ f.call → e.faults_after ≡ f.faults_after
+    → is_pages_failed e.reply ≡ is_pages_failed f.reply
     → e ≡ f

@@ -35,8 +35,8 @@ pub record AreSeated (root : ℕ) (chief : View) (outs : List ℕ) (views : List
   pub present : (c : ℕ) → is_among c outs ≡ true
       → (j : ℕ) × (v : View) × At views j v × (v.spent ≡ false) × (v.caller ≡ c)
 
--- the callers that are out are the used ones that are not ended; what the history has of an ended caller is what was joined,
--- the chief has seen it, and there is nothing of a caller never split off
+-- the callers that are out are the used ones that are not ended; what the history has of an ended caller is what was
+-- joined, the chief has seen it, and there is nothing of a caller never split off
 pub record AreCounted (chief : View) (outs : List ℕ) (history : List Entry) (views : List View) : Type 0 where
   pub gone : (j : ℕ) (v : View) → At views j v → v.spent ≡ false → ended_of v.caller chief.ended ≡ None
   pub out_used : (c : ℕ) → is_among c outs ≡ true → is_among c chief.used ≡ true

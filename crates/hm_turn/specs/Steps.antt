@@ -34,7 +34,8 @@ drawn st me found after =
     (found ≡ st.first → after ≡ (drawing me.0 st.first, me.1))
     × (found ≢ st.first → after ≡ me)
 
--- a seat with a ticket reads the number served: the turn is got where it is the seat's own, and else the number is noted
+-- a seat with a ticket reads the number served: the turn is got where it is the seat's own, and else the number is
+-- noted
 abbrev pub awaited : {T : Type 0} → (T → List Entry) → (T → List ℕ)
     → Step (Option T) → Me (Option T) View → ℕ → Me (Option T) View → Type 0
 awaited entries origin_of st me found after =
