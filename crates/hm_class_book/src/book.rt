@@ -9,13 +9,14 @@ ghost use Rattle.hm_class_rules.specs.Rules.{Releases};
 ghost use Rattle.hm_class_book.specs.Book.{state_in, is_index, Marks};
 
 use crate::places::{slab_of, slab_start};
+use crate::slab_bytes::SlabBytes;
 use hm_sizes::Shape;
 use std::alloc::Global;
 
 /// A slab that is open.
 #[derive(Drop)]
 pub struct OpenSlab {
-    pub bytes: Vec<u8>,
+    pub bytes: SlabBytes,
     pub canary: u64,
 }
 
