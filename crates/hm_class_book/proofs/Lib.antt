@@ -12,3 +12,4 @@ pub mod SlabWrites
 pub mod Reaching
 pub mod Settled
 pub mod Founds
+pub mod Queues

@@ -1,5 +1,5 @@
 -- A book of a class region as the state that it holds, and the slots of a slab that are taken.
-use Rattle.std.specs.Prelude.{◌≡◌, ℕ, ◌==◌, ◌<◌, Bool, true, false, List, map, get_or, Option, Some, None}
+use Rattle.std.specs.Prelude.{◌≡◌, ℕ, ◌==◌, ◌<◌, ◌≤◌, ◌^◌, MatchOption, Bool, true, false, List, map, get_or, Option, Some, None}
 use Rattle.hm_sizes.specs.declared.shape.Shape.{Shape}
 use Rattle.hm_sizes.specs.Shapes.{place, slab_at, IsShape}
 use Rattle.hm_class_rules.specs.State.{State, Slab, is_taken}
@@ -44,6 +44,10 @@ pub record IsKept (p : Shape) (s : State) : Type 0 where
 abbrev pub is_index : Option ℕ → ℕ → Bool
 is_index None i = false
 is_index (Some k) i = k == i
+
+-- slab n begins there, or past all addresses
+abbrev pub IsStart : Shape → ℕ → Option ℕ → Type 0
+IsStart p n start = MatchOption start (2 ^ 64 ≤ slab_at p n) (λ a. a ≡ slab_at p n)
 
 -- the marks say which slots of slab n are taken
 abbrev pub Marks : Shape → State → ℕ → List Bool → Type 0

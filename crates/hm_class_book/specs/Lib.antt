@@ -5,3 +5,4 @@ pub mod Kinds
 pub mod Follows
 pub mod Reached
 pub mod Said
+pub mod Asked

@@ -10,7 +10,7 @@ ghost use Rattle.hm_class_book.specs.Sources.{Holds};
 ghost use Rattle.hm_class_book.specs.Picks.{with_opened, IsFirst, Judges};
 
 use crate::book::{Book, OpenSlab};
-use crate::changes::{put_first, remove_block, remove_slab};
+use crate::changes::{put_first, put_front, remove_block, remove_slab};
 use crate::choices::{are_none, are_picking};
 use crate::kinds::Lists;
 use crate::places::{is_place, slab_of};
@@ -191,7 +191,7 @@ impl Book {
         write_slabs(&mut self.opens, shape, addr + shape.usable(), &canary);
         remove_block(&mut self.live, addr);
         self.live.insert(0, (addr, asked))?;
-        put_first(&mut self.given, addr)
+        put_front(&mut self.given, addr)
     }
 
     // Whether a picked slot may be given, with this usable size.

@@ -27,7 +27,7 @@ impl Book {
     fn was_given(&self, addr: u64) -> bool
         ensures { result ≡ among addr (state_in self.now).given }
     {
-        is_among(&self.given, addr)
+        self.given.contains(&addr)
     }
 
     /// Whether a live block begins at an address.

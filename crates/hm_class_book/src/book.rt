@@ -1,17 +1,18 @@
 //! What a class region's state is after some entries, as lists with their newest members first.
-ghost use Rattle.std.specs.Prelude.{◌≡◌, ◌==◌, ◌+◌, ◌-◌, ◌++◌, find, ◌<◌, ◌≤◌, ◌↔◌, ◌||◌, ℕ, IsTrue, IfSome, MatchOption, Some, length, take, get_or, not, false, true};
+ghost use Rattle.std.specs.Prelude.{◌≡◌, ◌==◌, ◌+◌, ◌-◌, ◌++◌, find, ◌*◌, ◌<◌, ◌≤◌, ◌↔◌, ◌||◌, ℕ, IsTrue, IfSome, Some, length, take, get_or, not, false, true};
 ghost use Rattle.std.specs.List.{list_any, list_all, range_with_len};
 ghost use Rattle.hm_model.specs.Maps.{among, without, keys};
-ghost use Rattle.hm_sizes.specs.Shapes.{IsShape, slab_at, place, delay, slab_of};
+ghost use Rattle.hm_sizes.specs.Shapes.{IsShape, place, delay, slab_of};
 ghost use Rattle.hm_class_rules.specs.State.{start, is_open, has_free, is_empty};
 ghost use Rattle.hm_class_rules.specs.Drawn.{first_free};
 ghost use Rattle.hm_class_rules.specs.Rules.{Releases};
-ghost use Rattle.hm_class_book.specs.Book.{state_in, is_index, Marks};
+ghost use Rattle.hm_class_book.specs.Book.{state_in, is_index, IsStart, Marks};
 
 use crate::places::{slab_of, slab_start};
 use crate::slab_bytes::SlabBytes;
 use hm_sizes::Shape;
 use std::alloc::Global;
+use std::collections::VecDeque;
 
 /// A slab that is open.
 #[derive(Drop)]
@@ -26,8 +27,8 @@ pub struct Book {
     pub live: Vec<(u64, u64)>,
     pub held: Vec<u64>,
     pub condemned: Vec<u64>,
-    pub given: Vec<u64>,
-    pub frees: Vec<u64>,
+    pub given: VecDeque<u64>,
+    pub frees: VecDeque<u64>,
     pub opens: Vec<(u64, OpenSlab)>,
     pub parked: Vec<u64>,
     pub shut: Vec<u64>,
@@ -38,28 +39,34 @@ pub struct Book {
 /// The most slots that a slab has.
 const MOST_SLOTS: usize = 256;
 
-// How far an address lies past the beginning of a slab.
-fn offset_in(shape: &Shape, slab: u64, addr: u64) -> Option<u64>
-    ensures { MatchOption result (addr < slab_at shape.now slab) (λ offset. addr ≡ slab_at shape.now slab + offset) }
-{
-    match slab_start(shape, slab) {
-        Some(start) => addr.checked_sub(start),
-        None => None,
-    }
-}
-
-// Which slot of this slab begins at an address.
-fn index_of(shape: &Shape, slab: u64, addr: u64) -> Option<usize>
+// Which slot begins at an address, where slot 0 begins at `start`. Most addresses lie in other slabs, and are not divided.
+fn index_from(shape: &Shape, start: u64, addr: u64) -> Option<usize>
     requires { IsShape shape.now }
     ensures within { IfSome result (λ i. i < shape.now.slots) }
-    ensures exact { (i : ℕ) → i < shape.now.slots → (addr == place shape.now slab i) ≡ is_index result i }
+    ensures exact { (i : ℕ) → i < shape.now.slots → (addr == start + i * shape.now.slot) ≡ is_index result i }
 {
-    let offset = offset_in(shape, slab, addr)?;
+    if shape.slab <= addr.wrapping_sub(start) {
+        return None;
+    }
+    let offset = addr.checked_sub(start)?;
     let index = offset / shape.slot;
     if index < u64::from(shape.slots) && offset % shape.slot == 0 {
         Some(index as usize)
     } else {
         None
+    }
+}
+
+// Which slot of a slab begins at an address. `start` is where the slab begins.
+fn index_of(shape: &Shape, start: Option<u64>, addr: u64) -> Option<usize>
+    requires { IsShape shape.now }
+    ensures within { IfSome result (λ i. i < shape.now.slots) }
+    ensures exact { (slab i : ℕ) → IsStart shape.now slab start → i < shape.now.slots
+        → (addr == place shape.now slab i) ≡ is_index result i }
+{
+    match start {
+        Some(start) => index_from(shape, start, addr),
+        None => None,
     }
 }
 
@@ -80,8 +87,9 @@ fn mark(marks: &mut [bool], shape: &Shape, slab: u64, addrs: &[u64])
     ensures marked { (i : ℕ) → i < shape.now.slots
         → get_or marks.new i false ≡ (get_or marks.old i false || among (place shape.now slab i) addrs.now) }
 {
+    let start = slab_start(shape, slab);
     for addr in addrs {
-        if let Some(index) = index_of(shape, slab, *addr) {
+        if let Some(index) = index_of(shape, start, *addr) {
             marks[index] = true;
         }
     }
@@ -95,8 +103,9 @@ fn mark_live(marks: &mut [bool], shape: &Shape, slab: u64, live: &[(u64, u64)])
     ensures marked { (i : ℕ) → i < shape.now.slots
         → get_or marks.new i false ≡ (get_or marks.old i false || among (place shape.now slab i) (keys live.now)) }
 {
+    let start = slab_start(shape, slab);
     for (addr, _) in live {
-        if let Some(index) = index_of(shape, slab, *addr) {
+        if let Some(index) = index_of(shape, start, *addr) {
             marks[index] = true;
         }
     }
@@ -178,6 +187,17 @@ fn first_ones(numbers: &[u64], len: usize) -> &[u64]
     &numbers[..len.min(numbers.len())]
 }
 
+// Whether a number is among the first of a queue, as many as there are up to a length.
+fn is_among_first(numbers: &VecDeque<u64>, len: usize, number: u64) -> bool
+    ensures { result ≡ among number (take len numbers.now.items) }
+{
+    let (front, back) = numbers.as_slices();
+    let left = len.saturating_sub(front.len());
+    let first = is_among(first_ones(front, len), number);
+    let later = is_among(first_ones(back, left), number);
+    first | later
+}
+
 // How many of these are other numbers.
 pub(crate) fn count_without(numbers: &[u64], number: u64) -> usize
     ensures value { result ≡ length (without number numbers.now) }
@@ -201,8 +221,8 @@ impl Book {
             live: Vec::new(alloc),
             held: Vec::new(alloc),
             condemned: Vec::new(alloc),
-            given: Vec::new(alloc),
-            frees: Vec::new(alloc),
+            given: VecDeque::new(alloc),
+            frees: VecDeque::new(alloc),
             opens: Vec::new(alloc),
             parked: Vec::new(alloc),
             shut: Vec::new(alloc),
@@ -258,7 +278,7 @@ impl Book {
         }
         let marks = self.marks(shape, slab);
         match cyclic(&marks, from as usize, shape.slots as usize) {
-            Some(first) => is_index(index_of(shape, slab, addr), first),
+            Some(first) => is_index(index_of(shape, slab_start(shape, slab), addr), first),
             None => false,
         }
     }
@@ -277,7 +297,7 @@ impl Book {
         ensures { IsTrue result ↔ Releases shape.now (state_in self.now) (Some slot) }
     {
         let held = is_among(&self.held, slot);
-        let late = is_among(first_ones(&self.frees, delay_of(shape)), slot);
+        let late = is_among_first(&self.frees, delay_of(shape), slot);
         let left = count_without(&self.held, slot) as u64;
         held && !late && left <= most_held(shape)
     }

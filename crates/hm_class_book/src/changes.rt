@@ -5,6 +5,7 @@ ghost use Rattle.hm_class_book.specs.Book.{slabs_in};
 
 use crate::book::OpenSlab;
 use hm_base::NoMemory;
+use std::collections::VecDeque;
 
 pub(crate) fn remove_block(live: &mut Vec<(u64, u64)>, addr: u64)
     ensures { live.new.items ≡ removed addr live.old.items }
@@ -28,5 +29,13 @@ pub(crate) fn put_first(numbers: &mut Vec<u64>, number: u64) -> Result<(), NoMem
     ensures { OnOk result (numbers.new.items ≡ number ∷ numbers.old.items) }
 {
     numbers.insert(0, number)?;
+    Ok(())
+}
+
+/// The same in a queue, where no other number moves.
+pub(crate) fn put_front(numbers: &mut VecDeque<u64>, number: u64) -> Result<(), NoMemory>
+    ensures { OnOk result (numbers.new.items ≡ number ∷ numbers.old.items) }
+{
+    numbers.push_front(number)?;
     Ok(())
 }

@@ -12,7 +12,7 @@ ghost use Rattle.hm_class_rules.specs.Stepped.{front, touched, parking_with};
 ghost use Rattle.hm_class_book.specs.Book.{state_in};
 ghost use Rattle.hm_class_book.specs.Kinds.{kind_in};
 ghost use Rattle.hm_class_book.specs.Said.{said};
-ghost use Rattle.hm_class_book.specs.Follows.{Follows};
+ghost use Rattle.hm_class_book.specs.Asked.{IsAsked};
 ghost use Rattle.hm_class_book.specs.Reached.{first_said, at_state, IsReached, IsJudged, Found, FoundPicked, FoundFreed};
 
 use crate::book::Book;
@@ -126,9 +126,7 @@ impl ClassBook {
     }
 
     fn take_measure(&mut self, entry: &Entry, addr: u64) -> Judgement
-        requires reached { IsReached (said self.old) }
-        requires follows { Follows self.old.region.shape (state_in self.old.book) entry.now }
-        requires call { entry.now.call ≡ Call.Measure addr }
+        requires { IsAsked (said self.old) entry.now (Call.Measure addr) }
         ensures { IsJudged (said self.old) (said self.new) entry.now result }
     {
         let legal = self
@@ -138,9 +136,7 @@ impl ClassBook {
     }
 
     fn take_fetch(&mut self, entry: &Entry, addr: u64, len: u64) -> Result<Judgement, NoMemory>
-        requires reached { IsReached (said self.old) }
-        requires follows { Follows self.old.region.shape (state_in self.old.book) entry.now }
-        requires call { entry.now.call ≡ Call.Fetch addr len }
+        requires { IsAsked (said self.old) entry.now (Call.Fetch addr len) }
         ensures { IfOk result (IsJudged (said self.old) (said self.new) entry.now) }
     {
         let legal = self.book.may_fetch(
@@ -155,9 +151,7 @@ impl ClassBook {
     }
 
     fn take_fill(&mut self, entry: &Entry, addr: u64, runs: &Runs) -> Result<Judgement, NoMemory>
-        requires reached { IsReached (said self.old) }
-        requires follows { Follows self.old.region.shape (state_in self.old.book) entry.now }
-        requires call { entry.now.call ≡ Call.Fill addr runs.now }
+        requires { IsAsked (said self.old) entry.now (Call.Fill addr runs.now) }
         ensures { IfOk result (IsJudged (said self.old) (said self.new) entry.now) }
     {
         match &entry.reply {
@@ -177,9 +171,7 @@ impl ClassBook {
     }
 
     fn take_allot(&mut self, entry: &Entry, asked: u64, align: u64) -> Result<Judgement, NoMemory>
-        requires reached { IsReached (said self.old) }
-        requires follows { Follows self.old.region.shape (state_in self.old.book) entry.now }
-        requires call { entry.now.call ≡ Call.Allot asked align }
+        requires { IsAsked (said self.old) entry.now (Call.Allot asked align) }
         ensures { IfOk result (IsJudged (said self.old) (said self.new) entry.now) }
     {
         match &entry.reply {
@@ -207,9 +199,7 @@ impl ClassBook {
         addr: u64,
         usable: u64,
     ) -> Result<Judgement, NoMemory>
-        requires reached { IsReached (said self.old) }
-        requires follows { Follows self.old.region.shape (state_in self.old.book) entry.now }
-        requires call { entry.now.call ≡ Call.Allot asked align }
+        requires asked { IsAsked (said self.old) entry.now (Call.Allot asked align) }
         requires reply { entry.now.reply ≡ Reply.Given addr usable }
         ensures { IfOk result (IsJudged (said self.old) (said self.new) entry.now) }
     {
@@ -237,9 +227,7 @@ impl ClassBook {
         addr: u64,
         stain: (u64, u8),
     ) -> Result<Judgement, NoMemory>
-        requires reached { IsReached (said self.old) }
-        requires follows { Follows self.old.region.shape (state_in self.old.book) entry.now }
-        requires call { entry.now.call ≡ Call.Allot asked align }
+        requires asked { IsAsked (said self.old) entry.now (Call.Allot asked align) }
         requires reply { entry.now.reply ≡ Reply.Overwritten addr stain.0 stain.1 }
         ensures { IfOk result (IsJudged (said self.old) (said self.new) entry.now) }
     {
@@ -264,9 +252,7 @@ impl ClassBook {
         addr: u64,
         stated: Option<u64>,
     ) -> Result<Judgement, NoMemory>
-        requires reached { IsReached (said self.old) }
-        requires follows { Follows self.old.region.shape (state_in self.old.book) entry.now }
-        requires call { entry.now.call ≡ Call.GiveBack addr stated }
+        requires { IsAsked (said self.old) entry.now (Call.GiveBack addr stated) }
         ensures { IfOk result (IsJudged (said self.old) (said self.new) entry.now) }
     {
         match &entry.reply {
@@ -286,9 +272,7 @@ impl ClassBook {
         addr: u64,
         stated: Option<u64>,
     ) -> Result<Judgement, NoMemory>
-        requires reached { IsReached (said self.old) }
-        requires follows { Follows self.old.region.shape (state_in self.old.book) entry.now }
-        requires call { entry.now.call ≡ Call.GiveBack addr stated }
+        requires asked { IsAsked (said self.old) entry.now (Call.GiveBack addr stated) }
         requires reply { entry.now.reply ≡ Reply.Freed }
         ensures { IfOk result (IsJudged (said self.old) (said self.new) entry.now) }
     {

@@ -9,7 +9,7 @@ ghost use Rattle.hm_class_rules.specs.Laws.{AllWhole, bytes_of_slab};
 ghost use Rattle.hm_class_book.specs.Book.{state_in, terms, IsKept};
 
 use crate::book::{Book, count_without, is_among};
-use crate::changes::{put_first, remove_block, remove_number, remove_slab};
+use crate::changes::{put_first, put_front, remove_block, remove_number, remove_slab};
 use crate::choices::are_freeing;
 use crate::places::slab_of;
 use crate::refusals::wrong_size;
@@ -31,7 +31,7 @@ impl Book {
     {
         fill_slabs(&mut self.opens, shape, addr, 0, shape.usable());
         remove_block(&mut self.live, addr);
-        put_first(&mut self.frees, addr)?;
+        put_front(&mut self.frees, addr)?;
         put_first(&mut self.held, addr)?;
         Ok(())
     }

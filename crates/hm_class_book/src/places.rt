@@ -1,6 +1,7 @@
 //! Which slab an address lies in, and whether it is a place.
-ghost use Rattle.std.specs.Prelude.{◌≡◌, ◌↔◌, ◌≤◌, ◌^◌, IsTrue, MatchOption};
-ghost use Rattle.hm_sizes.specs.Shapes.{IsShape, IsPlace, slab_of, slab_at};
+ghost use Rattle.std.specs.Prelude.{◌≡◌, ◌↔◌, IsTrue};
+ghost use Rattle.hm_sizes.specs.Shapes.{IsShape, IsPlace, slab_of};
+ghost use Rattle.hm_class_book.specs.Book.{IsStart};
 
 use hm_sizes::{Shape, place_of};
 
@@ -14,7 +15,7 @@ pub(crate) fn is_place(shape: &Shape, addr: u64) -> bool
 
 /// Where a slab begins, unless that is past all addresses.
 pub(crate) fn slab_start(shape: &Shape, slab: u64) -> Option<u64>
-    ensures { MatchOption result (2 ^ 64 ≤ slab_at shape.now slab) (λ start. start ≡ slab_at shape.now slab) }
+    ensures { IsStart shape.now slab result }
 {
     match slab.checked_mul(shape.slab) {
         Some(offset) => shape.first.checked_add(offset),

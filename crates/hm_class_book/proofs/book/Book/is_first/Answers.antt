@@ -25,7 +25,7 @@ returns-in-Some c =
     first_is p s n c.args.from c.requires.from c.marks-marks.result (Some c.in-Some.first) (sym c.is_open.ensures ∙ c.if-not-is_open.false) c.marks-marks.ensures.room c.marks-marks.ensures.marks c.in-Some.ensures.value in
     is_first_by p s (slab_of p c.args.addr) c.args.from c.args.addr c.in-Some.first c.is_index.result
     (subst (λ (m : ℕ). first_free p s m c.args.from ≡ Some (place p m c.in-Some.first)) c.slab_of-slab.ensures found)
-    (c.is_index.ensures ∙ sym (c.index_of.ensures.exact c.in-Some.first c.in-Some.ensures.below) ∙ ap (λ (m : ℕ). c.args.addr == place p m c.in-Some.first) c.slab_of-slab.ensures)
+    (c.is_index.ensures ∙ sym (c.index_of.ensures.exact n c.in-Some.first c.slab_start.ensures c.in-Some.ensures.below) ∙ ap (λ (m : ℕ). c.args.addr == place p m c.in-Some.first) c.slab_of-slab.ensures)
 
 pub returns-in-None : goal.returns-in-None
 returns-in-None c =

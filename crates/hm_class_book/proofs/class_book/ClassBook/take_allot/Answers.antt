@@ -16,6 +16,6 @@ pub returns-in_default : goal.returns-in_default
 returns-in_default c =
     let b = said c.args.self.now in
     let e = c.args.entry.now in
-    c.settle.ensures b.cells.state (found b e (Allot c.args.asked c.args.align) e.reply c.may_not_give-legal.result (state_in c.args.self.now.book) c.requires.reached c.requires.follows c.requires.call refl
+    c.settle.ensures b.cells.state (found b e (Allot c.args.asked c.args.align) e.reply c.may_not_give-legal.result (state_in c.args.self.now.book) c.requires.reached c.requires.follows c.requires.call_is refl
     (ungiven_event c.args.asked c.args.align e.reply c.in_default.not-Given c.in_default.not-Overwritten)
     (λ yes. ungiven_moves b.terms.shape e.choices c.args.asked c.args.align e.reply b.cells.state c.in_default.not-Given c.in_default.not-Overwritten) (c.may_not_give-legal.ensures c.args.asked c.args.align))

@@ -13,10 +13,10 @@ use Rattle.hm_class_book.proofs.Reaching.{partial_after, empty_after}
 use Rattle.hm_class_book.proofs.class_book.ClassBook.take_given.Goals as goal
 
 pub take_given-requires-clause-partial : goal.take_given-requires-clause-partial
-take_given-requires-clause-partial c = let b = said c.args.self.now in partial_after b.seed b.arena b.terms b.cells c.requires.reached
+take_given-requires-clause-partial c = let b = said c.args.self.now in partial_after b.seed b.arena b.terms b.cells c.requires.asked.reached
 
 pub take_given-requires-clause-empty : goal.take_given-requires-clause-empty
-take_given-requires-clause-empty c = let b = said c.args.self.now in empty_after b.seed b.arena b.terms b.cells c.requires.reached
+take_given-requires-clause-empty c = let b = said c.args.self.now in empty_after b.seed b.arena b.terms b.cells c.requires.asked.reached
 
 pub returns : goal.returns
 returns c =
@@ -24,7 +24,7 @@ returns c =
     let e = c.args.entry.now in
     c.settle_picked.ensures b.cells.state
     (found_picked b e (Allot c.args.asked c.args.align) (Given c.args.addr c.args.usable) c.args.addr (kind_in c.kind-before.result) c.in_ok-picked.picked (state_in c.take_given.new.self)
-    c.requires.reached c.requires.follows c.requires.call c.requires.reply refl
+    c.requires.asked.reached c.requires.asked.follows c.requires.asked.call_is c.requires.reply refl
     (c.kind-before.ensures ∙ ap (λ (n : ℕ). kind b.terms.shape b.cells.state n) c.slab_of-slab.ensures)
     (subst (λ (n : ℕ). Judges (AllowsGiven b.terms b.cells.state e.choices c.args.addr c.args.usable) (IsFirst b.terms.shape b.cells.state e.choices n c.args.addr)
     (state_in c.take_given.new.self ≡ gives b.terms.shape c.args.addr c.args.asked (with_opened b.terms.shape e.choices b.cells.state)) c.in_ok-picked.picked)
