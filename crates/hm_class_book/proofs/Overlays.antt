@@ -1,11 +1,9 @@
 -- The part of what is written that lies among some bytes.
-use Rattle.std.proofs.Common.{◌≡◌, ◌⊎◌, inl, inr, ⊎_elim, ℕ, suc, ◌+◌, ◌-◌, ◌<◌, ◌≤◌, Bool, true, false, cond, ◌&&◌, nat_lt, max, min, List, [], ◌∷◌, ◌++◌, length, take, drop, get_or, sym, ◌∙◌, ap, refl, arith, length-drop, append_assoc}
+use Rattle.std.proofs.Common.{◌≡◌, ◌⊎◌, inl, inr, ⊎_elim, ℕ, suc, ◌+◌, ◌-◌, ◌<◌, ◌≤◌, Bool, true, false, cond, ◌&&◌, nat_lt, max, min, List, [], ◌∷◌, length, take, drop, replicate, get_or, sym, ◌∙◌, ap, refl, arith, length-drop}
 use Rattle.std.specs.Prelude.{nat_le}
 use Rattle.std.proofs.lemmas.Bool.{cases_lt}
 use Rattle.std.proofs.lemmas.Bool.Decides.{nat_tests}
-use Rattle.std.proofs.lemmas.List.{get_or-take, get_or-drop, length-take}
-use borrow.Rule.Slice.PartMut.{put_mid}
-use lib.Seq.{drop-drop}
+use Rattle.std.proofs.lemmas.List.{get_or-take, get_or-drop, length-take, length-replicate, take-replicate, drop-replicate}
 use Rattle.hm_base.specs.Lists.{written}
 use Rattle.hm_model.specs.Overlaid.{overlaid}
 use Rattle.hm_model.proofs.Overlaid.{overlaid_apart, overlaid_written, overlaid_nil}
@@ -83,16 +81,19 @@ module _ (a q : ℕ) (w b : List ℕ) (f t : ℕ) (first : f ≡ max a q) (last 
           either : (a n q k : ℕ) → min (a + suc n) (q + suc k) ≤ max a q → (q + suc k ≤ a) ⊎ (a + suc n ≤ q)
           either a n q k le = ⊎_elim (λ lt. inr (omega (arith, lt, le))) (λ ge. inl (omega (arith, ge, le))) (cases_lt a q)
 
-  pub mid_written : f < t → (k : ℕ) (ys : List ℕ) → k ≡ t - f → ys ≡ take (t - f) (drop (f - a) w) → put_mid (f - q) k b ys ≡ overlaid a w q b
-  unfolding part
-  mid_written some k ys e h =
-      ap (λ (l : List ℕ). take (f - q) b ++ l)
-      (λ i. h i ++ (drop-drop k (f - q) b ∙ ap (λ (m : ℕ). drop ((f - q) + m) b) (e ∙ sym length_part)) i)
-      ∙ append_assoc' (take (f - q) b) part (drop ((f - q) + length part) b)
-      ∙ part_written some
-    where
-      append_assoc' : (x y z : List ℕ) → x ++ (y ++ z) ≡ (x ++ y) ++ z
-      append_assoc' x y z = sym (append_assoc x y z)
+  pub over_written : f < t → (ys : List ℕ) → ys ≡ take (t - f) (drop (f - a) w) → written b (f - q) ys ≡ overlaid a w q b
+  over_written some ys is = ap (λ (l : List ℕ). written b (f - q) l) is ∙ part_written some
+
+-- ---- one byte, written so many times
+module _ (a q n byte : ℕ) (b : List ℕ) (f t : ℕ) (first : f ≡ max a q) (last : t ≡ min (a + n) (q + length b)) where
+  pub byte_written : f < t → written b (f - q) (replicate (t - f) byte) ≡ overlaid a (replicate n byte) q b
+  byte_written some =
+      let part : take (t - f) (drop (f - a) (replicate n byte)) ≡ replicate (t - f) byte =
+      ap (take (t - f)) (drop-replicate (f - a) n byte) ∙ take-replicate (t - f) (n - (f - a)) byte (omega (arith, first, last)) in
+      over_written a q (replicate n byte) b f t first (omega (arith, last, length-replicate {A = ℕ} n byte)) some (replicate (t - f) byte) (sym part)
+
+  pub no_byte_written : t ≤ f → b ≡ overlaid a (replicate n byte) q b
+  no_byte_written none = none_written a q (replicate n byte) b f t first (omega (arith, last, length-replicate {A = ℕ} n byte)) none
 
 -- ---- at a bound that no address passes
 pub least_end : (t e x s m : ℕ) → t ≡ min e s → s ≡ min x m → e ≤ m → t ≡ min e x

@@ -11,7 +11,7 @@ use Rattle.hm_class_book.specs.declared.book.OpenSlab.{OpenSlab}
 use Rattle.hm_class_book.specs.declared.region.Region.{Region}
 
 abbrev pub slab_in : OpenSlab → Slab
-slab_in b = record { bytes = b.bytes.items; canary = b.canary }
+slab_in b = record { bytes = b.bytes; canary = b.canary }
 
 abbrev pub slabs_in : List (ℕ × OpenSlab) → List (ℕ × Slab)
 slabs_in opens = map (λ e. (e.0, slab_in e.1)) opens

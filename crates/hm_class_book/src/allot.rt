@@ -15,6 +15,7 @@ use crate::choices::{are_none, are_picking};
 use crate::kinds::Lists;
 use crate::places::{is_place, slab_of};
 use crate::region::Region;
+use crate::slab_bytes::SlabBytes;
 use crate::slabs::write_slabs;
 use crate::sources::opens;
 use hm_base::NoMemory;
@@ -36,15 +37,12 @@ fn after(shape: &Shape, slab: u64) -> u64
 
 // A slab that is opened.
 fn fresh(alloc: Global, shape: &Shape, canary: Option<u64>) -> Result<OpenSlab, NoMemory>
+    requires { IsShape shape.now }
     ensures { IfOk result (λ b. slab_in b ≡ new_slab shape.now (unwrap_or canary 0)) }
 {
-    let len = if shape.has_bytes() {
-        shape.slab as usize
-    } else {
-        0
-    };
+    let len = if shape.has_bytes() { shape.slab } else { 0 };
     Ok(OpenSlab {
-        bytes: vec![in alloc; 0u8; len]?,
+        bytes: SlabBytes::zeroed(alloc, len)?,
         canary: canary.unwrap_or(0),
     })
 }

@@ -9,6 +9,7 @@ ghost use Rattle.hm_class_rules.specs.Rules.{Releases};
 ghost use Rattle.hm_class_book.specs.Book.{state_in, is_index, IsStart, Marks};
 
 use crate::places::{slab_of, slab_start};
+use crate::slab_bytes::SlabBytes;
 use hm_sizes::Shape;
 use std::alloc::Global;
 use std::collections::VecDeque;
@@ -16,7 +17,7 @@ use std::collections::VecDeque;
 /// A slab that is open.
 #[derive(Drop)]
 pub struct OpenSlab {
-    pub bytes: Vec<u8>,
+    pub bytes: SlabBytes,
     pub canary: u64,
 }
 

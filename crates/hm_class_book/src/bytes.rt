@@ -1,97 +1,74 @@
 //! The bytes of open slabs.
-ghost use Rattle.std.specs.Prelude.{◌≡◌, ◌+◌, ◌<◌, ◌^◌, [], take, drop, slice_index, is_some, IfOk};
-ghost use Rattle.std.specs.Option.{option_map_or};
+ghost use Rattle.std.specs.Prelude.{◌≡◌, ◌+◌, ◌-◌, ◌<◌, ◌^◌, take, drop, slice_index, is_some, option_map, IfOk};
 ghost use Rattle.std.specs.Int.{from_le_bytes};
 ghost use mir.Syntax.{w64};
 ghost use Rattle.hm_model.specs.Maps.{at};
-ghost use Rattle.hm_sizes.specs.Shapes.{IsShape};
-ghost use Rattle.hm_class_rules.specs.Bytes.{byte_at, first_trap, bytes_read, bytes_from, usable_bytes, first_nonzero, kept_canary, found_canary};
+ghost use Rattle.hm_sizes.specs.Shapes.{IsShape, slab_at, slab_of};
+ghost use Rattle.hm_class_rules.specs.Bytes.{byte_at, first_trap, bytes_read, usable_bytes, first_nonzero, kept_canary, found_canary};
 ghost use Rattle.hm_class_book.specs.Book.{state_in, slab_in, slabs_in};
 
 use crate::book::{Book, OpenSlab};
 use crate::places::slab_of;
+use crate::slab_bytes::SlabBytes;
 use hm_base::NoMemory;
 use hm_sizes::Shape;
 use std::alloc::Global;
 
-// The bytes of an open slab.
-fn bytes_of(opens: &[(u64, OpenSlab)], slab: u64) -> &[u8]
-    ensures { result.now ≡ option_map_or (λ b. b.bytes) (at slab (slabs_in opens.now)) [] }
+// The open slab of a number.
+fn find_slab(opens: &[(u64, OpenSlab)], slab: u64) -> Option<&OpenSlab>
+    ensures { at slab (slabs_in opens.now) ≡ option_map (λ entry. slab_in entry.now) result }
 {
     for (number, open) in opens {
         if *number == slab {
-            return &open.bytes;
-        }
-    }
-    &[]
-}
-
-// The canary of an open slab.
-fn canary_of(opens: &[(u64, OpenSlab)], slab: u64) -> u64
-    ensures { result ≡ option_map_or (λ b. b.canary) (at slab (slabs_in opens.now)) 0 }
-{
-    for (number, open) in opens {
-        if *number == slab {
-            return open.canary;
-        }
-    }
-    0
-}
-
-// So many bytes from an offset on, or as many as there are.
-fn part(bytes: &[u8], offset: u64, len: u64) -> &[u8]
-    ensures { result.now ≡ take len (drop offset bytes.now) }
-{
-    let from = offset.min(bytes.len() as u64) as usize;
-    let rest = &bytes[from..];
-    &rest[..len.min(rest.len() as u64) as usize]
-}
-
-// One of the bytes, or 0 past them.
-fn byte(bytes: &[u8], index: usize) -> u8
-    ensures { result ≡ slice_index bytes.now index }
-{
-    bytes.get(index).copied().unwrap_or(0)
-}
-
-// The number whose bytes these are, lowest first.
-fn number_of(bytes: &[u8]) -> u64
-    ensures { result ≡ from_le_bytes w64 bytes.now }
-{
-    u64::from_le_bytes([
-        byte(bytes, 0),
-        byte(bytes, 1),
-        byte(bytes, 2),
-        byte(bytes, 3),
-        byte(bytes, 4),
-        byte(bytes, 5),
-        byte(bytes, 6),
-        byte(bytes, 7),
-    ])
-}
-
-// The first byte that is not zero: where it stands, and what it is.
-fn first_nonzero(bytes: &[u8]) -> Option<(u64, u8)>
-    ensures { result ≡ first_nonzero bytes.now }
-{
-    for i in 0..bytes.len() {
-        if bytes[i] != 0 {
-            return Some((i as u64, bytes[i]));
+            return Some(open);
         }
     }
     None
 }
 
+// One of the eight bytes from an offset on, or 0 past the last.
+fn byte(bytes: &SlabBytes, offset: usize, index: usize) -> u8
+    requires low { offset < 2 ^ 32 }
+    requires index { index < 8 }
+    ensures { result ≡ slice_index (take 8 (drop offset bytes.now)) index }
+{
+    bytes.get(offset + index).unwrap_or(0)
+}
+
+// The number whose bytes stand from an offset on, lowest first.
+fn number_at(bytes: &SlabBytes, offset: usize) -> u64
+    requires { offset < 2 ^ 32 }
+    ensures { result ≡ from_le_bytes w64 (take 8 (drop offset bytes.now)) }
+{
+    u64::from_le_bytes([
+        byte(bytes, offset, 0),
+        byte(bytes, offset, 1),
+        byte(bytes, offset, 2),
+        byte(bytes, offset, 3),
+        byte(bytes, offset, 4),
+        byte(bytes, offset, 5),
+        byte(bytes, offset, 6),
+        byte(bytes, offset, 7),
+    ])
+}
+
+// How far an address lies past the beginning of its slab.
+#[tactic(auto, using(crate::proofs::Addresses::slab_some, crate::proofs::Addresses::offset_is))]
+fn offset_of(shape: &Shape, addr: u64) -> u64
+    requires { IsShape shape.now }
+    ensures value { result ≡ addr - slab_at shape.now (slab_of shape.now addr) }
+    ensures low { result < 131072 }
+{
+    addr.saturating_sub(shape.first) % shape.slab
+}
+
 impl Book {
-    // The bytes of a slab from an address in it on.
-    #[tactic(auto, using(crate::proofs::Addresses::slab_some, crate::proofs::Addresses::offset_is))]
-    fn bytes_from(&self, shape: &Shape, addr: u64, len: u64) -> &[u8]
+    // The slab of an address, if it is open.
+    fn slab_with(&self, shape: &Shape, addr: u64) -> Option<&OpenSlab>
         requires { IsShape shape.now }
-        ensures { result.now ≡ bytes_from shape.now (state_in self.now) addr len }
+        ensures { at (slab_of shape.now addr) (state_in self.now).opens ≡ option_map (λ entry. slab_in entry.now) result }
     {
-        let slab = slab_of(shape, addr);
-        let offset = addr.saturating_sub(shape.first) % shape.slab;
-        part(bytes_of(&self.opens, slab), offset, len)
+        find_slab(&self.opens, slab_of(shape, addr))
     }
 
     /// The first usable byte of a slot that is not zero.
@@ -99,7 +76,12 @@ impl Book {
         requires { IsShape shape.now }
         ensures { result ≡ first_nonzero (usable_bytes shape.now (state_in self.now) addr) }
     {
-        first_nonzero(self.bytes_from(shape, addr, shape.usable()))
+        match self.slab_with(shape, addr) {
+            Some(slab) => slab
+                .bytes
+                .first_nonzero(offset_of(shape, addr), shape.usable()),
+            None => None,
+        }
     }
 
     /// The canary of the slab of an address.
@@ -107,7 +89,10 @@ impl Book {
         requires { IsShape shape.now }
         ensures { result ≡ kept_canary shape.now (state_in self.now) addr }
     {
-        canary_of(&self.opens, slab_of(shape, addr))
+        match self.slab_with(shape, addr) {
+            Some(slab) => slab.canary,
+            None => 0,
+        }
     }
 
     /// The last 8 bytes of a slot, as a number.
@@ -116,7 +101,11 @@ impl Book {
         requires below { addr + 131072 < 2 ^ 64 }
         ensures { result ≡ found_canary shape.now (state_in self.now) addr }
     {
-        number_of(self.bytes_from(shape, addr + shape.usable(), 8))
+        let end = addr + shape.usable();
+        match self.slab_with(shape, end) {
+            Some(slab) => number_at(&slab.bytes, offset_of(shape, end) as usize),
+            None => 0,
+        }
     }
 
     // The byte at an address.
@@ -126,8 +115,10 @@ impl Book {
         ensures { result ≡ byte_at shape.now (state_in self.now) addr }
     {
         let offset = addr.checked_sub(shape.first)?;
-        let bytes = bytes_of(&self.opens, offset / shape.slab);
-        bytes.get((offset % shape.slab) as usize).copied()
+        match find_slab(&self.opens, offset / shape.slab) {
+            Some(slab) => slab.bytes.get((offset % shape.slab) as usize),
+            None => None,
+        }
     }
 
     // Whether there is a byte at an address.

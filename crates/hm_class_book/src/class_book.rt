@@ -280,7 +280,6 @@ impl ClassBook {
         let before = self.book.kind(&self.region.shape, slab);
         let counts = (entry.faults_before, entry.faults_after);
         let legal = self.book.take_freed(
-            self.alloc,
             &self.region,
             self.lists.empty.len(),
             counts,

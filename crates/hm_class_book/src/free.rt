@@ -14,24 +14,22 @@ use crate::choices::are_freeing;
 use crate::places::slab_of;
 use crate::refusals::wrong_size;
 use crate::region::Region;
-use crate::slabs::write_slabs;
+use crate::slabs::fill_slabs;
 use crate::sources::is_same;
 use hm_base::NoMemory;
 use hm_model::{Call, Choices, Reply};
 use hm_sizes::Shape;
-use std::alloc::Global;
 
 // The bytes that the empty slabs may come to.
 const EMPTY_BYTES: u128 = 131_072;
 
 impl Book {
     // The live slot at an address goes into quarantine, zeroed.
-    fn take_back(&mut self, alloc: Global, shape: &Shape, addr: u64) -> Result<(), NoMemory>
+    fn take_back(&mut self, shape: &Shape, addr: u64) -> Result<(), NoMemory>
         requires { addr + usable shape.now < 2 ^ 64 }
         ensures { OnOk result (state_in self.new ≡ takes_back shape.now addr (state_in self.old)) }
     {
-        let zeros = vec![in alloc; 0u8; shape.usable() as usize]?;
-        write_slabs(&mut self.opens, shape, addr, &zeros);
+        fill_slabs(&mut self.opens, shape, addr, 0, shape.usable());
         remove_block(&mut self.live, addr);
         put_front(&mut self.frees, addr)?;
         put_first(&mut self.held, addr)?;
@@ -159,7 +157,6 @@ impl Book {
     /// Takes a live block back. It says whether it may be taken back so. `others` is how many slabs are empty.
     pub fn take_freed(
         &mut self,
-        alloc: Global,
         region: &Region,
         others: usize,
         counts: (u64, u64),
@@ -178,7 +175,7 @@ impl Book {
         if !self.may_free(shape, choices, addr, stated) {
             return Ok(false);
         }
-        self.take_back(alloc, shape, addr)?;
+        self.take_back(shape, addr)?;
         if !self.release(shape, choices.released) {
             return Ok(false);
         }
@@ -188,22 +185,20 @@ impl Book {
         }
         self.unpark(choices.unparked)?;
         self.retire(choices.retired)?;
-        self.purge(alloc, shape, choices.purged)?;
+        self.purge(shape, choices.purged);
         Ok(true)
     }
 
     // The bytes of a slab become zero, if they are purged.
-    fn purge(&mut self, alloc: Global, shape: &Shape, purged: Option<u64>) -> Result<(), NoMemory>
+    fn purge(&mut self, shape: &Shape, purged: Option<u64>)
         requires shape { IsShape shape.now }
         requires below { IfSome purged (λ n. n < shape.now.limit) }
-        ensures { OnOk result (state_in self.new ≡ purges shape.now purged (state_in self.old)) }
+        ensures { state_in self.new ≡ purges shape.now purged (state_in self.old) }
     {
         if let Some(slab) = purged {
-            let zeros = vec![in alloc; 0u8; shape.slab as usize]?;
             let addr = shape.first + slab * shape.slab;
-            write_slabs(&mut self.opens, shape, addr, &zeros);
+            fill_slabs(&mut self.opens, shape, addr, 0, shape.slab);
         }
-        Ok(())
     }
 }
 

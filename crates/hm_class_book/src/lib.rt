@@ -18,6 +18,7 @@ mod overlay;
 mod places;
 mod refusals;
 mod region;
+mod slab_bytes;
 mod slabs;
 mod sources;
 #[cfg(test)]

@@ -92,5 +92,5 @@ returns-clause-state c = λ e.
     (let p = c.args.region.now.shape in
     let ch = c.args.choices.now in
     let is = c.release.ensures.state c.if-not-release.false ∙ ap (releases ch.released) c.in_ok-take_back.ensures in
-    c.in_ok-purge.ensures
+    c.purge.ensures
     ∙ ap (purges p ch.purged) (c.in_ok-retire.ensures ∙ ap (retires ch.retired) (c.in_ok-unpark.ensures ∙ ap (unparks ch.unparked) is)))

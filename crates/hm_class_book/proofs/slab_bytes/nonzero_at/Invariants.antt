@@ -1,5 +1,5 @@
 use Rattle.std.proofs.Common.{◌≡◌, ◌<◌, ℕ, get_or}
-use Rattle.hm_class_book.proofs.bytes.first_nonzero.Given as goal
+use Rattle.hm_class_book.proofs.slab_bytes.nonzero_at.Given as goal
 
 abbrev pub invariant-loop-i : goal.invariant-loop-i
 invariant-loop-i l = (k : ℕ) → k < l.i → get_or l.bytes k 0 ≡ 0
