@@ -197,7 +197,7 @@ module _ {told : Bool} {runs : PageRuns} {faults : ℕ} {region : Identity} {es 
       let fresh = is_new kept n f.0.1 in
       let s₁ : State = opened region.shape (Some n) cv first in
       let uses₁ : Uses = with_open (taken_uses (numbers_of region.shape) first.shut store.slabs.slabs) n (unwrap_or cv 0) in
-      let items : store₁.slabs.slabs ≡ uses₁ = then_items kept n cv f.0.1 store₁.slabs q.slabs in
+      let items : store₁.slabs.slabs ≡ uses₁ = then_items kept n cv f.0.1 store₁.slabs q.opened.slabs in
       let shut : List ℕ = store.slabs.lists.retired in
       let loose = loose_now kept n fresh.off in
       let there : is_some (slab_in (taken_uses store.slabs.numbers shut store.slabs.slabs) n) ≡ true = (can_open kept meaning begun told_begun runs_begun n f.0.1).there in
@@ -216,22 +216,22 @@ module _ {told : Bool} {runs : PageRuns} {faults : ℕ} {region : Identity} {es 
         shows = (subst (λ (u : Uses). Shows region.shape u s₁) (sym items) shows₁);
         slabs = (λ y. subst (λ (r : PageRuns). HoldsSlabs region.shape s₁.opens r) (sym (q.made (told_begun ∙ y) ∙ ap (λ (r : PageRuns). made_page_runs region.shape n r) runs_begun)) (holds_made region.shape first.opens n (unwrap_or cv 0) runs region.served.shape (kept.slabs y)));
         live_all = (omega (arith, kept.follows.live_all, ap live_count items, live_opened (numbers_of region.shape) first.shut store.slabs.slabs n (unwrap_or cv 0) fresh.there, ap (λ (l : List (ℕ × ℕ)). length l) (opened_live region.shape (Some n) cv first)));
-        shut = (ap (λ (l : Lists). l.retired) q.lists ∙ opened_shut store.slabs.lists n loose shut refl (first_is_shut store.slabs.numbers.limit (length store.slabs.slabs) n shut f.0.1)
+        shut = (ap (λ (l : Lists). l.retired) q.opened.lists ∙ opened_shut store.slabs.lists n loose shut refl (first_is_shut store.slabs.numbers.limit (length store.slabs.slabs) n shut f.0.1)
             ∙ ap (λ (l : List ℕ). still_shut l) kept.follows.shut ∙ shut_after region.shape first);
-        stands = (subst (λ (l : Lists). Stands l n Empty) (sym q.lists) (opened_stands store.slabs.lists n loose shut (λ e. e)));
-        full = (subst (λ (l : Lists). AreFull store₁.slabs.slabs l.full) (sym q.lists) (opened_are_full store.slabs.slabs store₁.slabs.slabs store.slabs.lists n shut loose kept.follows.full
-            (λ m ne. ap (λ (u : Uses). slab_in u m) q.slabs ∙ opened_beside store.slabs.numbers shut store.slabs.slabs n (unwrap_or cv 0) m f.0.1 there ne)));
-        numbers = (q.numbers ∙ kept.follows.numbers);
-        partial = (λ after. ap (λ (l : Lists). listed Partial n Empty after l.partial) q.lists ∙ ap (λ (l : List ℕ). listed Partial n Empty after l) (opened_partial store.slabs.lists n loose shut)
+        stands = (subst (λ (l : Lists). Stands l n Empty) (sym q.opened.lists) (opened_stands store.slabs.lists n loose shut (λ e. e)));
+        full = (subst (λ (l : Lists). AreFull store₁.slabs.slabs l.full) (sym q.opened.lists) (opened_are_full store.slabs.slabs store₁.slabs.slabs store.slabs.lists n shut loose kept.follows.full
+            (λ m ne. ap (λ (u : Uses). slab_in u m) q.opened.slabs ∙ opened_beside store.slabs.numbers shut store.slabs.slabs n (unwrap_or cv 0) m f.0.1 there ne)));
+        numbers = (q.opened.numbers ∙ kept.follows.numbers);
+        partial = (λ after. ap (λ (l : Lists). listed Partial n Empty after l.partial) q.opened.lists ∙ ap (λ (l : List ℕ). listed Partial n Empty after l) (opened_partial store.slabs.lists n loose shut)
             ∙ opened_then_partial n after store.slabs.lists.partial);
-        empty = (λ after. ap (λ (l : Lists). listed Empty n Empty after l.empty) q.lists ∙ ap (λ (l : List ℕ). listed Empty n Empty after l) (opened_empty store.slabs.lists n loose shut)
+        empty = (λ after. ap (λ (l : Lists). listed Empty n Empty after l.empty) q.opened.lists ∙ ap (λ (l : List ℕ). listed Empty n Empty after l) (opened_empty store.slabs.lists n loose shut)
             ∙ opened_then_empty n after store.slabs.lists.empty loose.empty);
         was_kind = (kind_shut region.shape first n region.served.shape fresh.off);
         are = (start_draws_are canary (start_word region.config store₁.stream));
         taken = (subst (λ (x : Words). after_words store.stream (start_draws canary (start_word region.config x)).used ≡ start_stream region.config x) (sym q.stream_is)
             (subst (λ (x : Option Canary). after_words store.stream (start_draws x (start_word region.config (canary_stream region.shape store.stream))).used ≡ start_stream region.config (canary_stream region.shape store.stream)) (sym q.canary_is) (after_new region.config region.shape store.stream)));
         quarantine = q.quarantine_same;
-        parking = q.parking;
+        parking = q.opened.parking;
         source = (refl, none_serves f.0.0, next_new (Some n) f.0.1);
         has_canary = (ap (λ (x : Option Canary). is_some (canary_value x)) q.canary_is ∙ canary_there region.shape store.stream);
         chosen = refl;

@@ -27,7 +27,7 @@ module _ {P : Type 0} (meaning : pages.Ghosts P) (region : Identity) (store stor
       → live_count store₁.slabs.slabs ≡ live_count store.slabs.slabs
   found_live opens (next.Open n) f = ap live_count f.1.0.slabs
   found_live opens (next.New n canary) f =
-      ap live_count f.1.slabs ∙ live_opened store.slabs.numbers store.slabs.lists.retired store.slabs.slabs n (unwrap_or (canary_value canary) 0) (opens n f.0.1).there
+      ap live_count f.1.opened.slabs ∙ live_opened store.slabs.numbers store.slabs.lists.retired store.slabs.slabs n (unwrap_or (canary_value canary) 0) (opens n f.0.1).there
   found_live opens next.Exhausted f = ap live_count f.1.0.slabs
   found_live opens next.PagesFailed f = ap live_count f.2.slabs
 
@@ -55,7 +55,7 @@ module _ {P : Type 0} (meaning : pages.Ghosts P) (region : Identity) (store stor
 module _ {P : Type 0} (meaning : pages.Ghosts P) (region : Identity) (store store₁ store' : Store) (begun mid now : P) where
   pub found_parking : (n : NextSlab) → Finds meaning store store₁ begun mid region.shape n → store₁.slabs.parking ≡ store.slabs.parking
   found_parking (next.Open n) f = f.1.0.lists.parking
-  found_parking (next.New n canary) f = f.1.parking
+  found_parking (next.New n canary) f = f.1.opened.parking
   found_parking next.Exhausted f = f.1.0.lists.parking
   found_parking next.PagesFailed f = f.2.lists.parking
 

@@ -119,6 +119,6 @@ module _ {told : Bool} {runs : PageRuns} {faults : ℕ} {region : Identity} {es 
       (open_place region.shape now_is n 0 (sound_now kept) (serving_open n f.0) (omega (arith, region.served.shape.slots_some))).below kept.follows.shows (serving n f.0) few
   can_serve meaning begun mid store₁ (next.New n canary) f few =
       can_pick region.shape store₁.slabs (then_uses n (canary_value canary) f.0.1) (then n (canary_value canary) f.0.1) n
-      (then_items n (canary_value canary) f.0.1 store₁.slabs f.1.slabs) (is_new n f.0.1).below (opened_shows n (canary_value canary) f.0.1) (opened_serves n (canary_value canary) f.0.1) few
+      (then_items n (canary_value canary) f.0.1 store₁.slabs f.1.opened.slabs) (is_new n f.0.1).below (opened_shows n (canary_value canary) f.0.1) (opened_serves n (canary_value canary) f.0.1) few
   can_serve meaning begun mid store₁ next.Exhausted f few = tt
   can_serve meaning begun mid store₁ next.PagesFailed f few = tt

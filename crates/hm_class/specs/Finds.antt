@@ -17,14 +17,14 @@ use Rattle.hm_class.specs.declared.event.Event.{Event}
 use Rattle.hm_model.specs.declared.entry.Reply.{Reply}
 use Rattle.hm_model.specs.declared.entry.Reply.TheVariants as reply
 use Rattle.hm_class.specs.declared.store.Store.{Store}
-use Rattle.hm_class.specs.Slabs.{Slabs, SameLists, taken_of, list_of, opened_lists}
+use Rattle.hm_class.specs.Slabs.{Slabs, SameLists, taken_of, list_of, OpensSlab}
 use Rattle.hm_class.specs.declared.slabs.Slot.{Slot}
 use Rattle.hm_slab_lists.specs.declared.slab_lists.Place.TheVariants.{Exhausted}
 use Rattle.hm_model.specs.Calls.{no_choices}
 use Rattle.hm_class.specs.Gives.{Gives}
 use Rattle.hm_class.specs.Events.{plain, canary_value, chose_opened, start_draws}
 use Rattle.hm_class.specs.Sources.{Sources, OpensNext, front_of}
-use Rattle.hm_class.specs.Uses.{Uses, SlabUse, slab_in, open_at, use_at, occupied, kind_at, first_at, with_open, live_count}
+use Rattle.hm_class.specs.Uses.{Uses, SlabUse, slab_in, open_at, use_at, occupied, kind_at, first_at, live_count}
 
 -- ---- opening
 -- the runs once slab n was made accessible
@@ -103,10 +103,7 @@ module _ {P : Type 0} (meaning : pages.Ghosts P) (old new : Store) (before now :
   module _ (p : Shape) where
     -- slab n was opened with this canary
     pub record Opens (n : ℕ) (canary : Option Canary) : Type 0 where
-      pub slabs : new.slabs.slabs ≡ with_open (taken_of old.slabs) n (unwrap_or (canary_value canary) 0)
-      pub lists : new.slabs.lists ≡ opened_lists n old.slabs.lists
-      pub parking : new.slabs.parking ≡ old.slabs.parking
-      pub numbers : new.slabs.numbers ≡ old.slabs.numbers
+      pub opened : OpensSlab n (unwrap_or (canary_value canary) 0) old.slabs new.slabs
       pub quarantine_same : new.quarantine ≡ old.quarantine
       pub told_same : meaning.told now ≡ meaning.told before
       pub made : IsTrue (meaning.told before) → meaning.runs now ≡ made_page_runs p n (meaning.runs before)

@@ -8,7 +8,7 @@ use Rattle.hm_slab_lists.specs.declared.slab.ListName.TheVariants as name
 use Rattle.hm_slab_lists.specs.Lists.{Lists, no_lists, gone, headed}
 use Rattle.hm_slab_lists.specs.Table.{Table, is_open, unparked}
 use Rattle.hm_slab_meta.specs.Uses as meta
-use Rattle.hm_class.specs.Uses.{Uses, SlabUse, Numbers, with_shut, taken_uses}
+use Rattle.hm_class.specs.Uses.{Uses, SlabUse, Numbers, with_open, with_shut, taken_uses}
 
 pub record Slabs : Type 0 where
   -- how the slots of each slab are used
@@ -65,6 +65,13 @@ pub record SameLists (old new : Slabs) : Type 0 where
 -- the slots are as before
 pub record SameSlots (old new : Slabs) : Type 0 where
   pub slabs : new.slabs ≡ old.slabs
+  pub parking : new.parking ≡ old.parking
+  pub numbers : new.numbers ≡ old.numbers
+
+-- slab n, which is opened next, was opened with this canary
+pub record OpensSlab (n canary : ℕ) (old new : Slabs) : Type 0 where
+  pub slabs : new.slabs ≡ with_open (taken_of old) n canary
+  pub lists : new.lists ≡ opened_lists n old.lists
   pub parking : new.parking ≡ old.parking
   pub numbers : new.numbers ≡ old.numbers
 

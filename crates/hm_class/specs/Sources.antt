@@ -1,5 +1,5 @@
 -- Where a block comes from, and what is said of one that is given back.
-use Rattle.std.specs.Prelude.{◌≡◌, ℕ, true, false, Option, Some, None, Result, Ok, Err, length, option_map, IfSome, ◌<◌}
+use Rattle.std.specs.Prelude.{◌≡◌, ℕ, true, false, Option, Some, None, is_some, Result, Ok, Err, length, option_map, IfSome, ◌<◌}
 use Rattle.hm_model.specs.declared.entry.Reply.{Reply}
 use Rattle.hm_model.specs.declared.entry.Reply.TheVariants as reply
 use Rattle.hm_sizes.specs.declared.shape.Shape.{Shape}
@@ -9,7 +9,7 @@ use Rattle.hm_class_rules.specs.Stepped.{front}
 use Rattle.hm_slab_lists.specs.declared.slab_lists.Place.{Place}
 use Rattle.hm_slab_lists.specs.declared.slab_lists.Place.TheVariants.{Partial, Empty, Retired, Fresh, Exhausted}
 use Rattle.hm_slab_meta.specs.Uses.{Live, was_given}
-use Rattle.hm_class.specs.Slabs.{Slabs}
+use Rattle.hm_class.specs.Slabs.{Slabs, taken_of, HasRoom}
 use Rattle.hm_class.specs.declared.slabs.Slot.{Slot}
 use Rattle.hm_class.specs.Uses.{Uses, SlabUse, slab_in, occupied, lives, use_at, passes_at}
 
@@ -36,6 +36,12 @@ new_of k = unopened_below k.numbers.limit k.lists.retired (length k.slabs)
 -- slab n is opened next: no open slab serves
 abbrev pub OpensNext : Slabs → ℕ → Type 0
 OpensNext k n = (front_of k ≡ None) × (new_of k ≡ Some n)
+
+-- it can be opened: it is there, and there is room for it
+pub record CanTake (k : Slabs) (n : ℕ) : Type 0 where
+  pub next : OpensNext k n
+  pub there : is_some (slab_in (taken_of k) n) ≡ true
+  pub room : HasRoom k
 
 -- where the next block comes from
 abbrev pub Sources : Slabs → Place → Type 0

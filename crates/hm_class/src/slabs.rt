@@ -1,13 +1,13 @@
 //! The slabs of a region by number, the lists in which they stand, and how many of their slots are live; and
 //! what stands at an address.
-ghost use Rattle.std.specs.Prelude.{◌≡◌, ℕ, ◌+◌, ◌<◌, ◌≤◌, ◌^◌, Some, None, true, is_some, length, slice_index_or, IfOk, IsOk, OnOk, OnErr};
+ghost use Rattle.std.specs.Prelude.{◌≡◌, ℕ, ◌+◌, ◌<◌, ◌≤◌, ◌^◌, Some, None, true, length, slice_index_or, IfOk, IsOk, OnOk, OnErr};
 ghost use Rattle.hm_sizes.specs.Shapes.{place, slab_of, slot_of};
 ghost use Rattle.hm_class_rules.specs.Kinds.{Empty, same_kind};
 ghost use Rattle.hm_slab_lists.specs.Lists.{placed};
 ghost use Rattle.hm_slab_meta.specs.Uses.{Live, Held, Free, was_given};
-ghost use Rattle.hm_class.specs.Slabs.{HasRoom, no_slabs, with_spare, taken_of, list_of, opened_lists, SameLists, SameSlots, Parks};
-ghost use Rattle.hm_class.specs.Sources.{IsAvailable, IsWithin, AreWhole, OpensNext, Sources, Judges};
-ghost use Rattle.hm_class.specs.Uses.{numbers_of, slab_in, open_at, kind_at, use_at, passes_at, lives, canary_at, first_at, with_use, with_condemned, with_open, with_canary_at, live_count};
+ghost use Rattle.hm_class.specs.Slabs.{HasRoom, no_slabs, with_spare, list_of, OpensSlab, SameLists, SameSlots, Parks};
+ghost use Rattle.hm_class.specs.Sources.{IsAvailable, IsWithin, AreWhole, CanTake, OpensNext, Sources, Judges};
+ghost use Rattle.hm_class.specs.Uses.{numbers_of, open_at, kind_at, use_at, passes_at, lives, canary_at, first_at, with_use, with_condemned, with_canary_at, live_count};
 
 use crate::identity::Identity;
 use hm_base::NoMemory;
@@ -210,13 +210,8 @@ impl Slabs {
 
     // Opens the first of the slabs that are shut, or a fresh one. It takes no memory.
     fn take_new(&mut self, slab: u64)
-        requires source { OpensNext self.old slab }
-        requires there { is_some (slab_in (taken_of self.old) slab) ≡ true }
-        requires room { HasRoom self.old }
-        ensures slabs { self.new.slabs ≡ with_open (taken_of self.old) slab (canary_at self.old.slabs slab) }
-        ensures lists { self.new.lists ≡ opened_lists slab self.old.lists }
-        ensures parking { self.new.parking ≡ self.old.parking }
-        ensures numbers { self.new.numbers ≡ self.old.numbers }
+        requires { CanTake self.old slab }
+        ensures { OpensSlab slab (canary_at self.old.slabs slab) self.old self.new }
     {
         match self.lists.next_source() {
             Place::Retired(_) => self.lists.open_retired(slab),
@@ -229,13 +224,8 @@ impl Slabs {
 
     /// Opens the slab that comes next, with a canary. It takes no memory.
     pub fn open(&mut self, slab: u64, canary: u64)
-        requires source { OpensNext self.old slab }
-        requires there { is_some (slab_in (taken_of self.old) slab) ≡ true }
-        requires room { HasRoom self.old }
-        ensures slabs { self.new.slabs ≡ with_open (taken_of self.old) slab canary }
-        ensures lists { self.new.lists ≡ opened_lists slab self.old.lists }
-        ensures parking { self.new.parking ≡ self.old.parking }
-        ensures numbers { self.new.numbers ≡ self.old.numbers }
+        requires { CanTake self.old slab }
+        ensures { OpensSlab slab canary self.old self.new }
     {
         self.take_new(slab);
         self.set_canary(slab, canary);
