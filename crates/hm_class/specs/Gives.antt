@@ -57,7 +57,8 @@ module _ {P : Type 0} (meaning : pages.Ghosts P) (region : Identity) (old new : 
       pub addr_is : a ≡ place region.shape s.slab s.index
       pub stained : Stains meaning region.config region.shape before a (Some (at, found))
       pub pages : KeepsPages meaning before now
-      pub slabs : new.slabs ≡ with_use old.slabs s.slab s.index (Condemned (passes_at was_given old.slabs s.slab s.index))
+      pub slabs : new.slabs
+          ≡ with_use old.slabs s.slab s.index (Condemned (passes_at was_given old.slabs s.slab s.index))
       pub same : IsTrue (meaning.told before) → meaning.runs now ≡ meaning.runs before
 
     abbrev pub Gives : Reply → Type 0

@@ -125,8 +125,8 @@ RegionsApart {P} meaning o closed = (place other : ℕ) (p their_p : P) (entries
 
 -- ---- what a journal tells
 -- a run wrote the journal of this heap, with these options, to a sink that was empty, and now tells that it holds this text
-pub record WritesJournal {P : Type 0} (meaning : pages.Ghosts P) (run : Run P) (o : Options) (left : Closed P) (text : List ℕ)
-    : Type 0 where
+pub record WritesJournal {P : Type 0} (meaning : pages.Ghosts P) (run : Run P) (o : Options) (left : Closed P)
+    (text : List ℕ) : Type 0 where
   pub words : List (String Global)
   pub source : Stream
   pub sink : Stream

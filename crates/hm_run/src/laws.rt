@@ -95,7 +95,8 @@ pub fn usage_is_exact<P: Pages>()
     ensures only { (words : List (String Global)) (run : Run P) (source sink : Stream)
         → Ends P.Pages words run source sink → run.status ≡ code_of Usage → asked_in words ≡ None }
     ensures unaccepted { (words : List (String Global)) (run : Run P) (source sink : Stream)
-        → Ends P.Pages words run source sink → asked_in words ≡ None → (HasFailed sink → ⊥) → run.status ≡ code_of Usage }
+        → Ends P.Pages words run source sink → asked_in words ≡ None → (HasFailed sink → ⊥)
+        → run.status ≡ code_of Usage }
 {}
 
 /// A run ends with 3 only where the words ask for a source to be run, and its bytes, read to their end, have a first
@@ -121,7 +122,8 @@ pub fn faults_show<P: Pages>()
     ensures source_only { (words : List (String Global)) (run : Run P) (source sink : Stream)
         → Ends P.Pages words run source sink → run.status ≡ code_of ReadFault → HasFailed source }
     ensures source_shows { (words : List (String Global)) (run : Run P) (source sink : Stream)
-        → Ends P.Pages words run source sink → (IsSound source → ⊥) → (run.status ≡ code_of ReadFault) ⊎ (run.status ≡ code_of WriteFault) }
+        → Ends P.Pages words run source sink → (IsSound source → ⊥)
+        → (run.status ≡ code_of ReadFault) ⊎ (run.status ≡ code_of WriteFault) }
     ensures sink_only { (words : List (String Global)) (run : Run P) (source sink : Stream)
         → Ends P.Pages words run source sink → run.status ≡ code_of WriteFault → HasFailed sink }
     ensures sink_shows { (words : List (String Global)) (run : Run P) (source sink : Stream)
