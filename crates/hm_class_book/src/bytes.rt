@@ -1,5 +1,5 @@
 //! The bytes of open slabs.
-ghost use Rattle.std.specs.Prelude.{◌≡◌, ◌+◌, ◌<◌, ◌^◌, [], take, drop, slice_index, is_some, IfOk};
+ghost use Rattle.std.specs.Prelude.{◌≡◌, ◌+◌, ◌++◌, ◌<◌, ◌≤◌, ◌^◌, ℕ, None, [], length, take, drop, slice_get, slice_index, IfOk};
 ghost use Rattle.std.specs.Option.{option_map_or};
 ghost use Rattle.std.specs.Int.{from_le_bytes};
 ghost use mir.Syntax.{w64};
@@ -119,23 +119,25 @@ impl Book {
         number_of(self.bytes_from(shape, addr + shape.usable(), 8))
     }
 
-    // The byte at an address.
+    // The bytes of a slab from an address on, where it is accessible.
     #[tactic(auto, using(crate::proofs::Addresses::slab_some))]
-    fn byte_at(&self, shape: &Shape, addr: u64) -> Option<u8>
+    fn rest(&self, shape: &Shape, addr: u64) -> &[u8]
         requires { IsShape shape.now }
-        ensures { result ≡ byte_at shape.now (state_in self.now) addr }
+        ensures bytes { (k : ℕ) → k < length result.now
+            → byte_at shape.now (state_in self.now) (addr + k) ≡ slice_get result.now k }
+        ensures none { length result.now ≡ 0 → byte_at shape.now (state_in self.now) addr ≡ None }
     {
-        let offset = addr.checked_sub(shape.first)?;
-        let bytes = bytes_of(&self.opens, offset / shape.slab);
-        bytes.get((offset % shape.slab) as usize).copied()
-    }
-
-    // Whether there is a byte at an address.
-    fn is_accessible(&self, shape: &Shape, addr: u64) -> bool
-        requires { IsShape shape.now }
-        ensures { result ≡ is_some (byte_at shape.now (state_in self.now) addr) }
-    {
-        self.byte_at(shape, addr).is_some()
+        match addr.checked_sub(shape.first) {
+            Some(offset) => {
+                let from = offset % shape.slab;
+                part(
+                    bytes_of(&self.opens, offset / shape.slab),
+                    from,
+                    shape.slab - from,
+                )
+            }
+            None => &[],
+        }
     }
 
     /// The first address of a range that is not accessible.
@@ -144,16 +146,44 @@ impl Book {
         requires range { addr + len < 2 ^ 64 }
         ensures { result ≡ first_trap shape.now (state_in self.now) addr len }
     {
-        for at in addr..addr + len {
-            if !self.is_accessible(shape, at) {
+        let end = addr + len;
+        let mut at = addr;
+        while at < end {
+            let left = self.rest(shape, at).len() as u64;
+            if left == 0 {
                 return Some(at);
             }
+            at = end.min(at.saturating_add(left));
         }
         None
     }
 
+    // Adds the bytes from an address on, at most so many and no more than its slab has, or a zero where it is not
+    // accessible. It says how many.
+    fn add_rest(
+        &self,
+        shape: &Shape,
+        addr: u64,
+        most: u64,
+        bytes: &mut Vec<u8>,
+    ) -> Result<u64, NoMemory>
+        requires shape { IsShape shape.now }
+        requires some { 1 ≤ most }
+        ensures added { IfOk result (λ n. bytes.new.items
+            ≡ bytes.old.items ++ bytes_read shape.now (state_in self.now) addr n) }
+        ensures some { IfOk result (λ n. 1 ≤ n) }
+        ensures few { IfOk result (λ n. n ≤ most) }
+    {
+        let rest = part(self.rest(shape, addr), 0, most);
+        if rest.is_empty() {
+            bytes.push(0)?;
+            return Ok(1);
+        }
+        bytes.extend_from_slice(rest)?;
+        Ok(rest.len() as u64)
+    }
+
     /// The bytes of a range, of which those that are not accessible count as zero.
-    #[tactic(auto, using(crate::proofs::Lookups::read_next))]
     pub fn bytes_read(
         &self,
         alloc: Global,
@@ -165,9 +195,11 @@ impl Book {
         requires range { addr + len < 2 ^ 64 }
         ensures { IfOk result (λ bytes. bytes.items ≡ bytes_read shape.now (state_in self.now) addr len) }
     {
+        let end = addr + len;
         let mut bytes = Vec::new(alloc);
-        for at in addr..addr + len {
-            bytes.push(self.byte_at(shape, at).unwrap_or(0))?;
+        let mut at = addr;
+        while at < end {
+            at += self.add_rest(shape, at, end - at, &mut bytes)?;
         }
         Ok(bytes)
     }
