@@ -14,3 +14,4 @@ pub mod Settled
 pub mod Founds
 pub mod Queues
 pub mod Rests
+pub mod RunWrites
