@@ -13,3 +13,5 @@ pub mod Reaching
 pub mod Settled
 pub mod Founds
 pub mod Queues
+pub mod Rests
+pub mod RunWrites

@@ -1,13 +1,13 @@
 -- What a list of open slabs has at a number, and searches in ranges.
 use Rattle.std.proofs.Common.{◌≡◌, ◌≢◌, ◌⊎◌, ⊎_elim, ℕ, zero, suc, ◌+◌, ◌-◌, ◌<◌, ◌≤◌, ◌==◌, Bool, true, false, cond, not, ◌||◌, List, [], ◌∷◌, ◌++◌, take, length, get_or, Option, Some, None, is_some, sym, ◌∙◌, ap, subst, refl, arith, true≢false}
-use Rattle.std.specs.Prelude.{find, unwrap_or, IfSome}
+use Rattle.std.specs.Prelude.{find, IfSome}
 use Rattle.std.specs.List.{list_any, range_with_len, filter}
 use Rattle.std.proofs.lemmas.Bool.{cases_lt}
 use Rattle.std.proofs.lemmas.Option.{none-some}
 use Rattle.hm_model.specs.Maps.{at, has, removed}
 use Rattle.hm_model.proofs.Lists.{same_eq, other_eq}
 use Rattle.hm_class_rules.specs.State.{Slab}
-use Rattle.hm_model.specs.Ranges.{first_failing, bytes_read}
+use Rattle.hm_model.specs.Ranges.{first_failing}
 use Rattle.hm_class_book.specs.declared.book.OpenSlab.{OpenSlab}
 use Rattle.hm_class_book.specs.Book.{slab_in, slabs_in}
 
@@ -52,13 +52,6 @@ failing_none test a zero all = refl
 failing_none test a (suc len) all =
     ap (λ b. cond b (first_failing test (a + 1) len) (Some a)) (all a (omega arith) (omega arith))
     ∙ failing_none test (a + 1) len (λ k more under. all k (omega (arith, more)) (omega (arith, under)))
-
--- one byte more
-pub read_more : (byte : ℕ → Option ℕ) (a len : ℕ) → bytes_read byte a (suc len) ≡ bytes_read byte a len ++ unwrap_or (byte (a + len)) 0 ∷ []
-read_more byte a zero = ap (λ (n : ℕ). unwrap_or (byte n) 0 ∷ []) (omega arith)
-read_more byte a (suc len) =
-    ap (λ (l : List ℕ). unwrap_or (byte a) 0 ∷ l) (read_more byte (a + 1) len)
-    ∙ ap (λ (n : ℕ). unwrap_or (byte a) 0 ∷ (bytes_read byte (a + 1) len ++ unwrap_or (byte n) 0 ∷ [])) (omega arith)
 
 -- the first of a range that passes a test
 pub find_found : (f : ℕ → Bool) (a n j : ℕ) → a ≤ j → j < a + n → f j ≡ true → ((k : ℕ) → a ≤ k → k < j → f k ≡ false) → find f (range_with_len a n) ≡ Some j
@@ -124,13 +117,6 @@ find_below f a (suc n) limit o is le =
       | true ↦ λ h. subst (λ (x : Option ℕ). IfSome x (λ i. i < limit)) (sym h) (omega (arith, le))
       | false ↦ λ h. find_below f (a + 1) n limit o h (omega (arith, le))
     ] is
-
-pub read_next : (byte : ℕ → Option ℕ) (a q : ℕ) → a ≤ q → bytes_read byte a (q + 1 - a) ≡ bytes_read byte a (q - a) ++ unwrap_or (byte q) 0 ∷ []
-read_next byte a q le =
-    let more : q + 1 - a ≡ suc (q - a) = omega (arith, le) in
-    let here : a + (q - a) ≡ q = omega (arith, le) in
-    ap (λ (n : ℕ). bytes_read byte a n) more ∙ read_more byte a (q - a)
-    ∙ ap (λ (n : ℕ). bytes_read byte a (q - a) ++ unwrap_or (byte n) 0 ∷ []) here
 
 -- a list without a slab
 pub slabs_removed : (n : ℕ) (es : List (ℕ × OpenSlab)) → slabs_in (filter (λ e. not (e.0 == n)) es) ≡ removed n (slabs_in es)

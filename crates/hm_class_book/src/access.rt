@@ -10,7 +10,7 @@ ghost use Rattle.hm_class_book.specs.Book.{state_in, terms};
 use crate::book::Book;
 use crate::choices::are_none;
 use crate::region::Region;
-use crate::slabs::write_slabs;
+use crate::slabs::write_runs;
 use crate::sources::is_same;
 use hm_base::NoMemory;
 use hm_model::{Call, Choices, Reply, Runs};
@@ -129,30 +129,22 @@ impl Book {
     }
 
     /// Writes bytes, where all are accessible. It says whether they are.
-    pub fn fill(
-        &mut self,
-        alloc: Global,
-        region: &Region,
-        choices: &Choices,
-        addr: u64,
-        runs: &Runs,
-    ) -> Result<bool, NoMemory>
+    pub fn fill(&mut self, region: &Region, choices: &Choices, addr: u64, runs: &Runs) -> bool
         requires shape { IsShape region.now.shape }
         requires range { AsksRange (Call.Fill addr runs.now) }
-        ensures legal { (before now : ℕ) → IfOk result (λ r. IsTrue r
-            ↔ Allows (terms region.now) (state_in self.old) before now choices.now (Call.Fill addr runs.now) Reply.Filled) }
-        ensures state { IfOk result (λ r. IsTrue r → state_in self.new
-            ≡ write region.now.shape addr (expand runs.now) (state_in self.old)) }
+        ensures legal { (before now : ℕ) → IsTrue result
+            ↔ Allows (terms region.now) (state_in self.old) before now choices.now (Call.Fill addr runs.now) Reply.Filled }
+        ensures state { IsTrue result
+            → state_in self.new ≡ write region.now.shape addr (expand runs.now) (state_in self.old) }
     {
         let trap = self.first_trap(&region.shape, addr, runs.len());
         if trap.is_some() {
-            return Ok(false);
+            return false;
         }
         if !are_none(choices) {
-            return Ok(false);
+            return false;
         }
-        let bytes = runs.to_vec(alloc)?;
-        write_slabs(&mut self.opens, &region.shape, addr, &bytes);
-        Ok(true)
+        write_runs(&mut self.opens, &region.shape, addr, runs.pairs());
+        true
     }
 }

@@ -1,5 +1,6 @@
 //! The bytes of open slabs.
-ghost use Rattle.std.specs.Prelude.{◌≡◌, ◌+◌, ◌-◌, ◌<◌, ◌^◌, take, drop, slice_index, is_some, option_map, IfOk};
+ghost use Rattle.std.specs.Prelude.{◌≡◌, ◌+◌, ◌++◌, ◌-◌, ◌<◌, ◌≤◌, ◌^◌, ℕ, None, [], length, take, drop, slice_get, slice_index, option_map, IfOk};
+ghost use Rattle.std.specs.Option.{option_map_or};
 ghost use Rattle.std.specs.Int.{from_le_bytes};
 ghost use mir.Syntax.{w64};
 ghost use Rattle.hm_model.specs.Maps.{at};
@@ -24,6 +25,28 @@ fn find_slab(opens: &[(u64, OpenSlab)], slab: u64) -> Option<&OpenSlab>
         }
     }
     None
+}
+
+// Bytes of a slab from an offset on, at most so many: at least one, where it is open and has one.
+fn piece_of(opens: &[(u64, OpenSlab)], slab: u64, from: u64, len: u64) -> &[u8]
+    requires { 1 ≤ len }
+    ensures value { result.now
+        ≡ take (length result.now) (drop from (option_map_or (λ b. b.bytes) (at slab (slabs_in opens.now)) [])) }
+    ensures most { length result.now ≤ len }
+    ensures some { from < length (option_map_or (λ b. b.bytes) (at slab (slabs_in opens.now)) [])
+        → 0 < length result.now }
+{
+    match find_slab(opens, slab) {
+        Some(entry) => entry.bytes.piece(from, len),
+        None => &[],
+    }
+}
+
+// The first bytes, as many as there are up to so many.
+fn first_of(bytes: &[u8], most: u64) -> &[u8]
+    ensures { result.now ≡ take most bytes.now }
+{
+    &bytes[..most.min(bytes.len() as u64) as usize]
 }
 
 // One of the eight bytes from an offset on, or 0 past the last.
@@ -108,25 +131,21 @@ impl Book {
         }
     }
 
-    // The byte at an address.
+    // Bytes of a slab from an address on: at least one, where it is accessible.
     #[tactic(auto, using(crate::proofs::Addresses::slab_some))]
-    fn byte_at(&self, shape: &Shape, addr: u64) -> Option<u8>
+    fn rest(&self, shape: &Shape, addr: u64) -> &[u8]
         requires { IsShape shape.now }
-        ensures { result ≡ byte_at shape.now (state_in self.now) addr }
+        ensures bytes { (k : ℕ) → k < length result.now
+            → byte_at shape.now (state_in self.now) (addr + k) ≡ slice_get result.now k }
+        ensures none { length result.now ≡ 0 → byte_at shape.now (state_in self.now) addr ≡ None }
     {
-        let offset = addr.checked_sub(shape.first)?;
-        match find_slab(&self.opens, offset / shape.slab) {
-            Some(slab) => slab.bytes.get((offset % shape.slab) as usize),
-            None => None,
+        match addr.checked_sub(shape.first) {
+            Some(offset) => {
+                let from = offset % shape.slab;
+                piece_of(&self.opens, offset / shape.slab, from, shape.slab - from)
+            }
+            None => &[],
         }
-    }
-
-    // Whether there is a byte at an address.
-    fn is_accessible(&self, shape: &Shape, addr: u64) -> bool
-        requires { IsShape shape.now }
-        ensures { result ≡ is_some (byte_at shape.now (state_in self.now) addr) }
-    {
-        self.byte_at(shape, addr).is_some()
     }
 
     /// The first address of a range that is not accessible.
@@ -135,16 +154,44 @@ impl Book {
         requires range { addr + len < 2 ^ 64 }
         ensures { result ≡ first_trap shape.now (state_in self.now) addr len }
     {
-        for at in addr..addr + len {
-            if !self.is_accessible(shape, at) {
+        let end = addr + len;
+        let mut at = addr;
+        while at < end {
+            let left = self.rest(shape, at).len() as u64;
+            if left == 0 {
                 return Some(at);
             }
+            at = end.min(at.saturating_add(left));
         }
         None
     }
 
+    // Adds the bytes from an address on, at most so many and no more than its slab has, or a zero where it is not
+    // accessible. It says how many.
+    fn add_rest(
+        &self,
+        shape: &Shape,
+        addr: u64,
+        most: u64,
+        bytes: &mut Vec<u8>,
+    ) -> Result<u64, NoMemory>
+        requires shape { IsShape shape.now }
+        requires some { 1 ≤ most }
+        ensures added { IfOk result (λ n. bytes.new.items
+            ≡ bytes.old.items ++ bytes_read shape.now (state_in self.now) addr n) }
+        ensures some { IfOk result (λ n. 1 ≤ n) }
+        ensures few { IfOk result (λ n. n ≤ most) }
+    {
+        let rest = first_of(self.rest(shape, addr), most);
+        if rest.is_empty() {
+            bytes.push(0)?;
+            return Ok(1);
+        }
+        bytes.extend_from_slice(rest)?;
+        Ok(rest.len() as u64)
+    }
+
     /// The bytes of a range, of which those that are not accessible count as zero.
-    #[tactic(auto, using(crate::proofs::Lookups::read_next))]
     pub fn bytes_read(
         &self,
         alloc: Global,
@@ -156,9 +203,11 @@ impl Book {
         requires range { addr + len < 2 ^ 64 }
         ensures { IfOk result (λ bytes. bytes.items ≡ bytes_read shape.now (state_in self.now) addr len) }
     {
+        let end = addr + len;
         let mut bytes = Vec::new(alloc);
-        for at in addr..addr + len {
-            bytes.push(self.byte_at(shape, at).unwrap_or(0))?;
+        let mut at = addr;
+        while at < end {
+            at += self.add_rest(shape, at, end - at, &mut bytes)?;
         }
         Ok(bytes)
     }

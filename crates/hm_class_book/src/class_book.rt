@@ -156,9 +156,7 @@ impl ClassBook {
     {
         match &entry.reply {
             Reply::Filled => {
-                let legal = self
-                    .book
-                    .fill(self.alloc, &self.region, &entry.choices, addr, runs)?;
+                let legal = self.book.fill(&self.region, &entry.choices, addr, runs);
                 Ok(self.settle(entry, legal))
             }
             reply => {

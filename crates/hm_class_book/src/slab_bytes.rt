@@ -141,6 +141,26 @@ impl SlabBytes {
         }
     }
 
+    /// Bytes from an offset on, at most so many: at least one, where there is one.
+    pub fn piece(&self, from: u64, len: u64) -> &[u8]
+        requires { 1 ≤ len }
+        ensures value { result.now ≡ take (length result.now) (drop from self.now) }
+        ensures most { length result.now ≤ len }
+        ensures some { from < length self.now → 0 < length result.now }
+    {
+        match &self.run {
+            Some(run) => {
+                let all = run.len() as u64;
+                if from < all {
+                    run.front(from as usize, len.min(all - from) as usize)
+                } else {
+                    &[]
+                }
+            }
+            None => &[],
+        }
+    }
+
     /// The first byte that is not zero among so many from an offset on, or among as many as there are: how far behind
     /// the offset it stands, and what it is.
     pub fn first_nonzero(&self, from: u64, len: u64) -> Option<(u64, u8)>

@@ -1,5 +1,6 @@
 //! Writing over the bytes of open slabs.
 ghost use Rattle.std.specs.Prelude.{◌≡◌, ◌+◌, ◌<◌, ◌^◌, length, replicate};
+ghost use Rattle.hm_model.specs.Runs.{expand};
 ghost use Rattle.hm_class_rules.specs.Bytes.{overlaid_slabs};
 ghost use Rattle.hm_class_book.specs.Book.{slab_pair, slabs_in, overlaid_slab};
 
@@ -53,5 +54,22 @@ pub(crate) fn fill_slabs(
 {
     for entry in opens.iter_mut() {
         fill_slab(entry, shape, addr, byte, len);
+    }
+}
+
+/// Writes the bytes of runs from an address on, where there are any.
+pub(crate) fn write_runs(
+    opens: &mut [(u64, OpenSlab)],
+    shape: &Shape,
+    addr: u64,
+    pairs: &[(u8, u64)],
+)
+    requires { addr + length (expand pairs.now) < 2 ^ 64 }
+    ensures { slabs_in opens.new ≡ overlaid_slabs shape.now addr (expand pairs.now) (slabs_in opens.old) }
+{
+    let mut at = addr;
+    for (byte, len) in pairs {
+        fill_slabs(opens, shape, at, *byte, *len);
+        at += *len;
     }
 }

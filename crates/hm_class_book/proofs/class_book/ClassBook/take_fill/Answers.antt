@@ -8,18 +8,18 @@ use Rattle.hm_class_book.specs.Said.{said}
 use Rattle.hm_class_book.proofs.Founds.{found, unfilled_moves}
 use Rattle.hm_class_book.proofs.class_book.ClassBook.take_fill.Goals as goal
 
-pub fill-requires-clause-range : goal.fill-requires-clause-range
-fill-requires-clause-range c = subst (λ (k : Call). Asks c.args.self.now.region.shape k) c.requires.call_is c.requires.follows.asks
+pub fill-legal-requires-clause-range : goal.fill-legal-requires-clause-range
+fill-legal-requires-clause-range c = subst (λ (k : Call). Asks c.args.self.now.region.shape k) c.requires.call_is c.requires.follows.asks
 
 pub may_trap-legal-requires-clause-range : goal.may_trap-legal-requires-clause-range
 may_trap-legal-requires-clause-range c = subst (λ (k : Call). Asks c.args.self.now.region.shape k) c.requires.call_is c.requires.follows.asks
 
-pub returns-in_ok-legal-in-Filled : goal.returns-in_ok-legal-in-Filled
-returns-in_ok-legal-in-Filled c =
+pub returns-in-Filled : goal.returns-in-Filled
+returns-in-Filled c =
     let b = said c.args.self.now in
     let e = c.args.entry.now in
-    c.settle.ensures b.cells.state (found b e (Fill c.args.addr c.args.runs.now) Filled c.in_ok-legal-in-Filled.legal (state_in c.fill.new.self) c.requires.reached c.requires.follows c.requires.call_is c.in-Filled.is refl
-    (λ yes. c.in_ok-legal-in-Filled.ensures.state yes) (c.in_ok-legal-in-Filled.ensures.legal e.faults_before e.faults_after))
+    c.settle.ensures b.cells.state (found b e (Fill c.args.addr c.args.runs.now) Filled c.fill-legal.result (state_in c.fill-legal.new.self) c.requires.reached c.requires.follows c.requires.call_is c.in-Filled.is refl
+    (λ yes. c.fill-legal.ensures.state yes) (c.fill-legal.ensures.legal e.faults_before e.faults_after))
 
 pub returns-in_default : goal.returns-in_default
 returns-in_default c =
