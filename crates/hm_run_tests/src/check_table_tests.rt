@@ -73,7 +73,7 @@ const CLASS_LINES: [Change; 36] = [
 ];
 
 /// So is the large block, of 229376 bytes, with a guard of two pages on each side.
-const LARGE_LINES: [Change; 24] = [
+const LARGE_LINES: [Change; 25] = [
     (402, 20, "0200000", "no line 402 BadText"),
     (402, 18, "-", "no line 402 NotLegal"),
     (402, 18, "3", "no line 402 NotLegal"),
@@ -91,6 +91,7 @@ const LARGE_LINES: [Change; 24] = [
     (404, 8, "1", "no line 404 NotDrawn"),
     (405, 22, "18", "no line 405 BadText"),
     (405, 20, "70368744185857", "no line 405 NotLegal"),
+    (405, 23, "229375", "no line 405 NotLegal"),
     (405, 8, "255", "no line 405 NotDrawn"),
     (406, 21, "00", "no line 406 BadText"),
     (406, 14, "70368744185856", "no line 406 NotLegal"),
