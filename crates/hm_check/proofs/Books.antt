@@ -17,7 +17,7 @@ use Rattle.hm_class_book.specs.Said.{said}
 use Rattle.hm_large.specs.Draws as large_draws
 use Rattle.hm_large.specs.Rules as large
 use Rattle.hm_large.specs.State as large_state
-use Rattle.hm_large.proofs.Entries.{run_same}
+use Rattle.hm_large.proofs.Entries.{state_same}
 use Rattle.hm_large.proofs.Legal as large_legal
 use Rattle.hm_large_book.specs.declared.book.LargeBook.{LargeBook}
 use Rattle.hm_large_book.specs.Judged.{terms_of}
@@ -138,6 +138,6 @@ module _ (c : Config) (seed : ℕ) (past : List Entry) where
   undrawn_large e old is undrawn = (
     legal_large (past ++ e ∷ []) (large_legal.one_more (terms_of c) past e is.legal undrawn.0),
     λ drawn. undrawn.1 (subst (λ (s : large_state.State). large_draws.Drawn seed s e)
-        (run_same (large_draws.Drawn seed) (large.Allowed (terms_of c)) large_state.start past)
+        (state_same (large_draws.Drawn seed) (large.Allowed (terms_of c)) large_state.start past)
         (Legal_split large_state.step (large_draws.Drawn seed) large_state.start past (e ∷ []) (drawn.large refl)).1.0),
   )

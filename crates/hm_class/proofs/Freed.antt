@@ -2,14 +2,14 @@
 use Rattle.std.proofs.Common.{◌≡◌, ℕ, zero, suc, ◌+◌, ◌*◌, ◌/◌, ◌^◌, ◌<◌, ◌==◌, Bool, true, false, cond, [], ◌∷◌, slice_index_or, Option, Some, None, sym, ◌∙◌, ap, subst, refl, arith}
 use Rattle.std.proofs.lemmas.Bool.Decides.{nat_tests}
 use Rattle.hm_choice.specs.Stream.{Words, next_word, after_word, drawn}
-use Rattle.hm_quarantine.specs.Quarantine.{let_go, IsArrayPlace}
+use Rattle.hm_quarantine.specs.Quarantine.{let_go, IsArrayIndex}
 use Rattle.hm_model.specs.declared.entry.Who.{Who}
 use Rattle.hm_model.specs.declared.entry.Call.TheVariants.{GiveBack}
 use Rattle.hm_model.specs.declared.entry.Reply.TheVariants as reply
 use Rattle.hm_model.specs.Entries.{AreDraws}
 use Rattle.hm_sizes.specs.declared.shape.Shape.{Shape}
 use Rattle.hm_class_rules.specs.Drawn.{unparked_by}
-use Rattle.hm_class_rules.specs.Draws.{words_of, words_from, after_words, parking_words, array_place, parking_place, word_after}
+use Rattle.hm_class_rules.specs.Draws.{words_of, words_from, after_words, parking_words, array_index, parking_index, word_after}
 use Rattle.hm_class_rules.specs.Rules.{Terms}
 use Rattle.hm_class_rules.specs.Stepped.{Cells, IsSteppedEntry}
 use Rattle.hm_class_rules.proofs.Alike.{drawn_below}
@@ -83,19 +83,19 @@ drawn_none n word e = ap (λ (x : ℕ). word * x / 2 ^ 32) e ∙ ap (λ (x : ℕ
     nothing : (w : ℕ) → w * 0 ≡ 0
     nothing w = omega arith
 
-pub index_drawn : (p : Shape) (stream : Words) (e : Emptied) → array_place p (freed_draws (array_word p (next_word stream)) e) ≡ index_of_word p (next_word stream)
+pub index_drawn : (p : Shape) (stream : Words) (e : Emptied) → array_index p (freed_draws (array_word p (next_word stream)) e) ≡ index_of_word p (next_word stream)
 index_drawn p stream e = of (p.array == 0) refl e
   where
-    of : (none : Bool) → (p.array == 0) ≡ none → (e : Emptied) → array_place p (freed_draws (word_by stream none) e) ≡ cond none 0 (drawn p.array (next_word stream))
+    of : (none : Bool) → (p.array == 0) ≡ none → (e : Emptied) → array_index p (freed_draws (word_by stream none) e) ≡ cond none 0 (drawn p.array (next_word stream))
     of true is e = drawn_none p.array _ (is_zero p.array is)
     of false is emptied.Kept = refl
     of false is (emptied.Retired d w u) = refl
     of false is (emptied.Purged d) = refl
 
-pub index_fits : (p : Shape) (stream : Words) → IsArrayPlace p.array (index_of_word p (next_word stream))
+pub index_fits : (p : Shape) (stream : Words) → IsArrayIndex p.array (index_of_word p (next_word stream))
 index_fits p stream = of p.array
   where
-    of : (n : ℕ) → IsArrayPlace n (cond (n == 0) 0 (drawn n (next_word stream)))
+    of : (n : ℕ) → IsArrayIndex n (cond (n == 0) 0 (drawn n (next_word stream)))
     of zero = refl
     of (suc n) = subst (λ (x : Bool). cond x 0 (drawn (suc n) (next_word stream)) < suc n) (sym (not_zero n)) (drawn_below (suc n) (next_word stream) (omega arith) (next_below stream))
       where
@@ -103,7 +103,7 @@ index_fits p stream = of p.array
         not_zero n = grind (arith, nat_tests)
 
 -- the parking place of a retired slab
-pub parking_drawn : (t : Terms) (stream : Words) (d w : ℕ) (u : Option ℕ) → parking_place t (freed_draws (array_word t.shape (next_word stream)) (emptied.Retired d w u)) ≡ drawn t.config.park_length w
+pub parking_drawn : (t : Terms) (stream : Words) (d w : ℕ) (u : Option ℕ) → parking_index t (freed_draws (array_word t.shape (next_word stream)) (emptied.Retired d w u)) ≡ drawn t.config.park_length w
 parking_drawn t stream d w u = of (t.shape.array == 0)
   where
     of : (none : Bool) → drawn t.config.park_length (word_after (cond none 0 1) (freed_draws (word_by stream none) (emptied.Retired d w u))) ≡ drawn t.config.park_length w
@@ -117,7 +117,7 @@ IsUnparked t c (emptied.Retired slab word unparked) = unparked ≡ slice_index_o
 IsUnparked t c (emptied.Purged d) = Unit {0}
 
 unparked_is : (t : Terms) (c : Cells) (released : Option ℕ) (e : Emptied) → IsUnparked t c e
-    → (freed_choices released e).unparked ≡ unparked_by (freed_choices released e).retired (slice_index_or c.parking (parking_place t (freed_draws (array_word t.shape (next_word c.stream)) e)) None)
+    → (freed_choices released e).unparked ≡ unparked_by (freed_choices released e).retired (slice_index_or c.parking (parking_index t (freed_draws (array_word t.shape (next_word c.stream)) e)) None)
 unparked_is t c released emptied.Kept is = refl
 unparked_is t c released (emptied.Retired d w u) is = is ∙ ap (λ (i : ℕ). slice_index_or c.parking i None) (sym (parking_drawn t c.stream d w u))
 unparked_is t c released (emptied.Purged d) is = refl

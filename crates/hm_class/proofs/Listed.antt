@@ -7,7 +7,7 @@ use Rattle.hm_sizes.specs.declared.shape.Shape.{Shape}
 use Rattle.hm_sizes.specs.Shapes.{IsShape, slab_of}
 use Rattle.hm_class_rules.specs.State.{State, is_partial, is_empty}
 use Rattle.hm_class_rules.specs.Kinds.{Kind, Partial, Empty, Neither, kind, same_kind}
-use Rattle.hm_class_rules.specs.Draws.{words_of, words_from, after_words, Event, Picked, Returned, Undrawn, event, word_count, array_place, parking_place}
+use Rattle.hm_class_rules.specs.Draws.{words_of, words_from, after_words, Event, Picked, Returned, Undrawn, event, word_count, array_index, parking_index}
 use Rattle.hm_class_rules.specs.Rules.{Terms}
 use Rattle.hm_class_rules.specs.Steps.{step}
 use Rattle.hm_class_rules.specs.Stepped.{Cells, next, listed, touched, quarantine_with, parking_after, parking_with, IsSteppedEntry, IsSteppedEvent}
@@ -90,7 +90,7 @@ next_picked t s store store' e a n before shape is slab was h' taken partial emp
 pub next_freed : (t : Terms) (s : State) (store store' : Store) (e : Entry) (a n : ℕ) (before then : Kind) → event e ≡ Returned a → touched t.shape e.choices.released (Returned a) ≡ n
     → kind t.shape s n ≡ before → kind t.shape (step t.shape s e) n ≡ then → after_words store.stream e.draws.used ≡ store'.stream
     → store'.slabs.lists.partial ≡ listed Partial n before then store.slabs.lists.partial → store'.slabs.lists.empty ≡ listed Empty n before then store.slabs.lists.empty
-    → store'.quarantine ≡ kept_with store.quarantine a (array_place t.shape e.draws) → store'.slabs.parking ≡ parking_with (parking_place t e.draws) e.choices.retired store.slabs.parking
+    → store'.quarantine ≡ kept_with store.quarantine a (array_index t.shape e.draws) → store'.slabs.parking ≡ parking_with (parking_index t e.draws) e.choices.retired store.slabs.parking
     → next t (cells_of s store) e ≡ cells_of (step t.shape s e) store'
 next_freed t s store store' e a n before then is slab was now taken partial empty kept parking =
     next_is t (cells_of s store) e (Returned a) is

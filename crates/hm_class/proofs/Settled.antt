@@ -21,7 +21,7 @@ use Rattle.hm_class_rules.specs.Bytes.{found_canary, kept_canary}
 use Rattle.hm_class_rules.specs.Rules.{Terms, Releases, Empties, Unparks, surplus, state, wrong_canary}
 use Rattle.hm_class_rules.specs.Stepped.{listed, touched, parking_with}
 use Rattle.hm_class_rules.specs.DrawnLaws.{AreKept}
-use Rattle.hm_class_rules.specs.Draws.{Returned, parking_place}
+use Rattle.hm_class_rules.specs.Draws.{Returned, parking_index}
 use Rattle.hm_class_rules.proofs.Emptied.{one_more_empty}
 use Rattle.hm_class_rules.proofs.Changes.{kind_empty}
 use Rattle.hm_class_rules.proofs.Alike.{drawn_below}
@@ -130,7 +130,7 @@ module _ {P : Type 0} {meaning : pages.Ghosts P} {begun half : P} {region : Iden
       → Shows region.shape store'.slabs.slabs final → store'.slabs.lists.retired ≡ final.shut → AreFull store'.slabs.slabs store'.slabs.lists.full → store'.slabs.numbers ≡ numbers_of region.shape → length final.live ≤ live_count store'.slabs.slabs → (IsTrue (meaning.told begun) → HoldsSlabs region.shape final.opens (meaning.runs now))
       → touched region.shape released (Returned a) ≡ m → kind region.shape first m ≡ kb → kind region.shape final m ≡ ka
       → store'.slabs.lists.partial ≡ listed Partial m kb ka store.slabs.lists.partial → store'.slabs.lists.empty ≡ listed Empty m kb ka store.slabs.lists.empty
-      → store'.stream ≡ stream_after (array_stream region.shape store.stream) e → store'.slabs.parking ≡ parking_with (parking_place t (freed_draws (array_word region.shape (next_word store.stream)) e)) (freed_choices released e).retired store.slabs.parking
+      → store'.stream ≡ stream_after (array_stream region.shape store.stream) e → store'.slabs.parking ≡ parking_with (parking_index t (freed_draws (array_word region.shape (next_word store.stream)) e)) (freed_choices released e).retired store.slabs.parking
       → store'.quarantine ≡ kept_with store.quarantine a (index_of_word region.shape (next_word store.stream))
       → IsKept (meaning.told begun) (meaning.runs now) f' region (es ++ entry_freed region.shape store.stream who a stated released e f f' ∷ []) store'
   finish released m e final kb ka let_is after empties next unparked shows shut full numbers live slabs at was now_is partial empty taken_words parking quarantine =

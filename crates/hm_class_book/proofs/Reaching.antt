@@ -11,7 +11,7 @@ use Rattle.hm_model.specs.Runs.{expand}
 use Rattle.hm_sizes.specs.declared.shape.Shape.{Shape}
 use Rattle.hm_sizes.specs.Shapes.{IsShape, place}
 use Rattle.hm_class_rules.specs.State.{State, is_open, is_taken, is_partial, is_empty, empty_slabs}
-use Rattle.hm_class_rules.specs.Steps.{moved, step}
+use Rattle.hm_class_rules.specs.Steps.{changed, step}
 use Rattle.hm_class_rules.specs.Rules.{Terms, Allowed, IsLegal, state}
 use Rattle.hm_class_rules.specs.Laws.{IsSound, AllWhole, bytes_of_slab}
 use Rattle.hm_class_rules.specs.Draws.{Event, Picked, Returned, Undrawn, event, event_of, after_words}

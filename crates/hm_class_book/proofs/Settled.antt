@@ -15,9 +15,9 @@ use Rattle.hm_sizes.specs.declared.shape.Shape.{Shape}
 use Rattle.hm_sizes.specs.Shapes.{IsShape, slab_of, place}
 use Rattle.hm_class_rules.specs.State.{State, is_taken}
 use Rattle.hm_class_rules.specs.Bytes.{write}
-use Rattle.hm_class_rules.specs.Steps.{moved, step}
+use Rattle.hm_class_rules.specs.Steps.{changed, step}
 use Rattle.hm_class_rules.specs.Rules.{Terms, Allowed, Allows}
-use Rattle.hm_class_rules.specs.Draws.{Event, Picked, Returned, Undrawn, event, event_of, word_count, words_of, words_from, after_words, canary_words, start_words, array_words, parking_words, array_place, parking_place}
+use Rattle.hm_class_rules.specs.Draws.{Event, Picked, Returned, Undrawn, event, event_of, word_count, words_of, words_from, after_words, canary_words, start_words, array_words, parking_words, array_index, parking_index}
 use Rattle.hm_class_rules.specs.Kinds.{Kind, Partial, Empty, Neither, kind, same_kind}
 use Rattle.hm_class_rules.specs.Stepped.{Cells, next, touched, listed, front, quarantine_with, parking_with, parking_after, IsSteppedEntry, IsSteppedEvent}
 use Rattle.hm_class_rules.specs.Drawn.{unparked_by}
@@ -55,7 +55,7 @@ listed_same wanted n k j list e =
     ∙ ap (λ (b : Bool). cond b list (cond (same_kind k wanted) (n ∷ list) (cond (same_kind k wanted) (without n list) list))) (same_is k)
 
 plain_kind : (p : Shape) (s : State) (c : Choices) (call : Call) (reply : Reply) (n f : ℕ) → event_of call reply ≡ Undrawn
-    → kind p (record (moved p c call reply s) { faults = f }) n ≡ kind p s n
+    → kind p (record (changed p c call reply s) { faults = f }) n ≡ kind p s n
 plain_kind p s c (Allot asked align) (Given a size) n f e = absurd (cc)
 plain_kind p s c (Allot asked align) (Overwritten a at found) n f e = absurd (cc)
 plain_kind p s c (GiveBack a stated) Freed n f e = absurd (cc)
@@ -108,7 +108,7 @@ module _ (b : Said) (now : State) (e : Entry) (legal : Bool) (f : Found b e lega
   pub plain_taken : legal ≡ true → e.draws.used ≡ 0 → Takes b (at_state b (counted now e.faults_after)) e
   plain_taken holds none =
       takes b (at_state b (counted now e.faults_after)) e f.reached (f.allows.0 holds) (plain_drawn b.terms b.cells e f.undrawn none)
-      (ap (λ (s : State). at_state b (counted s e.faults_after)) (f.moved holds)
+      (ap (λ (s : State). at_state b (counted s e.faults_after)) (f.changed holds)
       ∙ ap (λ (c : Cells). record b { cells = c }) (plain_cells b.terms b.cells e f.undrawn none ∙ sym (next_is b.terms b.cells e Undrawn f.undrawn)))
 
 -- the words of an entry are so many, and the next ones of a stream
@@ -169,10 +169,10 @@ module _ (b : Said) (now : State) (e : Entry) (a : ℕ) (k : Kind) (legal : Bool
   free_count = array_words b.terms.shape + parking_words e.choices
 
   abbrev Leaves : Type 0
-  Leaves = e.choices.released ≡ let_go b.cells.quarantine a (array_place b.terms.shape e.draws)
+  Leaves = e.choices.released ≡ let_go b.cells.quarantine a (array_index b.terms.shape e.draws)
 
   abbrev IsUnparked : Type 0
-  IsUnparked = e.choices.unparked ≡ unparked_by e.choices.retired (slice_index_or b.cells.parking (parking_place b.terms e.draws) None)
+  IsUnparked = e.choices.unparked ≡ unparked_by e.choices.retired (slice_index_or b.cells.parking (parking_index b.terms e.draws) None)
 
   pub freed_illegal : legal ≡ false → Allowed b.terms b.cells.state e → ⊥
   freed_illegal fails allowed = true≢false (sym (f.allows.1 allowed) ∙ fails)
@@ -197,8 +197,8 @@ module _ (b : Said) (now : State) (e : Entry) (a : ℕ) (k : Kind) (legal : Bool
       → stream ≡ after_words b.cells.stream e.draws.used
       → partial ≡ listed Partial (touched b.terms.shape e.choices.released (Returned a)) k j b.cells.partial
       → empty ≡ listed Empty (touched b.terms.shape e.choices.released (Returned a)) k j b.cells.empty
-      → quarantine ≡ kept_with b.cells.quarantine a (array_place b.terms.shape e.draws)
-      → parking ≡ parking_with (parking_place b.terms e.draws) e.choices.retired b.cells.parking
+      → quarantine ≡ kept_with b.cells.quarantine a (array_index b.terms.shape e.draws)
+      → parking ≡ parking_with (parking_index b.terms e.draws) e.choices.retired b.cells.parking
       → j ≡ kind b.terms.shape (counted now e.faults_after) (touched b.terms.shape e.choices.released (Returned a))
       → Takes b (record b {
         cells = record {
@@ -212,7 +212,7 @@ module _ (b : Said) (now : State) (e : Entry) (a : ℕ) (k : Kind) (legal : Bool
       }) e
   freed_taken stream partial empty quarantine parking j holds words released unparked s p q o r to =
       let n : ℕ = touched b.terms.shape e.choices.released (Returned a) in
-      let moves : counted now e.faults_after ≡ step b.terms.shape b.cells.state e = ap (λ (x : State). counted x e.faults_after) (f.moved holds) in
+      let moves : counted now e.faults_after ≡ step b.terms.shape b.cells.state e = ap (λ (x : State). counted x e.faults_after) (f.changed holds) in
       let after : j ≡ kind b.terms.shape (step b.terms.shape b.cells.state e) n = to ∙ ap (λ (x : State). kind b.terms.shape x n) moves in
       takes b _ e f.reached (f.allows.0 holds) (freed_stepped words released unparked)
       (ap (λ (c : Cells). record b { cells = c })

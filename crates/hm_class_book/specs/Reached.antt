@@ -8,7 +8,7 @@ use Rattle.hm_class_rules.specs.Draws.{drawn_shape, Picked, Returned, Undrawn, e
 use Rattle.hm_class_rules.specs.Kinds.{Kind}
 use Rattle.hm_class_rules.specs.Kinds as rules
 use Rattle.hm_class_rules.specs.State.{State}
-use Rattle.hm_class_rules.specs.Steps.{moved}
+use Rattle.hm_class_rules.specs.Steps.{changed}
 use Rattle.hm_class_rules.specs.Rules.{Terms, Allowed, IsLegal}
 use Rattle.hm_class_rules.specs.Stepped.{Cells, first_cells, touched, next, cells, IsSteppedEntry, IsStepped}
 use Rattle.hm_class_book.specs.Picks.{IsFirst, Judges}
@@ -64,15 +64,15 @@ abbrev pub at_state : Said → State → Said
 at_state b s = record b { cells = record b.cells { state = s } }
 
 -- the state is changed as the entry says, but for the count of page faults
-abbrev pub IsMoved : Said → Entry → State → Type 0
-IsMoved b e now = now ≡ moved b.terms.shape e.choices e.call e.reply b.cells.state
+abbrev pub IsChanged : Said → Entry → State → Type 0
+IsChanged b e now = now ≡ changed b.terms.shape e.choices e.call e.reply b.cells.state
 
 -- what was found of an entry at which nothing is drawn, before its words are looked at
 pub record Found (b : Said) (e : Entry) (legal : Bool) (now : State) : Type 0 where
   pub reached : IsReached b
   pub undrawn : event e ≡ Undrawn
   pub allows : IsTrue legal ↔ Allowed b.terms b.cells.state e
-  pub moved : IsTrue legal → IsMoved b e now
+  pub changed : IsTrue legal → IsChanged b e now
 
 -- the same where a slot was picked: whether it is the first available one
 pub record FoundPicked (b : Said) (e : Entry) (a : ℕ) (kind : Kind) (picked : Option Bool) (now : State) : Type 0 where
@@ -80,7 +80,7 @@ pub record FoundPicked (b : Said) (e : Entry) (a : ℕ) (kind : Kind) (picked : 
   pub event_is : event e ≡ Picked a
   pub kind_is : kind ≡ rules.kind b.terms.shape b.cells.state (slab_of b.terms.shape a)
   pub judged : Judges (Allowed b.terms b.cells.state e)
-      (IsFirst b.terms.shape b.cells.state e.choices (start_slot b.terms e.choices e.draws) a) (IsMoved b e now) picked
+      (IsFirst b.terms.shape b.cells.state e.choices (start_slot b.terms e.choices e.draws) a) (IsChanged b e now) picked
 
 -- the same where a block was taken back
 pub record FoundFreed (b : Said) (e : Entry) (a : ℕ) (kind : Kind) (legal : Bool) (now : State) : Type 0 where
@@ -88,4 +88,4 @@ pub record FoundFreed (b : Said) (e : Entry) (a : ℕ) (kind : Kind) (legal : Bo
   pub event_is : event e ≡ Returned a
   pub kind_is : kind ≡ rules.kind b.terms.shape b.cells.state (touched b.terms.shape e.choices.released (Returned a))
   pub allows : IsTrue legal ↔ Allowed b.terms b.cells.state e
-  pub moved : IsTrue legal → IsMoved b e now
+  pub changed : IsTrue legal → IsChanged b e now

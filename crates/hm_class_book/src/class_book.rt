@@ -18,7 +18,7 @@ ghost use Rattle.hm_class_book.specs.Reached.{first_said, at_state, IsReached, I
 use crate::book::Book;
 use crate::choices::is_option;
 use crate::draws::{
-    are_words, array_place, free_words, is_canary, parking_place, picking_words, start_slot,
+    are_words, array_index, free_words, is_canary, parking_index, picking_words, start_slot,
 };
 use crate::kinds::{Kind, Lists};
 use crate::places::slab_of;
@@ -375,9 +375,9 @@ impl ClassBook {
         if !are_words(&mut self.stream, &entry.draws, count) {
             return Ok(Judgement::NotDrawn);
         }
-        let place = array_place(&self.region.shape, &entry.draws);
+        let place = array_index(&self.region.shape, &entry.draws);
         let released = self.quarantine.pass(addr, place);
-        let parked_at = parking_place(&self.region, &entry.draws);
+        let parked_at = parking_index(&self.region, &entry.draws);
         let unparked = park(&mut self.parking, parked_at, entry.choices.retired);
         let leaves = is_option(entry.choices.released, released);
         let unparks = is_option(entry.choices.unparked, unparked);

@@ -1,10 +1,10 @@
 //! The words that an entry says, against those of the stream, and what they draw.
 ghost use Rattle.std.specs.Prelude.{◌≡◌, ◌+◌, ◌<◌, ◌≤◌, ◌^◌, ◌↔◌, IsTrue, IfSome};
 ghost use Rattle.hm_choice.specs.Stream.{drawn, canary_of};
-ghost use Rattle.hm_quarantine.specs.Quarantine.{IsArrayPlace};
+ghost use Rattle.hm_quarantine.specs.Quarantine.{IsArrayIndex};
 ghost use Rattle.hm_sizes.specs.Shapes.{IsShape};
 ghost use Rattle.hm_model.specs.Entries.{AreDraws};
-ghost use Rattle.hm_class_rules.specs.Draws.{words_of, words_from, after_words, word_after, canary_words, start_words, array_words, parking_words, start_slot, array_place, parking_place};
+ghost use Rattle.hm_class_rules.specs.Draws.{words_of, words_from, after_words, word_after, canary_words, start_words, array_words, parking_words, start_slot, array_index, parking_index};
 ghost use Rattle.hm_class_book.specs.Book.{terms};
 
 use crate::region::Region;
@@ -139,17 +139,17 @@ pub(crate) fn start_slot(region: &Region, choices: &Choices, draws: &Draws) -> u
 }
 
 /// The place of the array to which a freed slot goes.
-pub(crate) fn array_place(shape: &Shape, draws: &Draws) -> u32
-    ensures value { result ≡ array_place shape.now draws.now }
-    ensures place { IsArrayPlace shape.now.array result }
+pub(crate) fn array_index(shape: &Shape, draws: &Draws) -> u32
+    ensures value { result ≡ array_index shape.now draws.now }
+    ensures place { IsArrayIndex shape.now.array result }
 {
     drawn(shape.array, draws.w0)
 }
 
 /// The parking place of a retired slab.
-pub(crate) fn parking_place(region: &Region, draws: &Draws) -> u32
+pub(crate) fn parking_index(region: &Region, draws: &Draws) -> u32
     requires { 1 ≤ region.now.config.park_length }
-    ensures value { result ≡ parking_place (terms region.now) draws.now }
+    ensures value { result ≡ parking_index (terms region.now) draws.now }
     ensures below { result < region.now.config.park_length }
 {
     drawn(

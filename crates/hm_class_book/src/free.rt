@@ -3,7 +3,7 @@ ghost use Rattle.std.specs.Prelude.{◌≡◌, ◌∷◌, ◌+◌, ◌<◌, ◌^
 ghost use Rattle.hm_model.specs.Calls.{no_choices};
 ghost use Rattle.hm_sizes.specs.Shapes.{IsShape, usable, slab_of, has_bytes};
 ghost use Rattle.hm_class_rules.specs.State.{is_empty, empty_slabs};
-ghost use Rattle.hm_class_rules.specs.Steps.{takes_back, releases, unparks, retires, purges, moved};
+ghost use Rattle.hm_class_rules.specs.Steps.{takes_back, releases, unparks, retires, purges, changed};
 ghost use Rattle.hm_class_rules.specs.Rules.{Releases, surplus, Unparks, Empties, IsLiveBlock, wrong_size, wrong_canary, AllowsFreed};
 ghost use Rattle.hm_class_rules.specs.Laws.{AllWhole, bytes_of_slab};
 ghost use Rattle.hm_class_book.specs.Book.{state_in, terms, IsKept};
@@ -169,7 +169,7 @@ impl Book {
         ensures legal { IfOk result (λ r. IsTrue r
             ↔ AllowsFreed (terms region.now) (state_in self.old) counts.0 counts.1 choices.now addr stated) }
         ensures state { IfOk result (λ r. IsTrue r → state_in self.new
-            ≡ moved region.now.shape choices.now (Call.GiveBack addr stated) Reply.Freed (state_in self.old)) }
+            ≡ changed region.now.shape choices.now (Call.GiveBack addr stated) Reply.Freed (state_in self.old)) }
     {
         let shape = &region.shape;
         if !self.may_free(shape, choices, addr, stated) {

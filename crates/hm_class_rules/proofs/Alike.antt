@@ -3,8 +3,8 @@ use Rattle.std.proofs.Common.{◌≡◌, ℕ, zero, suc, ◌+◌, ◌*◌, ◌/�
 use Rattle.std.specs.List.{list_any, list_all, range_with_len}
 use Rattle.std.proofs.lemmas.Nat.{div_below}
 use Rattle.hm_choice.specs.Stream.{drawn}
-use Rattle.hm_quarantine.specs.Quarantine.{Kept, IsArrayPlace, let_go}
-use Rattle.hm_quarantine.specs.LookingBack.{Free, latest_at, released, ArePlaces, kept_after}
+use Rattle.hm_quarantine.specs.Quarantine.{Kept, IsArrayIndex, let_go}
+use Rattle.hm_quarantine.specs.LookingBack.{Free, latest_at, released, AreIndices, kept_after}
 use Rattle.hm_quarantine.proofs.Passes.{stands, looks_back}
 use Rattle.hm_model.specs.Machine.{Legal}
 use Rattle.hm_model.specs.declared.entry.Entry.{Entry}
@@ -14,9 +14,9 @@ use Rattle.hm_sizes.specs.Shapes.{IsShape, slab_of}
 use Rattle.hm_class_rules.specs.State.{State, start, is_free, is_empty}
 use Rattle.hm_class_rules.specs.Steps.{step}
 use Rattle.hm_class_rules.specs.Rules.{Terms, Allowed, IsLegal}
-use Rattle.hm_class_rules.specs.Draws.{Event, Picked, Returned, Undrawn, event, word_after, array_place, parking_place}
+use Rattle.hm_class_rules.specs.Draws.{Event, Picked, Returned, Undrawn, event, word_after, array_index, parking_index}
 use Rattle.hm_class_rules.specs.Kinds.{Kind, Partial, Empty, Neither, kind, now}
-use Rattle.hm_class_rules.specs.Drawn.{IsPicked, state_after, kinds_after, free_at, with_free, frees_of, Retirement, with_retired, with_retirement, retirements_of, latest_parked, unparked_by, IsDrawnPicking, IsDrawnEvent, AreDrawn}
+use Rattle.hm_class_rules.specs.Drawn.{IsPicked, state_after_past, kinds_after, free_at, with_free, frees_of, Retirement, with_retired, with_retirement, retirements_of, latest_parked, unparked_by, IsDrawnPicking, IsDrawnEvent, AreDrawn}
 use Rattle.hm_class_rules.specs.Stepped.{Cells, first_cells, touched, listed, quarantine_with, parking_with, parking_after, next, IsSteppedPicking, IsSteppedEvent, IsSteppedEntry}
 use Rattle.hm_class_rules.specs.DrawnLaws.{DrawnIsStepped}
 use Rattle.hm_class_rules.proofs.Streams.{AreWords, words_below, Follow, AreShort, follow, consecutive, few_words}
@@ -30,7 +30,7 @@ drawn_below n word some low = div_below (word * n) (2 ^ 32) n (omega arith) (pro
     product : (w k n : ℕ) → 0 < n → w < k → w * n < n * k
     product w k n some low = grind arith
 
-drawn_place : (n word : ℕ) → word < 2 ^ 32 → IsArrayPlace n (drawn n word)
+drawn_place : (n word : ℕ) → word < 2 ^ 32 → IsArrayIndex n (drawn n word)
 drawn_place zero word low = none word
   where
     none : (w : ℕ) → w * 0 / 2 ^ 32 ≡ 0
@@ -43,7 +43,7 @@ word_below d words (suc zero) = omega arith
 word_below d words (suc (suc zero)) = omega arith
 word_below d words (suc (suc (suc k))) = omega arith
 
-pub parking_below : (t : Terms) (d : Draws) → 1 ≤ t.config.park_length → AreWords d → parking_place t d < t.config.park_length
+pub parking_below : (t : Terms) (d : Draws) → 1 ≤ t.config.park_length → AreWords d → parking_index t d < t.config.park_length
 parking_below t d some words = drawn_below t.config.park_length _ some (word_below d words _)
 
 -- ---- at first no slab is open
@@ -63,7 +63,7 @@ none_open p shape n =
     ap (λ b. kind_by b (is_empty p start n)) (none_any (is_free p start n) 0 p.slots (λ j. refl))
     ∙ ap (λ b. kind_by false b) (none_all (is_free p start n) p.slots shape.slots_some refl)
 
-pub now_is : (t : Terms) → IsShape t.shape → (past : List Entry) (n : ℕ) → now (kinds_after t past) n ≡ kind t.shape (state_after t past) n
+pub now_is : (t : Terms) → IsShape t.shape → (past : List Entry) (n : ℕ) → now (kinds_after t past) n ≡ kind t.shape (state_after_past t past) n
 now_is t shape [] n = sym (none_open t.shape shape n)
 now_is t shape (e ∷ past) n = refl
 
@@ -84,10 +84,10 @@ parks n place past lt = stands n 0 place (as_frees past) lt ∙ latest_is place 
 
 -- ---- what the lists are after a legal past
 pub record Shown (t : Terms) (past : List Entry) (c : Cells) : Type 0 where
-  pub state_is : c.state ≡ state_after t past
+  pub state_is : c.state ≡ state_after_past t past
   pub partial : Shows Partial (kinds_after t past) c.partial
   pub empty : Shows Empty (kinds_after t past) c.empty
-  pub places : ArePlaces t.shape.array (frees_of t past)
+  pub places : AreIndices t.shape.array (frees_of t past)
   pub quarantine : c.quarantine ≡ kept_after t.shape.array t.shape.ring (frees_of t past)
   pub parking : c.parking ≡ parked_after t.config.park_length (retirements_of t past)
 
@@ -101,12 +101,12 @@ first_shown seed arena t = record {
   parking = refl;
 }
 
-list_shown : (t : Terms) (past : List Entry) (c : Cells) (e : Entry) (wanted : Kind) (list : List ℕ) → IsShape t.shape → c.state ≡ state_after t past → Allowed t (state_after t past) e
+list_shown : (t : Terms) (past : List Entry) (c : Cells) (e : Entry) (wanted : Kind) (list : List ℕ) → IsShape t.shape → c.state ≡ state_after_past t past → Allowed t (state_after_past t past) e
     → Shows wanted (kinds_after t past) list
     → let n = touched t.shape e.choices.released (event e) in Shows wanted (kinds_after t (e ∷ past)) (listed wanted n (kind t.shape c.state n) (kind t.shape (step t.shape c.state e) n) list)
 list_shown t past c e wanted list shape is allowed shows =
     let n : ℕ = touched t.shape e.choices.released (event e) in
-    let s : State = state_after t past in
+    let s : State = state_after_past t past in
     let path : listed wanted n (kind t.shape c.state n) (kind t.shape (step t.shape c.state e) n) list ≡ listed wanted n (now (kinds_after t past) n) (kind t.shape (step t.shape s e) n) list =
     ap (λ (s : State). listed wanted n (kind t.shape s n) (kind t.shape (step t.shape s e) n) list) is
     ∙ ap (λ (k : Kind). listed wanted n k (kind t.shape (step t.shape s e) n) list) (sym (now_is t shape past n)) in
@@ -115,7 +115,7 @@ list_shown t past c e wanted list shape is allowed shows =
     (λ m ne. changes_one t s e.faults_before e.faults_after e.choices e.call e.reply shape allowed.allows m ne ∙ sym (now_is t shape past m))
     shows)
 
-with_places : (p : Shape) (d : Draws) (ev : Event) (frees : List Free) → IsArrayPlace p.array (array_place p d) → ArePlaces p.array frees → ArePlaces p.array (with_free p d ev frees)
+with_places : (p : Shape) (d : Draws) (ev : Event) (frees : List Free) → IsArrayIndex p.array (array_index p d) → AreIndices p.array frees → AreIndices p.array (with_free p d ev frees)
 with_places p d (Picked a) frees is places = places
 with_places p d (Returned a) frees is places = (is, places)
 with_places p d Undrawn frees is places = places
@@ -131,10 +131,10 @@ with_slab n place (Some slab) past = refl
 
 with_parked : (t : Terms) (e : Entry) (ev : Event) (past : List Retirement) → parking_after t e ev (parked_after t.config.park_length past) ≡ parked_after t.config.park_length (with_retirement t e ev past)
 with_parked t e (Picked a) past = refl
-with_parked t e (Returned a) past = with_slab t.config.park_length (parking_place t e.draws) e.choices.retired past
+with_parked t e (Returned a) past = with_slab t.config.park_length (parking_index t e.draws) e.choices.retired past
 with_parked t e Undrawn past = refl
 
-pub next_shown : (t : Terms) (past : List Entry) (c : Cells) (e : Entry) → IsShape t.shape → Shown t past c → Allowed t (state_after t past) e → AreWords e.draws → Shown t (e ∷ past) (next t c e)
+pub next_shown : (t : Terms) (past : List Entry) (c : Cells) (e : Entry) → IsShape t.shape → Shown t past c → Allowed t (state_after_past t past) e → AreWords e.draws → Shown t (e ∷ past) (next t c e)
 next_shown t past c e shape shown allowed words = record {
   state_is = ap (λ (s : State). step t.shape s e) shown.state_is;
   partial = list_shown t past c e Partial c.partial shape shown.state_is allowed shown.partial;
@@ -146,16 +146,16 @@ next_shown t past c e shape shown allowed words = record {
 
 -- ---- one entry
 pub released_alike : (t : Terms) (past : List Entry) (c : Cells) (e : Entry) (a : ℕ) → Shown t past c → AreWords e.draws
-    → let_go c.quarantine a (array_place t.shape e.draws) ≡ released t.shape.array t.shape.ring (frees_of t past) (free_at t.shape e.draws a)
+    → let_go c.quarantine a (array_index t.shape e.draws) ≡ released t.shape.array t.shape.ring (frees_of t past) (free_at t.shape e.draws a)
 released_alike t past c e a shown words =
-    ap (λ (k : Kept). let_go k a (array_place t.shape e.draws)) shown.quarantine
+    ap (λ (k : Kept). let_go k a (array_index t.shape e.draws)) shown.quarantine
     ∙ looks_back t.shape.array t.shape.ring (frees_of t past) (free_at t.shape e.draws a) (drawn_place t.shape.array e.draws.w0 words.first, shown.places)
 
 unparked_alike : (t : Terms) (past : List Entry) (c : Cells) (e : Entry) → 1 ≤ t.config.park_length → Shown t past c → AreWords e.draws
-    → unparked_by e.choices.retired (get_or c.parking (parking_place t e.draws) None) ≡ unparked_by e.choices.retired (latest_parked (parking_place t e.draws) (retirements_of t past))
+    → unparked_by e.choices.retired (get_or c.parking (parking_index t e.draws) None) ≡ unparked_by e.choices.retired (latest_parked (parking_index t e.draws) (retirements_of t past))
 unparked_alike t past c e some shown words =
-    ap (λ (l : List (Option ℕ)). unparked_by e.choices.retired (get_or l (parking_place t e.draws) None)) shown.parking
-    ∙ ap (unparked_by e.choices.retired) (parks t.config.park_length (parking_place t e.draws) (retirements_of t past) (parking_below t e.draws some words))
+    ap (λ (l : List (Option ℕ)). unparked_by e.choices.retired (get_or l (parking_index t e.draws) None)) shown.parking
+    ∙ ap (unparked_by e.choices.retired) (parks t.config.park_length (parking_index t e.draws) (retirements_of t past) (parking_below t e.draws some words))
 
 picking_there : (t : Terms) (past : List Entry) (c : Cells) (e : Entry) (a : ℕ) → Shown t past c → IsDrawnPicking t past e a → IsSteppedPicking t c e a
 picking_there t past c e a shown h = record {
@@ -186,7 +186,7 @@ event_back t past c e (Returned a) some shown words h = record {
 event_back t past c e Undrawn some shown words h = tt
 
 -- ---- a history, with what came before it
-there : (t : Terms) (past : List Entry) (c : Cells) (es : List Entry) → 1 ≤ t.config.park_length → IsShape t.shape → Shown t past c → Legal (step t.shape) (Allowed t) (state_after t past) es
+there : (t : Terms) (past : List Entry) (c : Cells) (es : List Entry) → 1 ≤ t.config.park_length → IsShape t.shape → Shown t past c → Legal (step t.shape) (Allowed t) (state_after_past t past) es
     → AreDrawn t past es → Follow c.stream es → Legal (next t) (IsSteppedEntry t) c es
 there t past c [] some shape shown legal h words = tt
 there t past c (e ∷ es) some shape shown legal h words =
@@ -195,7 +195,7 @@ there t past c (e ∷ es) some shape shown legal h words =
       there t (e ∷ past) (next t c e) es some shape (next_shown t past c e shape shown legal.0 below) legal.1 h.1 words.1,
     )
 
-back : (t : Terms) (past : List Entry) (c : Cells) (es : List Entry) → 1 ≤ t.config.park_length → IsShape t.shape → Shown t past c → Legal (step t.shape) (Allowed t) (state_after t past) es
+back : (t : Terms) (past : List Entry) (c : Cells) (es : List Entry) → 1 ≤ t.config.park_length → IsShape t.shape → Shown t past c → Legal (step t.shape) (Allowed t) (state_after_past t past) es
     → Legal (next t) (IsSteppedEntry t) c es → AreDrawn t past es × Follow c.stream es
 back t past c [] some shape shown legal h = (tt, tt)
 back t past c (e ∷ es) some shape shown legal h =

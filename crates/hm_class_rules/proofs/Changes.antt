@@ -18,7 +18,7 @@ use Rattle.hm_sizes.specs.Shapes.{IsShape, place, slab_of, slab_at, usable}
 use Rattle.hm_sizes.proofs.PlaceTest.{slot_row}
 use Rattle.hm_class_rules.specs.State.{State, is_open, is_live, is_taken, is_free, has_free, is_empty, is_partial, empty_slabs}
 use Rattle.hm_class_rules.specs.Bytes.{write, overlaid_slabs, kept_canary}
-use Rattle.hm_class_rules.specs.Steps.{taken_new, opened, gives, takes_back, releases, unparks, retires, purges, moved}
+use Rattle.hm_class_rules.specs.Steps.{taken_new, opened, gives, takes_back, releases, unparks, retires, purges, changed}
 use Rattle.hm_class_rules.specs.Rules.{Terms, Allows, AllowsFreed, Source, Picks, surplus}
 use Rattle.hm_class_rules.specs.Draws.{Returned, event_of}
 use Rattle.hm_class_rules.specs.Kinds.{Kind, Partial, Empty, Neither, kind}
@@ -181,9 +181,9 @@ opened_slab p s None n k source e = absurd (none-some k e)
 opened_slab p s (Some m) n k source e = source.0 ∙ same_Some m k e
 
 freed_one : (t : Terms) (s : State) (before now : ℕ) (c : Choices) (a m : ℕ) (stated : Option ℕ) → IsShape t.shape → AllowsFreed t s before now c a stated → m ≢ touched t.shape c.released (Returned a)
-    → kind t.shape (moved t.shape c (GiveBack a stated) Freed s) m ≡ kind t.shape s m
+    → kind t.shape (changed t.shape c (GiveBack a stated) Freed s) m ≡ kind t.shape s m
 freed_one t s before now c a m stated shape allows ne =
-    slab_alike p (moved p c (GiveBack a stated) Freed s) s m
+    slab_alike p (changed p c (GiveBack a stated) Freed s) s m
     (open_purges p c.purged (retires c.retired (unparks c.unparked s₂)) m
     ∙ open_retires c.retired (unparks c.unparked s₂) m (λ k is e. ne (sym e ∙ surplus_slab p s₂ c.released a k (retired_was t s₂ before now c (surplus p s₂ c.released) allows.emptied k is)))
     ∙ open_unparks c.unparked s₂ m
@@ -207,15 +207,15 @@ given_one p s c a asked m shape picks ne =
     (λ i lt. ap (λ b. b || (among (place p m i) (opened p c.opened c.canary s).held || among (place p m i) (opened p c.opened c.canary s).condemned)) (has_put a (place p m i) asked (opened p c.opened c.canary s).live (apart p shape m i a lt ne))
     ∙ taken_opened p c.opened c.canary s (place p m i))
 
-condemned_one : (p : Shape) (s : State) (c : Choices) (a m : ℕ) → IsShape p → Picks p s (opened p c.opened c.canary s) c a → m ≢ slab_of p a → kind p (moved p c (Allot 0 1) (Overwritten a 0 0) s) m ≡ kind p s m
+condemned_one : (p : Shape) (s : State) (c : Choices) (a m : ℕ) → IsShape p → Picks p s (opened p c.opened c.canary s) c a → m ≢ slab_of p a → kind p (changed p c (Allot 0 1) (Overwritten a 0 0) s) m ≡ kind p s m
 condemned_one p s c a m shape picks ne =
-    slab_alike p (moved p c (Allot 0 1) (Overwritten a 0 0) s) s m
+    slab_alike p (changed p c (Allot 0 1) (Overwritten a 0 0) s) s m
     (open_opened p c.opened c.canary s m (λ n is e. ne (sym e ∙ sym (opened_slab p s c.opened (slab_of p a) n picks.source is))))
     (λ i lt. ap (λ b. is_live (opened p c.opened c.canary s) (place p m i) || (among (place p m i) (opened p c.opened c.canary s).held || b)) (among_apart a (place p m i) (opened p c.opened c.canary s).condemned (apart p shape m i a lt ne))
     ∙ taken_opened p c.opened c.canary s (place p m i))
 
 pub changes_one : (t : Terms) (s : State) (before now : ℕ) (c : Choices) (call : Call) (reply : Reply) → IsShape t.shape → Allows t s before now c call reply → (m : ℕ) → m ≢ touched t.shape c.released (event_of call reply)
-    → kind t.shape (moved t.shape c call reply s) m ≡ kind t.shape s m
+    → kind t.shape (changed t.shape c call reply s) m ≡ kind t.shape s m
 changes_one t s before now c (Allot asked align) (Given a size) shape allows m ne = given_one t.shape s c a asked m shape allows.0 ne
 changes_one t s before now c (Allot asked align) (Overwritten a at found) shape allows m ne = condemned_one t.shape s c a m shape allows.0 ne
 changes_one t s before now c (GiveBack a stated) Freed shape allows m ne = freed_one t s before now c a m stated shape allows ne

@@ -8,11 +8,11 @@ use Rattle.hm_model.specs.declared.entry.Reply.{Reply}
 use Rattle.hm_model.specs.declared.entry.Reply.TheVariants.{Given, Overwritten, Freed, Filled}
 use Rattle.hm_model.specs.declared.entry.Choices.{Choices}
 use Rattle.hm_sizes.specs.declared.shape.Shape.{Shape}
-use Rattle.hm_model.specs.Machine.{run, Legal, Legal_split}
+use Rattle.hm_model.specs.Machine.{state_after, Legal, Legal_split}
 use Rattle.hm_model.specs.Maps.{among, without}
 use Rattle.hm_class_rules.specs.State.{State, start}
 use Rattle.hm_sizes.specs.Shapes.{delay, place}
-use Rattle.hm_class_rules.specs.Steps.{taken_new, opened, takes_back, releases, unparks, retires, purges, moved, step}
+use Rattle.hm_class_rules.specs.Steps.{taken_new, opened, takes_back, releases, unparks, retires, purges, changed, step}
 use Rattle.hm_class_rules.specs.Rules.{Terms, Allows, Allowed, AllowsFreed, AllowsGiven, Releases}
 use Rattle.hm_model.specs.Calls.{IsFreedAt}
 use Rattle.hm_class_rules.specs.Laws.{is_freed, frees_in, IsGivenAt, Delays}
@@ -93,7 +93,7 @@ move p a k held held' frees frees' e f w = subst (λ (x : List ℕ). Waits p a k
 -- a free, with a in quarantine since
 waits_freed : (t : Terms) (s : State) (before now : ℕ) (c : Choices) (a b k : ℕ) (stated : Option ℕ) → AllowsFreed t s before now c b stated
     → among a (b ∷ s.held) ≡ true → among a (take (suc k) (b ∷ s.frees)) ≡ true
-    → let s' = moved t.shape c (GiveBack b stated) Freed s in Waits t.shape a k s'.held s'.frees
+    → let s' = changed t.shape c (GiveBack b stated) Freed s in Waits t.shape a k s'.held s'.frees
 waits_freed t s before now c a b k stated allows held recent =
     let s₂ : State = releases c.released (takes_back t.shape b s) in
     move t.shape a k s₂.held _ s₂.frees _ (out_held t.shape s₂ c.retired c.purged c.unparked) (out_frees t.shape s₂ c.retired c.purged c.unparked)
@@ -102,29 +102,29 @@ waits_freed t s before now c a b k stated allows held recent =
 abbrev one : Reply → ℕ
 one reply = cond (is_freed reply) 1 0
 
-waits_moved : (t : Terms) (s : State) (before now : ℕ) (c : Choices) (call : Call) (reply : Reply) (a k : ℕ) → Allows t s before now c call reply → Waits t.shape a k s.held s.frees
-    → let s' = moved t.shape c call reply s in Waits t.shape a (k + one reply) s'.held s'.frees
-waits_moved t s before now c (Allot asked align) (Given x size) a k allows w =
+waits_changed : (t : Terms) (s : State) (before now : ℕ) (c : Choices) (call : Call) (reply : Reply) (a k : ℕ) → Allows t s before now c call reply → Waits t.shape a k s.held s.frees
+    → let s' = changed t.shape c call reply s in Waits t.shape a (k + one reply) s'.held s'.frees
+waits_changed t s before now c (Allot asked align) (Given x size) a k allows w =
     waits_more t.shape a k (k + 0) _ _ (omega arith) (move t.shape a k s.held _ s.frees _ (opened_held t.shape c.opened c.canary s) (opened_frees t.shape c.opened c.canary s) w)
-waits_moved t s before now c (Allot asked align) (Overwritten x place found) a k allows w =
+waits_changed t s before now c (Allot asked align) (Overwritten x place found) a k allows w =
     waits_more t.shape a k (k + 0) _ _ (omega arith) (move t.shape a k s.held _ s.frees _ (opened_held t.shape c.opened c.canary s) (opened_frees t.shape c.opened c.canary s) w)
-waits_moved t s before now c (GiveBack b stated) Freed a k allows w =
+waits_changed t s before now c (GiveBack b stated) Freed a k allows w =
     ⊎_elim
     (λ l. waits_more t.shape a (suc k) (k + 1) _ _ (omega arith)
     (waits_freed t s before now c a b (suc k) stated allows (or_right (b == a) (among a s.held) l.0) (or_right (b == a) (among a (take (suc k) s.frees)) l.1)))
     (λ r. inr (omega arith))
     w
-waits_moved t s before now c (Fill x runs) Filled a k allows w = waits_more t.shape a k (k + 0) _ _ (omega arith) w
-waits_moved t s before now c call reply a k allows w = waits_more t.shape a k (k + one reply) s.held s.frees (omega arith) w
+waits_changed t s before now c (Fill x runs) Filled a k allows w = waits_more t.shape a k (k + 0) _ _ (omega arith) w
+waits_changed t s before now c call reply a k allows w = waits_more t.shape a k (k + one reply) s.held s.frees (omega arith) w
 
 waits_step : (t : Terms) (s : State) (e : Entry) (a k : ℕ) → Allowed t s e → Waits t.shape a k s.held s.frees → let s' = step t.shape s e in Waits t.shape a (k + one e.reply) s'.held s'.frees
-waits_step t s e a k allowed w = waits_moved t s e.faults_before e.faults_after e.choices e.call e.reply a k allowed.allows w
+waits_step t s e a k allowed w = waits_changed t s e.faults_before e.faults_after e.choices e.call e.reply a k allowed.allows w
 
 waits_run : (t : Terms) (s : State) (es : List Entry) (a k : ℕ) → Legal (step t.shape) (Allowed t) s es → Waits t.shape a k s.held s.frees
-    → let s' = run (step t.shape) (Allowed t) s es in Waits t.shape a (k + frees_in es) s'.held s'.frees
+    → let s' = state_after (step t.shape) (Allowed t) s es in Waits t.shape a (k + frees_in es) s'.held s'.frees
 waits_run t s [] a k legal w = waits_more t.shape a k (k + 0) s.held s.frees (omega arith) w
 waits_run t s (e ∷ es) a k legal w =
-    let s' = run (step t.shape) (Allowed t) s (e ∷ es) in
+    let s' = state_after (step t.shape) (Allowed t) s (e ∷ es) in
     waits_more t.shape a ((k + one e.reply) + frees_in es) (k + frees_in (e ∷ es)) s'.held s'.frees (omega arith)
     (waits_run t (step t.shape s e) es a (k + one e.reply) legal.1 (waits_step t s e a k legal.0 w))
 
@@ -134,8 +134,8 @@ waits_start t s e a allowed is =
     let allows : AllowsFreed t s e.faults_before e.faults_after e.choices a is.stated =
     subst (λ (r : Reply). Allows t s e.faults_before e.faults_after e.choices (GiveBack a is.stated) r) is.reply
     (subst (λ (c : Call). Allows t s e.faults_before e.faults_after e.choices c e.reply) is.call allowed.allows) in
-    subst (λ (r : Reply). let s' = moved t.shape e.choices e.call r s in Waits t.shape a 0 s'.held s'.frees) (sym is.reply)
-    (subst (λ (c : Call). let s' = moved t.shape e.choices c Freed s in Waits t.shape a 0 s'.held s'.frees) (sym is.call)
+    subst (λ (r : Reply). let s' = changed t.shape e.choices e.call r s in Waits t.shape a 0 s'.held s'.frees) (sym is.reply)
+    (subst (λ (c : Call). let s' = changed t.shape e.choices c Freed s in Waits t.shape a 0 s'.held s'.frees) (sym is.call)
     (waits_freed t s e.faults_before e.faults_after e.choices a a 0 is.stated allows (among_here a s.held) (among_here a (take 0 s.frees))))
 
 -- and no slot in quarantine is given
@@ -155,8 +155,8 @@ waits_end t s e a k allowed is w =
 pub delays : Delays
 delays t es middle fs f g a legal freed given =
     let p₀ = Legal_split (step t.shape) (Allowed t) start es (f ∷ (middle ++ (g ∷ fs))) legal in
-    let s₀ : State = run (step t.shape) (Allowed t) start es in
+    let s₀ : State = state_after (step t.shape) (Allowed t) start es in
     let p₁ = Legal_split (step t.shape) (Allowed t) (step t.shape s₀ f) middle (g ∷ fs) p₀.1.1 in
-    let s₁ : State = run (step t.shape) (Allowed t) (step t.shape s₀ f) middle in
+    let s₁ : State = state_after (step t.shape) (Allowed t) (step t.shape s₀ f) middle in
     let w = waits_run t (step t.shape s₀ f) middle a 0 p₁.0 (waits_start t s₀ f a p₀.1.0 freed) in
     omega (arith, waits_end t s₁ g a (0 + frees_in middle) p₁.1.0 given w)

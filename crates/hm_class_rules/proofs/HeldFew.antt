@@ -5,10 +5,10 @@ use Rattle.hm_model.specs.declared.entry.Call.TheVariants.{Allot, GiveBack, Fill
 use Rattle.hm_model.specs.declared.entry.Reply.{Reply}
 use Rattle.hm_model.specs.declared.entry.Reply.TheVariants.{Given, Overwritten, Freed, Filled}
 use Rattle.hm_model.specs.declared.entry.Choices.{Choices}
-use Rattle.hm_model.specs.Machine.{run_keeps}
+use Rattle.hm_model.specs.Machine.{legal_keeps}
 use Rattle.hm_sizes.specs.declared.shape.Shape.{Shape}
 use Rattle.hm_class_rules.specs.State.{State, start}
-use Rattle.hm_class_rules.specs.Steps.{takes_back, releases, moved, step}
+use Rattle.hm_class_rules.specs.Steps.{takes_back, releases, changed, step}
 use Rattle.hm_class_rules.specs.Rules.{Terms, Allows, Allowed, Releases}
 use Rattle.hm_class_rules.specs.Laws.{HoldsFew}
 use Rattle.hm_class_rules.proofs.Delay.{out_held, opened_held}
@@ -21,15 +21,15 @@ few_released : (p : Shape) (s : State) (o : Option ℕ) → Releases p s o → A
 few_released p s None allows = allows
 few_released p s (Some b) allows = allows.2
 
-few_moved : (t : Terms) (s : State) (before now : ℕ) (c : Choices) (call : Call) (reply : Reply) → AreFew t.shape s.held → Allows t s before now c call reply → AreFew t.shape (moved t.shape c call reply s).held
-few_moved t s before now c (Allot asked align) (Given a size) few allows = subst (λ (l : List ℕ). AreFew t.shape l) (sym (opened_held t.shape c.opened c.canary s)) few
-few_moved t s before now c (Allot asked align) (Overwritten a place found) few allows = subst (λ (l : List ℕ). AreFew t.shape l) (sym (opened_held t.shape c.opened c.canary s)) few
-few_moved t s before now c (GiveBack a stated) Freed few allows =
+few_changed : (t : Terms) (s : State) (before now : ℕ) (c : Choices) (call : Call) (reply : Reply) → AreFew t.shape s.held → Allows t s before now c call reply → AreFew t.shape (changed t.shape c call reply s).held
+few_changed t s before now c (Allot asked align) (Given a size) few allows = subst (λ (l : List ℕ). AreFew t.shape l) (sym (opened_held t.shape c.opened c.canary s)) few
+few_changed t s before now c (Allot asked align) (Overwritten a place found) few allows = subst (λ (l : List ℕ). AreFew t.shape l) (sym (opened_held t.shape c.opened c.canary s)) few
+few_changed t s before now c (GiveBack a stated) Freed few allows =
     subst (λ (l : List ℕ). AreFew t.shape l) (sym (out_held t.shape (releases c.released (takes_back t.shape a s)) c.retired c.purged c.unparked))
     (few_released t.shape (takes_back t.shape a s) c.released allows.release)
-few_moved t s before now c (Fill a runs) Filled few allows = few
-few_moved t s before now c call reply few allows = few
+few_changed t s before now c (Fill a runs) Filled few allows = few
+few_changed t s before now c call reply few allows = few
 
 pub holds_few : HoldsFew
 holds_few t es legal =
-    run_keeps (step t.shape) (Allowed t) (λ s. AreFew t.shape s.held) (λ s e few allowed. few_moved t s e.faults_before e.faults_after e.choices e.call e.reply few allowed.allows) start es (omega arith) legal
+    legal_keeps (step t.shape) (Allowed t) (λ s. AreFew t.shape s.held) (λ s e few allowed. few_changed t s e.faults_before e.faults_after e.choices e.call e.reply few allowed.allows) start es (omega arith) legal

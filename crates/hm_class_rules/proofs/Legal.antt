@@ -11,13 +11,13 @@ use Rattle.hm_model.specs.declared.entry.Reply.{Reply}
 use Rattle.hm_model.specs.declared.entry.Reply.TheVariants.{Given, Overwritten, Freed, Filled}
 use Rattle.hm_model.specs.declared.entry.Choices.{Choices}
 use Rattle.hm_sizes.specs.declared.shape.Shape.{Shape}
-use Rattle.hm_model.specs.Machine.{Legal_push, Legal_split, run_keeps}
+use Rattle.hm_model.specs.Machine.{Legal_push, Legal_split, legal_keeps}
 use Rattle.hm_model.specs.Maps.{among}
 use Rattle.hm_class_rules.specs.State.{State, start, is_open, is_taken, is_free, is_empty, empty_slabs, unopened}
 use Rattle.hm_sizes.proofs.PlaceTest.{place_is, slot_row}
 use Rattle.hm_sizes.specs.Shapes.{place, slab_of, slot_of, IsPlaceOf}
 use Rattle.hm_model.specs.Runs.{expand}
-use Rattle.hm_class_rules.specs.Steps.{opened, takes_back, releases, unparks, retires, purges, moved, step}
+use Rattle.hm_class_rules.specs.Steps.{opened, takes_back, releases, unparks, retires, purges, changed, step}
 use Rattle.hm_class_rules.specs.Rules.{Terms, Allows, Allowed, state, Source, Picks, AllowsFreed, Empties, surplus, Unparks}
 use Rattle.hm_sizes.specs.Shapes.{IsShape}
 use Rattle.hm_class_rules.specs.Laws.{uses, IsSound, Sound, Prefixes, OneMore, OneLess, Apart}
@@ -104,21 +104,21 @@ picked_place p s now c a k = place_is p a (slab_of p a) (slot_of p a) k.place
 pub picked_uses : (p : Shape) (s now : State) (c : Choices) (a : ℕ) (k : Picks p s now c a) → (is_open now (slab_of p a) ≡ true) × (uses now a ≡ 0)
 picked_uses p s now c a k = (k.open_slab, free_uses now a (ap (λ (b : Bool). not b) k.free))
 
-sound_moved : (t : Terms) (s : State) (before now : ℕ) (c : Choices) (call : Call) (reply : Reply) → IsShape t.shape → IsSound t.shape s → Allows t s before now c call reply → IsSound t.shape (moved t.shape c call reply s)
-sound_moved t s before now c (Allot asked align) (Given a size) shape h allows =
+sound_changed : (t : Terms) (s : State) (before now : ℕ) (c : Choices) (call : Call) (reply : Reply) → IsShape t.shape → IsSound t.shape s → Allows t s before now c call reply → IsSound t.shape (changed t.shape c call reply s)
+sound_changed t s before now c (Allot asked align) (Given a size) shape h allows =
     let k = allows.0 in
     let u = picked_uses t.shape s (opened t.shape c.opened c.canary s) c a k in
     sound_gives t.shape (opened t.shape c.opened c.canary s) (slab_of t.shape a) (slot_of t.shape a) a asked (sound_opened t.shape s c.opened c.canary shape h (λ n. source_new t.shape s c.opened (slab_of t.shape a) n k.source)) (picked_place t.shape s (opened t.shape c.opened c.canary s) c a k) u.0 u.1
-sound_moved t s before now c (Allot asked align) (Overwritten a place found) shape h allows =
+sound_changed t s before now c (Allot asked align) (Overwritten a place found) shape h allows =
     let k = allows.0 in
     let u = picked_uses t.shape s (opened t.shape c.opened c.canary s) c a k in
     sound_condemns t.shape (opened t.shape c.opened c.canary s) (slab_of t.shape a) (slot_of t.shape a) a (sound_opened t.shape s c.opened c.canary shape h (λ n. source_new t.shape s c.opened (slab_of t.shape a) n k.source)) (picked_place t.shape s (opened t.shape c.opened c.canary s) c a k) u.0 u.1
-sound_moved t s before now c (GiveBack a stated) Freed shape h allows = sound_freed t s before now c a stated shape h allows
-sound_moved t s before now c (Fill a runs) Filled shape h allows = sound_write t.shape s a (expand runs) h
-sound_moved t s before now c call reply shape h allows = h
+sound_changed t s before now c (GiveBack a stated) Freed shape h allows = sound_freed t s before now c a stated shape h allows
+sound_changed t s before now c (Fill a runs) Filled shape h allows = sound_write t.shape s a (expand runs) h
+sound_changed t s before now c call reply shape h allows = h
 
 pub sound_step : (t : Terms) (s : State) (e : Entry) → IsShape t.shape → IsSound t.shape s → Allowed t s e → IsSound t.shape (step t.shape s e)
-sound_step t s e shape h allowed = sound_faults t.shape _ e.faults_after (sound_moved t s e.faults_before e.faults_after e.choices e.call e.reply shape h allowed.allows)
+sound_step t s e shape h allowed = sound_faults t.shape _ e.faults_after (sound_changed t s e.faults_before e.faults_after e.choices e.call e.reply shape h allowed.allows)
 
 pub sound_start : (p : Shape) → IsShape p → IsSound p start
 sound_start p shape = record {
@@ -133,7 +133,7 @@ sound_start p shape = record {
 }
 
 pub sound : Sound
-sound t es shape legal = run_keeps (step t.shape) (Allowed t) (IsSound t.shape) (λ s e h allowed. sound_step t s e shape h allowed) start es (sound_start t.shape shape) legal
+sound t es shape legal = legal_keeps (step t.shape) (Allowed t) (IsSound t.shape) (λ s e h allowed. sound_step t s e shape h allowed) start es (sound_start t.shape shape) legal
 
 -- ---- live slots
 pub slab_row : (first slab m n : ℕ) → m < n → (first + m * slab) + slab ≤ first + n * slab

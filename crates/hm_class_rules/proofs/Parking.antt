@@ -2,7 +2,7 @@
 use Rattle.std.proofs.Common.{◌≡◌, ℕ, zero, suc, ◌+◌, ◌<◌, ◌≤◌, ◌==◌, Bool, true, cond, List, [], ◌∷◌, length, replicate, get_or, set, Option, Some, None, sym, ◌∙◌, ap, subst, refl, arith, length-set}
 use Rattle.std.proofs.lemmas.List.{length-replicate}
 use Rattle.hm_base.specs.Members.{without_option}
-use Rattle.hm_quarantine.specs.Quarantine.{IsArrayPlace}
+use Rattle.hm_quarantine.specs.Quarantine.{IsArrayIndex}
 use Rattle.hm_quarantine.proofs.Counts as counted
 use Rattle.hm_quarantine.proofs.Counts.{one_of, count, count_in, count_array, count_empty, count_without, self_is, count_at, count_all, count_most}
 use Rattle.hm_quarantine.proofs.Passes.{on_with}
@@ -15,7 +15,7 @@ use Rattle.hm_model.specs.declared.entry.Choices.{Choices}
 use Rattle.hm_model.proofs.Lists.{among_times}
 use Rattle.hm_sizes.specs.declared.shape.Shape.{Shape}
 use Rattle.hm_class_rules.specs.State.{State}
-use Rattle.hm_class_rules.specs.Steps.{taken_new, opened, takes_back, releases, unparks, retires, purges, moved}
+use Rattle.hm_class_rules.specs.Steps.{taken_new, opened, takes_back, releases, unparks, retires, purges, changed}
 use Rattle.hm_class_rules.specs.Rules.{Terms, Unparks}
 use Rattle.hm_class_rules.specs.Draws.{Event, Returned, event_of}
 use Rattle.hm_class_rules.specs.Drawn.{unparked_by}
@@ -79,7 +79,7 @@ parks_at most place m parked parking are once lt =
       length_is = length-set parking place (Some m) ∙ are.length_is;
     }
   where
-    is_place : (n : ℕ) → place < n → IsArrayPlace n place
+    is_place : (n : ℕ) → place < n → IsArrayIndex n place
     is_place zero h = absurd (omega arith)
     is_place (suc n) h = h
 
@@ -118,8 +118,8 @@ retired_parks most place None unparked parked parking are once lt e = subst (λ 
 retired_parks most place (Some m) unparked parked parking are once lt e =
     subst (λ (o : Option ℕ). AreParked most (m ∷ without_option o parked) (set parking place (Some m))) (sym e) (parks_at most place m parked parking are once lt)
 
-parked_moved : (most : ℕ) (parked parked' : List ℕ) (parking : List (Option ℕ)) → parked' ≡ parked → AreParked most parked parking → AreParked most parked' parking
-parked_moved most parked parked' parking e are = subst (λ (l : List ℕ). AreParked most l parking) (sym e) are
+parked_changed : (most : ℕ) (parked parked' : List ℕ) (parking : List (Option ℕ)) → parked' ≡ parked → AreParked most parked parking → AreParked most parked' parking
+parked_changed most parked parked' parking e are = subst (λ (l : List ℕ). AreParked most l parking) (sym e) are
 
 -- the parking array after an event
 abbrev pub parking_by : ℕ → Choices → Event → List (Option ℕ) → List (Option ℕ)
@@ -132,12 +132,12 @@ UnparksDrawn place c (Returned a) parking = c.unparked ≡ unparked_by c.retired
 UnparksDrawn place c event parking = Unit {0}
 
 pub parked_next : (t : Terms) (s : State) (most place : ℕ) (parking : List (Option ℕ)) (c : Choices) (call : Call) (reply : Reply) → ((n : ℕ) → times n s.parked ≤ 1) → place < most
-    → UnparksDrawn place c (event_of call reply) parking → AreParked most s.parked parking → AreParked most (moved t.shape c call reply s).parked (parking_by place c (event_of call reply) parking)
-parked_next t s most place parking c (Allot asked align) (Given a size) once lt drawn are = parked_moved most s.parked _ parking (opened_parked t.shape c.opened c.canary s) are
-parked_next t s most place parking c (Allot asked align) (Overwritten a at found) once lt drawn are = parked_moved most s.parked _ parking (opened_parked t.shape c.opened c.canary s) are
+    → UnparksDrawn place c (event_of call reply) parking → AreParked most s.parked parking → AreParked most (changed t.shape c call reply s).parked (parking_by place c (event_of call reply) parking)
+parked_next t s most place parking c (Allot asked align) (Given a size) once lt drawn are = parked_changed most s.parked _ parking (opened_parked t.shape c.opened c.canary s) are
+parked_next t s most place parking c (Allot asked align) (Overwritten a at found) once lt drawn are = parked_changed most s.parked _ parking (opened_parked t.shape c.opened c.canary s) are
 parked_next t s most place parking c (GiveBack a stated) Freed once lt drawn are =
     let s₂ : State = releases c.released (takes_back t.shape a s) in
-    parked_moved most (parked_with c.retired c.unparked s.parked) _ (parking_with place c.retired parking)
+    parked_changed most (parked_with c.retired c.unparked s.parked) _ (parking_with place c.retired parking)
     (out_parked t.shape s₂ c.retired c.purged c.unparked ∙ ap (λ (l : List ℕ). parked_with c.retired c.unparked l) (released_parked c.released (takes_back t.shape a s)))
     (retired_parks most place c.retired c.unparked s.parked parking are once lt drawn)
 parked_next t s most place parking c (Fill a runs) Filled once lt drawn are = are

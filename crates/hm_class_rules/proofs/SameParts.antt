@@ -21,7 +21,7 @@ use Rattle.hm_class_rules.specs.State.{State, is_live}
 use Rattle.hm_class_rules.specs.Steps.{opened, takes_back, releases}
 use Rattle.hm_class_rules.specs.Rules.{Terms, Picks, reuse_finds, surplus, Empties, Allows}
 use Rattle.hm_class_rules.specs.Judged.{first_reply}
-use Rattle.hm_class_rules.specs.Draws.{Picked, Undrawn, event_of, start_words, array_words, parking_words, word_count, words_from, words_of, start_slot, array_place, parking_place}
+use Rattle.hm_class_rules.specs.Draws.{Picked, Undrawn, event_of, start_words, array_words, parking_words, word_count, words_from, words_of, start_slot, array_index, parking_index}
 use Rattle.hm_class_rules.specs.Drawn.{first_free, unparked_by}
 use Rattle.hm_class_rules.specs.Stepped.{Cells, front, IsSteppedPicking, IsSteppedEvent}
 use Rattle.hm_class_rules.proofs.JudgedReplies.{judged_law}
@@ -189,7 +189,7 @@ freed_agree : (t : Terms) (c : Cells) (e f : Entry) (a : ℕ) (stated : Option �
     → Stands t c e (GiveBack a stated) Freed → Stands t c f (GiveBack a stated) Freed → Agree e f Freed Freed
 freed_agree t c e f a stated flag x y =
     let p : Shape = t.shape in
-    let place : array_place p e.draws ≡ array_place p f.draws =
+    let place : array_index p e.draws ≡ array_index p f.draws =
     same_place p.array c.stream e.draws f.draws (parking_words e.choices) (parking_words f.choices) x.count y.count x.words y.words in
     let released : e.choices.released ≡ f.choices.released =
     x.stepped.released ∙ ap (λ (n : ℕ). let_go c.quarantine a n) place ∙ sym y.stepped.released in
@@ -204,7 +204,7 @@ freed_agree t c e f a stated flag x y =
     let draws : e.draws ≡ f.draws = same_draws c.stream e.draws f.draws x.draws y.draws used x.words y.words in
     let unparked : e.choices.unparked ≡ f.choices.unparked =
     x.stepped.unparked
-    ∙ (λ i. unparked_by (gone.retired i) (slice_index_or c.parking (parking_place t (draws i)) None))
+    ∙ (λ i. unparked_by (gone.retired i) (slice_index_or c.parking (parking_index t (draws i)) None))
     ∙ sym y.stepped.unparked in
     record {
       replies = refl;

@@ -1,8 +1,8 @@
 -- What the frees of a legal and drawn history hold in quarantine.
 use Rattle.std.proofs.Common.{◌≡◌, ℕ, ◌+◌, ◌≤◌, ◌==◌, Bool, true, false, List, [], ◌∷◌, length, take, Option, Some, None, IfSome, sym, ◌∙◌, ap, subst, refl, arith}
 use Rattle.hm_base.specs.Members.{without_option}
-use Rattle.hm_quarantine.specs.Quarantine.{Kept, IsArrayPlace, goes_on, let_go, kept_with}
-use Rattle.hm_quarantine.specs.LookingBack.{Free, released, ArePlaces, kept_after}
+use Rattle.hm_quarantine.specs.Quarantine.{Kept, IsArrayIndex, goes_on, let_go, kept_with}
+use Rattle.hm_quarantine.specs.LookingBack.{Free, released, AreIndices, kept_after}
 use Rattle.hm_quarantine.specs.Delay.{slots_of, held, AreNew, IsDelayed}
 use Rattle.hm_quarantine.proofs.Counts as counted
 use Rattle.hm_quarantine.proofs.Counts.{one_of, count, count_in, count_array, count_empty, count_ring, count_without, once_more, self_is}
@@ -19,7 +19,7 @@ use Rattle.hm_model.proofs.Lists.{among_none}
 use Rattle.hm_sizes.specs.declared.shape.Shape.{Shape}
 use Rattle.hm_sizes.specs.Shapes.{delay}
 use Rattle.hm_class_rules.specs.State.{State, is_live}
-use Rattle.hm_class_rules.specs.Steps.{takes_back, releases, moved}
+use Rattle.hm_class_rules.specs.Steps.{takes_back, releases, changed}
 use Rattle.hm_class_rules.specs.Rules.{Terms, Allows, Releases}
 use Rattle.hm_class_rules.specs.Laws.{IsSound}
 use Rattle.hm_class_rules.specs.Draws.{Event, Returned, event_of}
@@ -34,8 +34,8 @@ pub record AreHeld (p : Shape) (frees : List Free) (in_quarantine accepted : Lis
   pub frees_is : accepted ≡ slots_of frees
   pub new : AreNew p.array p.ring frees
 
-held_moved : (p : Shape) (frees : List Free) (h h' f f' : List ℕ) → h' ≡ h → f' ≡ f → AreHeld p frees h f → AreHeld p frees h' f'
-held_moved p frees h h' f f' e d are = record { held_is = e ∙ are.held_is; frees_is = d ∙ are.frees_is; new = are.new }
+held_changed : (p : Shape) (frees : List Free) (h h' f f' : List ℕ) → h' ≡ h → f' ≡ f → AreHeld p frees h f → AreHeld p frees h' f'
+held_changed p frees h h' f f' e d are = record { held_is = e ∙ are.held_is; frees_is = d ∙ are.frees_is; new = are.new }
 
 -- a live address is not in quarantine
 live_apart : (p : Shape) (s : State) (a : ℕ) → IsSound p s → is_live s a ≡ true → among a s.held ≡ false
@@ -59,11 +59,11 @@ ReleasesDrawn p frees d c event = Unit {0}
 
 pub held_next : (t : Terms) (s : State) (frees : List Free) (d : Draws) (before now : ℕ) (c : Choices) (call : Call) (reply : Reply) → IsSound t.shape s → Allows t s before now c call reply
     → ReleasesDrawn t.shape frees d c (event_of call reply) → AreHeld t.shape frees s.held s.frees
-    → let s' = moved t.shape c call reply s in AreHeld t.shape (with_free t.shape d (event_of call reply) frees) s'.held s'.frees
+    → let s' = changed t.shape c call reply s in AreHeld t.shape (with_free t.shape d (event_of call reply) frees) s'.held s'.frees
 held_next t s frees d before now c (Allot asked align) (Given a size) sound allows drawn are =
-    held_moved t.shape frees s.held _ s.frees _ (opened_held t.shape c.opened c.canary s) (opened_frees t.shape c.opened c.canary s) are
+    held_changed t.shape frees s.held _ s.frees _ (opened_held t.shape c.opened c.canary s) (opened_frees t.shape c.opened c.canary s) are
 held_next t s frees d before now c (Allot asked align) (Overwritten a at found) sound allows drawn are =
-    held_moved t.shape frees s.held _ s.frees _ (opened_held t.shape c.opened c.canary s) (opened_frees t.shape c.opened c.canary s) are
+    held_changed t.shape frees s.held _ s.frees _ (opened_held t.shape c.opened c.canary s) (opened_frees t.shape c.opened c.canary s) are
 held_next t s frees d before now c (GiveBack a stated) Freed sound allows drawn are =
     let p : Shape = t.shape in
     let s₂ : State = releases c.released (takes_back p a s) in
@@ -86,8 +86,8 @@ releases_by p s (Some b) frees free are late few = (
   subst (λ (l : List ℕ). length (without_option (Some b) (free.slot ∷ l)) ≤ p.array + p.ring) (sym are.held_is) few,
 )
 
-pub release_allowed : (p : Shape) (s : State) (frees : List Free) (kept : Kept) (a place : ℕ) → IsSound p s → AreHeld p frees s.held s.frees → ArePlaces p.array frees → kept ≡ kept_after p.array p.ring frees → is_live s a ≡ true
-    → IsArrayPlace p.array place → Releases p (takes_back p a s) (let_go kept a place)
+pub release_allowed : (p : Shape) (s : State) (frees : List Free) (kept : Kept) (a place : ℕ) → IsSound p s → AreHeld p frees s.held s.frees → AreIndices p.array frees → kept ≡ kept_after p.array p.ring frees → is_live s a ≡ true
+    → IsArrayIndex p.array place → Releases p (takes_back p a s) (let_go kept a place)
 release_allowed p s frees kept a place sound are places is live at_place =
     let free : Free = record { slot = a; place = place } in
     let new : AreNew p.array p.ring (free ∷ frees) = (ap (λ (l : List ℕ). among a l) (sym are.held_is) ∙ live_apart p s a sound live, are.new) in
@@ -96,7 +96,7 @@ release_allowed p s frees kept a place sound are places is live at_place =
     (releases_by p s (released p.array p.ring frees free) frees free are (delays p.array p.ring frees free (at_place, places) new) (holds_few p.array p.ring (free ∷ frees) (at_place, places) new))
 
 -- ---- the array and the ring hold just what is held
-pub ring_few : (n size : ℕ) (past : List Free) → ArePlaces n past → length (kept_after n size past).ring ≤ size
+pub ring_few : (n size : ℕ) (past : List Free) → AreIndices n past → length (kept_after n size past).ring ≤ size
 ring_few n size past places = subst (λ (l : List ℕ). length l ≤ size) (sym (ring_is n size past places)) (few_latest size _)
 
 -- each slot stands in quarantine once, in the array or in the ring
@@ -104,7 +104,7 @@ pub record AreCounted (n size : ℕ) (past : List Free) : Type 0 where
   pub counts : (f : ℕ → Bool) → count f (held n size past) ≡ count_in f (kept_after n size past).array + count f (kept_after n size past).ring
   pub once : (a : ℕ) → counted.times a (held n size past) ≤ 1
 
-counted_next : (n size : ℕ) (past : List Free) (free : Free) → ArePlaces n (free ∷ past) → AreNew n size (free ∷ past) → AreCounted n size past → AreCounted n size (free ∷ past)
+counted_next : (n size : ℕ) (past : List Free) (free : Free) → AreIndices n (free ∷ past) → AreNew n size (free ∷ past) → AreCounted n size past → AreCounted n size (free ∷ past)
 counted_next n size past free places new before = record {
   counts = λ f. omega (arith, left f, entered f);
   once = λ a. omega (arith, once_more a free.slot (held n size past) new.0 (before.once a), left (λ x. x == a));
@@ -122,7 +122,7 @@ counted_next n size past free places new before = record {
         omega (
           arith,
           before.counts f,
-          count_array f kept.array free.slot free.place (subst (λ (j : ℕ). IsArrayPlace j free.place) (sym (length_array n size past)) places.0),
+          count_array f kept.array free.slot free.place (subst (λ (j : ℕ). IsArrayIndex j free.place) (sym (length_array n size past)) places.0),
           count_ring f kept.ring_length kept.ring (goes_on kept.array free.slot free.place) (subst (λ (k : ℕ). length kept.ring ≤ k) (sym (length_is n size past)) (ring_few n size past places.1)),
           ap (λ (o : Option ℕ). one_of f o) (looks_back n size past free places),
         )
@@ -131,6 +131,6 @@ counted_next n size past free places new before = record {
     left f = count_without f out (free.slot ∷ held n size past)
         (λ b is. only_one _ (omega (arith, entered (λ x. x == b), ap (λ (o : Option ℕ). one_of (λ x. x == b) o) is, self_is b)) (once_more b free.slot (held n size past) new.0 (before.once b)))
 
-pub are_counted : (n size : ℕ) (past : List Free) → ArePlaces n past → AreNew n size past → AreCounted n size past
+pub are_counted : (n size : ℕ) (past : List Free) → AreIndices n past → AreNew n size past → AreCounted n size past
 are_counted n size [] places new = record { counts = λ f. omega (arith, count_empty f n); once = λ a. omega arith }
 are_counted n size (free ∷ past) places new = counted_next n size past free places new (are_counted n size past places.1 new.1)

@@ -11,7 +11,7 @@ use Rattle.hm_model.specs.declared.entry.Call.TheVariants.{Allot, GiveBack, Fill
 use Rattle.hm_model.specs.declared.entry.Reply.{Reply}
 use Rattle.hm_model.specs.declared.entry.Reply.TheVariants.{Given, Overwritten, Freed, Filled}
 use Rattle.hm_model.specs.declared.entry.Choices.{Choices}
-use Rattle.hm_model.specs.Machine.{run_keeps}
+use Rattle.hm_model.specs.Machine.{legal_keeps}
 use Rattle.hm_model.specs.Maps.{at, removed, put}
 use Rattle.hm_model.specs.Overlaid.{overlaid}
 use Rattle.hm_model.specs.Runs.{expand}
@@ -21,7 +21,7 @@ use Rattle.hm_sizes.specs.declared.shape.Shape.{Shape}
 use Rattle.hm_sizes.specs.Shapes.{has_bytes, usable, slab_at}
 use Rattle.hm_class_rules.specs.State.{State, Slab, start}
 use Rattle.hm_class_rules.specs.Bytes.{overlaid_slabs, kept_canary}
-use Rattle.hm_class_rules.specs.Steps.{new_slab, opened, takes_back, releases, unparks, retires, purges, moved, step}
+use Rattle.hm_class_rules.specs.Steps.{new_slab, opened, takes_back, releases, unparks, retires, purges, changed, step}
 use Rattle.hm_class_rules.specs.Rules.{Allowed}
 use Rattle.hm_class_rules.specs.Laws.{bytes_of_slab, AllWhole, WholeSlabs}
 
@@ -105,14 +105,14 @@ whole_purges : (p : Shape) (w : ℕ) (u : Option ℕ) (s : State) → AllWhole w
 whole_purges p w None s h = h
 whole_purges p w (Some m) s h = whole_write w p (slab_at p m) (zeros p.slab) s.opens h
 
-whole_moved : (p : Shape) (c : Choices) (call : Call) (reply : Reply) (s : State) → AllWhole (bytes_of_slab p) s.opens → AllWhole (bytes_of_slab p) (moved p c call reply s).opens
-whole_moved p c (Allot asked align) (Given a size) s h = whole_write (bytes_of_slab p) p (a + usable p) (to_le_bytes w64 (kept_canary p (opened p c.opened c.canary s) a)) (opened p c.opened c.canary s).opens (whole_opened p c.opened c.canary s h)
-whole_moved p c (Allot asked align) (Overwritten a place found) s h = whole_opened p c.opened c.canary s h
-whole_moved p c (GiveBack a stated) Freed s h =
+whole_changed : (p : Shape) (c : Choices) (call : Call) (reply : Reply) (s : State) → AllWhole (bytes_of_slab p) s.opens → AllWhole (bytes_of_slab p) (changed p c call reply s).opens
+whole_changed p c (Allot asked align) (Given a size) s h = whole_write (bytes_of_slab p) p (a + usable p) (to_le_bytes w64 (kept_canary p (opened p c.opened c.canary s) a)) (opened p c.opened c.canary s).opens (whole_opened p c.opened c.canary s h)
+whole_changed p c (Allot asked align) (Overwritten a place found) s h = whole_opened p c.opened c.canary s h
+whole_changed p c (GiveBack a stated) Freed s h =
     whole_purges p (bytes_of_slab p) c.purged (retires c.retired (unparks c.unparked (releases c.released (takes_back p a s)))) (whole_retires (bytes_of_slab p) c.retired (unparks c.unparked (releases c.released (takes_back p a s))) (whole_unparks (bytes_of_slab p) c.unparked (releases c.released (takes_back p a s)) (whole_releases (bytes_of_slab p) c.released (takes_back p a s) (whole_write (bytes_of_slab p) p a (zeros (usable p)) s.opens h))))
-whole_moved p c (Fill a runs) Filled s h = whole_write (bytes_of_slab p) p a (expand runs) s.opens h
-whole_moved p c call reply s h = h
+whole_changed p c (Fill a runs) Filled s h = whole_write (bytes_of_slab p) p a (expand runs) s.opens h
+whole_changed p c call reply s h = h
 
 pub whole_run : WholeSlabs
 whole_run t es legal =
-    run_keeps (step t.shape) (Allowed t) (λ s. AllWhole (bytes_of_slab t.shape) s.opens) (λ s e h allowed. whole_moved t.shape e.choices e.call e.reply s h) start es (λ n b is. absurd (none-some b is)) legal
+    legal_keeps (step t.shape) (Allowed t) (λ s. AllWhole (bytes_of_slab t.shape) s.opens) (λ s e h allowed. whole_changed t.shape e.choices e.call e.reply s h) start es (λ n b is. absurd (none-some b is)) legal

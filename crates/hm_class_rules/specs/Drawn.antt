@@ -10,7 +10,7 @@ use Rattle.hm_sizes.specs.declared.shape.Shape.{Shape}
 use Rattle.hm_class_rules.specs.State.{State, start, is_free}
 use Rattle.hm_class_rules.specs.Steps.{opened, step}
 use Rattle.hm_class_rules.specs.Rules.{Terms}
-use Rattle.hm_class_rules.specs.Draws.{stream_of, drawn_shape, words_from, all_words, Event, Picked, Returned, Undrawn, event, word_count, start_slot, array_place, parking_place}
+use Rattle.hm_class_rules.specs.Draws.{stream_of, drawn_shape, words_from, all_words, Event, Picked, Returned, Undrawn, event, word_count, start_slot, array_index, parking_index}
 use Rattle.hm_class_rules.specs.Kinds.{Kind, kind, IsSource}
 
 -- ---- a picking
@@ -25,18 +25,18 @@ pub record IsPicked (t : Terms) (s : State) (e : Entry) (a : ℕ) : Type 0 where
       (start_slot t e.choices e.draws) ≡ Some a
 
 -- ---- the past is the list of the entries so far, the latest first
-abbrev pub state_after : Terms → List Entry → State
-state_after t [] = start
-state_after t (e ∷ past) = step t.shape (state_after t past) e
+abbrev pub state_after_past : Terms → List Entry → State
+state_after_past t [] = start
+state_after_past t (e ∷ past) = step t.shape (state_after_past t past) e
 
 -- the kinds of all slabs after each entry
 abbrev pub kinds_after : Terms → List Entry → List (ℕ → Kind)
 kinds_after t [] = []
-kinds_after t (e ∷ past) = kind t.shape (state_after t (e ∷ past)) ∷ kinds_after t past
+kinds_after t (e ∷ past) = kind t.shape (state_after_past t (e ∷ past)) ∷ kinds_after t past
 
 -- the accepted frees, each with its place of the array
 abbrev pub free_at : Shape → Draws → ℕ → Free
-free_at p d a = record { slot = a; place = array_place p d }
+free_at p d a = record { slot = a; place = array_index p d }
 
 abbrev pub with_free : Shape → Draws → Event → List Free → List Free
 with_free p d (Returned a) frees = free_at p d a ∷ frees
@@ -56,7 +56,7 @@ with_retired place None retirements = retirements
 with_retired place (Some n) retirements = record { slab = n; place = place } ∷ retirements
 
 abbrev pub with_retirement : Terms → Entry → Event → List Retirement → List Retirement
-with_retirement t e (Returned a) retirements = with_retired (parking_place t e.draws) e.choices.retired retirements
+with_retirement t e (Returned a) retirements = with_retired (parking_index t e.draws) e.choices.retired retirements
 with_retirement t e event retirements = retirements
 
 abbrev pub retirements_of : Terms → List Entry → List Retirement
@@ -76,13 +76,13 @@ unparked_by (Some n) stood = stood
 
 -- ---- an entry after its past
 pub record IsDrawnPicking (t : Terms) (past : List Entry) (e : Entry) (a : ℕ) : Type 0 where
-  pub picked : IsPicked t (state_after t past) e a
+  pub picked : IsPicked t (state_after_past t past) e a
   pub source : e.choices.opened ≡ None → IsSource (kinds_after t past) (slab_of t.shape a)
 
 pub record IsDrawnFree (t : Terms) (past : List Entry) (e : Entry) (a : ℕ) : Type 0 where
   pub released : e.choices.released ≡ released t.shape.array t.shape.ring (frees_of t past) (free_at t.shape e.draws a)
   pub unparked : e.choices.unparked
-      ≡ unparked_by e.choices.retired (latest_parked (parking_place t e.draws) (retirements_of t past))
+      ≡ unparked_by e.choices.retired (latest_parked (parking_index t e.draws) (retirements_of t past))
 
 abbrev pub IsDrawnEvent : Terms → List Entry → Entry → Event → Type 0
 IsDrawnEvent t past e (Picked a) = IsDrawnPicking t past e a

@@ -1,6 +1,6 @@
 -- Laws of drawn choices.
 use Rattle.std.specs.Prelude.{◌≡◌, ℕ, ◌+◌, ◌<◌, ◌≤◌, ◌↔◌, ◌==◌, true, if◌then◌else◌, ◌⊎◌, false, List, [], ◌∷◌, ◌++◌, length, slice_index_or, Option, Some, None, is_some}
-use Rattle.hm_quarantine.specs.Quarantine.{IsArrayPlace, let_go}
+use Rattle.hm_quarantine.specs.Quarantine.{IsArrayIndex, let_go}
 use Rattle.hm_model.specs.Maps.{times}
 use Rattle.hm_model.specs.declared.entry.Entry.{Entry}
 use Rattle.hm_sizes.specs.Classes.{class_count}
@@ -91,7 +91,7 @@ pub record AllowsDrawn (t : Terms) (s : State) (c : Cells) : Type 0 where
   pub source : (n : ℕ) → front c.partial c.empty ≡ Some n → Source t.shape s None n
   pub no_source : front c.partial c.empty ≡ None → NoneServes t.shape s
   -- what the quarantine lets go as a live slot is freed
-  pub release : (a place : ℕ) → is_live s a ≡ true → IsArrayPlace t.shape.array place
+  pub release : (a place : ℕ) → is_live s a ≡ true → IsArrayIndex t.shape.array place
       → Releases t.shape (takes_back t.shape a s) (let_go c.quarantine a place)
   -- what stands at a parking place
   pub unparked : (place : ℕ) → place < t.config.park_length

@@ -91,8 +91,8 @@ abbrev pub start_slot : Terms → Choices → Draws → ℕ
 start_slot t c d = if t.config.random_slots then drawn t.shape.slots (word_after (canary_words t.shape c) d) else 0
 
 -- the place of the array to which a freed slot goes, and the parking place of a retired slab
-abbrev pub array_place : Shape → Draws → ℕ
-array_place p d = drawn p.array (word_after 0 d)
+abbrev pub array_index : Shape → Draws → ℕ
+array_index p d = drawn p.array (word_after 0 d)
 
-abbrev pub parking_place : Terms → Draws → ℕ
-parking_place t d = drawn t.config.park_length (word_after (array_words t.shape) d)
+abbrev pub parking_index : Terms → Draws → ℕ
+parking_index t d = drawn t.config.park_length (word_after (array_words t.shape) d)

@@ -8,7 +8,7 @@ use Rattle.hm_model.specs.declared.entry.Reply.TheVariants.{Given, Overwritten, 
 use Rattle.hm_model.specs.declared.entry.Choices.{Choices}
 use Rattle.hm_model.specs.Calls.{AsksRange, no_choices}
 use Rattle.hm_model.specs.Entries.{AreDraws}
-use Rattle.hm_model.specs.Machine.{run, Legal}
+use Rattle.hm_model.specs.Machine.{state_after, Legal}
 use Rattle.hm_model.specs.Maps.{among, without}
 use Rattle.hm_sizes.specs.Sizes.{raised, block_size}
 use Rattle.hm_class_rules.specs.State.{State, start, is_open, is_live, is_taken, is_empty, is_partial, empty_slabs, none_partial, none_empty, unopened}
@@ -168,7 +168,7 @@ pub record Allowed (t : Terms) (s : State) (e : Entry) : Type 0 where
   pub allows : Allows t s e.faults_before e.faults_after e.choices e.call e.reply
 
 abbrev pub state : Terms → List Entry → State
-state t entries = run (step t.shape) (Allowed t) start entries
+state t entries = state_after (step t.shape) (Allowed t) start entries
 
 abbrev pub IsLegal : Terms → List Entry → Type 0
 IsLegal t entries = Legal (step t.shape) (Allowed t) start entries

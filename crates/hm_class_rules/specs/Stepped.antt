@@ -2,7 +2,7 @@
 use Rattle.std.specs.Prelude.{◌≡◌, ℕ, if◌then◌else◌, List, [], ◌∷◌, replicate, slice_index_or, slice_set, Option, Some, None, ⊤}
 use Rattle.hm_choice.specs.Stream.{Words, after_word}
 use Rattle.hm_quarantine.specs.Quarantine.{Kept, nothing_kept, let_go, kept_with}
-use Rattle.hm_model.specs.Machine.{run, Legal}
+use Rattle.hm_model.specs.Machine.{state_after, Legal}
 use Rattle.hm_model.specs.Maps.{without}
 use Rattle.hm_model.specs.declared.entry.Entry.{Entry}
 use Rattle.hm_sizes.specs.Shapes.{slab_of}
@@ -10,7 +10,7 @@ use Rattle.hm_sizes.specs.declared.shape.Shape.{Shape}
 use Rattle.hm_class_rules.specs.State.{State, start}
 use Rattle.hm_class_rules.specs.Steps.{step}
 use Rattle.hm_class_rules.specs.Rules.{Terms}
-use Rattle.hm_class_rules.specs.Draws.{stream_of, drawn_shape, words_from, after_words, words_of, Event, Picked, Returned, Undrawn, event, word_count, array_place, parking_place}
+use Rattle.hm_class_rules.specs.Draws.{stream_of, drawn_shape, words_from, after_words, words_of, Event, Picked, Returned, Undrawn, event, word_count, array_index, parking_index}
 use Rattle.hm_class_rules.specs.Kinds.{Kind, Partial, Empty, kind, same_kind}
 use Rattle.hm_class_rules.specs.Drawn.{IsPicked, unparked_by}
 
@@ -52,7 +52,7 @@ listed wanted n before after list =
 
 -- ---- the quarantine and the parking array
 abbrev pub quarantine_with : Shape → Entry → Event → Kept → Kept
-quarantine_with p e (Returned a) kept = kept_with kept a (array_place p e.draws)
+quarantine_with p e (Returned a) kept = kept_with kept a (array_index p e.draws)
 quarantine_with p e event kept = kept
 
 abbrev pub parking_with : ℕ → Option ℕ → List (Option ℕ) → List (Option ℕ)
@@ -60,7 +60,7 @@ parking_with place None parking = parking
 parking_with place (Some n) parking = slice_set parking place (Some n)
 
 abbrev pub parking_after : Terms → Entry → Event → List (Option ℕ) → List (Option ℕ)
-parking_after t e (Returned a) parking = parking_with (parking_place t e.draws) e.choices.retired parking
+parking_after t e (Returned a) parking = parking_with (parking_index t e.draws) e.choices.retired parking
 parking_after t e event parking = parking
 
 -- ---- an entry
@@ -88,9 +88,9 @@ pub record IsSteppedPicking (t : Terms) (c : Cells) (e : Entry) (a : ℕ) : Type
   pub source : e.choices.opened ≡ None → front c.partial c.empty ≡ Some (slab_of t.shape a)
 
 pub record IsSteppedFree (t : Terms) (c : Cells) (e : Entry) (a : ℕ) : Type 0 where
-  pub released : e.choices.released ≡ let_go c.quarantine a (array_place t.shape e.draws)
+  pub released : e.choices.released ≡ let_go c.quarantine a (array_index t.shape e.draws)
   pub unparked : e.choices.unparked
-      ≡ unparked_by e.choices.retired (slice_index_or c.parking (parking_place t e.draws) None)
+      ≡ unparked_by e.choices.retired (slice_index_or c.parking (parking_index t e.draws) None)
 
 abbrev pub IsSteppedEvent : Terms → Cells → Entry → Event → Type 0
 IsSteppedEvent t c e (Picked a) = IsSteppedPicking t c e a
@@ -105,7 +105,7 @@ pub record IsSteppedEntry (t : Terms) (c : Cells) (e : Entry) : Type 0 where
 
 -- ---- a history
 abbrev pub cells : ℕ → ℕ → Terms → List Entry → Cells
-cells seed arena t es = run (next t) (IsSteppedEntry t) (first_cells seed arena t) es
+cells seed arena t es = state_after (next t) (IsSteppedEntry t) (first_cells seed arena t) es
 
 pub record IsStepped (seed arena : ℕ) (t : Terms) (es : List Entry) : Type 0 where
   pub shape : t.shape ≡ drawn_shape seed t.config arena t.shape.class

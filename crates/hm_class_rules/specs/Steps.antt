@@ -58,13 +58,13 @@ purges p None s = s
 purges p (Some m) s = write p (slab_at p m) (zeros p.slab) s
 
 -- ---- an entry
-abbrev pub moved : Shape → Choices → Call → Reply → State → State
-moved p c (Allot asked align) (Given a usable) s = gives p a asked (opened p c.opened c.canary s)
-moved p c (Allot asked align) (Overwritten a place found) s = condemns a (opened p c.opened c.canary s)
-moved p c (GiveBack a stated) Freed s =
+abbrev pub changed : Shape → Choices → Call → Reply → State → State
+changed p c (Allot asked align) (Given a usable) s = gives p a asked (opened p c.opened c.canary s)
+changed p c (Allot asked align) (Overwritten a place found) s = condemns a (opened p c.opened c.canary s)
+changed p c (GiveBack a stated) Freed s =
     purges p c.purged (retires c.retired (unparks c.unparked (releases c.released (takes_back p a s))))
-moved p c (Fill a runs) Filled s = write p a (expand runs) s
-moved p c call reply s = s
+changed p c (Fill a runs) Filled s = write p a (expand runs) s
+changed p c call reply s = s
 
 abbrev pub step : Shape → State → Entry → State
-step p s e = record (moved p e.choices e.call e.reply s) { faults = e.faults_after }
+step p s e = record (changed p e.choices e.call e.reply s) { faults = e.faults_after }

@@ -24,7 +24,7 @@ use Rattle.hm_class_rules.proofs.Sound.{has_times}
 use Rattle.hm_class_rules.proofs.Streams.{next_below}
 use Rattle.hm_large.specs.Blocks.{Block}
 use Rattle.hm_large.specs.Rules as large
-use Rattle.hm_large.proofs.BlockLists.{placed_at}
+use Rattle.hm_large.proofs.BlockLists.{in_space_at}
 use Rattle.hm_large.proofs.Legal as large_legal
 use Rattle.hm_heap.specs.Lawful.{arena_of, class_in, class_terms, large_terms, IsRegionOf}
 use Rattle.hm_heap.specs.Laws.{LiesIn, HomesOfBlocks, BlocksApart, RegionsApart}
@@ -72,7 +72,7 @@ large_lies : (o : Origin) (es : List Entry) (a q : ℕ) (x : Block) → large.Is
 large_lies o es a q x legal is from to =
     let t = large_terms o in
     let s = large.state t es in
-    let placed = placed_at o.config a x s.live (large_legal.sound t es legal).live is in
+    let placed = in_space_at o.config a x s.live (large_legal.sound t es legal).live is in
     record { from_start = omega (arith, placed.from, from); to_end = omega (arith, placed.to, to) }
 
 -- ---- homes

@@ -16,7 +16,7 @@ use Rattle.hm_large.specs.Laws.{IsInSpace, AreInSpace, IsSound}
 use Rattle.hm_large.specs.BlockTable.{live_size}
 use Rattle.hm_large.specs.Kept.{kept_or, Shows, AreGuarded}
 use Rattle.hm_large.specs.Stored.{HeldByNone, IsLeft}
-use Rattle.hm_large.proofs.BlockLists.{weight, at_covered, covers_own, placed_at, how_many_removed, at_removed}
+use Rattle.hm_large.proofs.BlockLists.{weight, at_covered, covers_own, in_space_at, how_many_removed, at_removed}
 use Rattle.hm_large.proofs.Legal.{live_once}
 use Rattle.hm_large.proofs.Places.{spans_from}
 
@@ -131,7 +131,7 @@ byte_found c (y ∷ m) q b placed once e =
       where
         twice : Finds m q → y.0 ≡ f.a → ⊥
         twice g same =
-            let inner = at_covered f.a f.a f.x m f.there (covers_own c (f.a, f.x) (placed_at c f.a f.x m placed.1 f.there)) in
+            let inner = at_covered f.a f.a f.x m f.there (covers_own c (f.a, f.x) (in_space_at c f.a f.x m placed.1 f.there)) in
             let own : covers f.a y ≡ true = subst (λ (k : ℕ). covers k y ≡ true) same (covers_own c y placed.0) in
             omega (arith, inner, ap weight own, once f.a)
 
@@ -155,13 +155,13 @@ in_bytes (b ∷ bytes) zero lt = refl
 in_bytes (b ∷ bytes) (suc i) lt = in_bytes bytes i (omega arith)
 
 pub byte_there : (c : Config) (m : Blocks) (a q : ℕ) (x : Block) → AreInSpace c m → covered q m ≤ 1 → at a m ≡ Some x → a ≤ q → q < a + x.size → byte_at m q ≡ Some (get_or x.bytes (q - a) 0)
-byte_there c m a q x placed once e low high = byte_of c m a q x placed once e low high ∙ in_bytes x.bytes (q - a) (omega (arith, (placed_at c a x m placed e).whole))
+byte_there c m a q x placed once e low high = byte_of c m a q x placed once e low high ∙ in_bytes x.bytes (q - a) (omega (arith, (in_space_at c a x m placed e).whole))
 
 pub bytes_there : (c : Config) (m : Blocks) (a q len : ℕ) (x : Block) → AreInSpace c m → ((k : ℕ) → covered k m ≤ 1) → at a m ≡ Some x → a ≤ q → q + len ≤ a + x.size → bytes_read m q len ≡ take len (drop (q - a) x.bytes)
 bytes_there c m a q zero x placed once e low high = refl
 bytes_there c m a q (suc len) x placed once e low high =
     let i : ℕ = q - a in
-    let split : drop i x.bytes ≡ get_or x.bytes i 0 ∷ drop (i + 1) x.bytes = drop_more x.bytes i 0 (omega (arith, (placed_at c a x m placed e).whole)) in
+    let split : drop i x.bytes ≡ get_or x.bytes i 0 ∷ drop (i + 1) x.bytes = drop_more x.bytes i 0 (omega (arith, (in_space_at c a x m placed e).whole)) in
     let first : unwrap_or (byte_at m q) 0 ≡ get_or x.bytes i 0 = ap (λ o. unwrap_or o 0) (byte_there c m a q x placed (once q) e low (omega arith)) in
     let rest = bytes_there c m a (q + 1) len x placed once e (omega arith) (omega arith) in
     let next : (q + 1) - a ≡ i + 1 = omega arith in
@@ -207,7 +207,7 @@ last_has c n s k q start size sound h is le last f =
       where
         by_live : (live : Option Block) → at start s.live ≡ live → ⊥
         by_live (Some y) e =
-            omega (arith, two_covered f.a start start f.x y s.live f.there e (λ same. (let no : ⊥ = omega (arith, same) in no)) (covers_start lt) (covers_own c (start, y) (placed_at c start y s.live sound.live e)) (live_once c s f.a sound), sound.once start)
+            omega (arith, two_covered f.a start start f.x y s.live f.there e (λ same. (let no : ⊥ = omega (arith, same) in no)) (covers_start lt) (covers_own c (start, y) (in_space_at c start y s.live sound.live e)) (live_once c s f.a sound), sound.once start)
         by_live None e = none-some size (sym (live_is c n s k start h ∙ ap (option_map (λ (b : Block). b.size)) e) ∙ is)
 
 -- where the table has nothing that begins there, there is no byte

@@ -95,12 +95,12 @@ times_covered c a (y ∷ m) h =
         let one : weight (covers a y) ≡ 1 = ap weight own in
         omega (arith, one, rest)
 
-pub placed_at : (c : Config) (a : ℕ) (x : Block) (m : Blocks) → AreInSpace c m → at a m ≡ Some x → IsInSpace c (a, x)
-placed_at c a x [] h e = absurd (none-some x e)
-placed_at c a x (y ∷ m) h e =
+pub in_space_at : (c : Config) (a : ℕ) (x : Block) (m : Blocks) → AreInSpace c m → at a m ≡ Some x → IsInSpace c (a, x)
+in_space_at c a x [] h e = absurd (none-some x e)
+in_space_at c a x (y ∷ m) h e =
     elim (y.0 == a) as (λ b. (y.0 == a) ≡ b → cond b (Some y.1) (at a m) ≡ Some x → IsInSpace c (a, x)) [
       | true ↦ λ is f. (let same : y ≡ (a, x) = λ i. (eq_same y.0 a is i, same_Some y.1 x f i) in subst (IsInSpace c) same h.0)
-      | false ↦ λ is f. placed_at c a x m h.1 f
+      | false ↦ λ is f. in_space_at c a x m h.1 f
     ] refl e
 
 pub placed_removed : (c : Config) (a : ℕ) (m : Blocks) → AreInSpace c m → AreInSpace c (removed a m)

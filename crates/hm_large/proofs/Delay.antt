@@ -8,7 +8,7 @@ use Rattle.hm_model.specs.declared.entry.Call.{Call}
 use Rattle.hm_model.specs.declared.entry.Call.TheVariants.{Allot, GiveBack, Fill}
 use Rattle.hm_model.specs.declared.entry.Reply.{Reply}
 use Rattle.hm_model.specs.declared.entry.Reply.TheVariants.{Given, PagesFailed, Freed, Filled}
-use Rattle.hm_model.specs.Machine.{run, Legal_split, run_keeps, run_push, run_append}
+use Rattle.hm_model.specs.Machine.{state_after, Legal_split, legal_keeps, state_push, state_append}
 use Rattle.hm_model.specs.Maps.{among, at, removed}
 use Rattle.hm_model.proofs.Lists.{same_eq, other_eq}
 use Rattle.hm_quarantine.specs.Delay.{slots_of}
@@ -19,7 +19,7 @@ use Rattle.hm_large.specs.State.{State, start, step, changed, takes_back, releas
 use Rattle.hm_large.specs.Rules.{Terms, Allows, Allowed, Releases, ReleasesFrom, AllowsFreed, AllowsGiven}
 use Rattle.hm_model.specs.Calls.{IsFreedAt}
 use Rattle.hm_large.specs.Laws.{IsSound, IsGivenAt, Meets, Delays}
-use Rattle.hm_large.proofs.BlockLists.{at_covered, at_removed, placed_at, covers_own}
+use Rattle.hm_large.proofs.BlockLists.{at_covered, at_removed, in_space_at, covers_own}
 use Rattle.hm_large.proofs.Legal.{sound, sound_step}
 
 -- what stands among the latest few stands among the latest more
@@ -60,8 +60,8 @@ waits_released a x base s (Some b) allows w = ⊎_elim (λ l. stays l (cases_eq 
 -- no block is live and in quarantine
 pub apart_keys : (c : Config) (s : State) (a : ℕ) (x y : Block) → IsSound c s → at a s.live ≡ Some x → at a s.held ≡ Some y → ⊥
 apart_keys c s a x y h p r =
-    let one = at_covered a a x s.live p (covers_own c (a, x) (placed_at c a x s.live h.live p)) in
-    let two = at_covered a a y s.held r (covers_own c (a, y) (placed_at c a y s.held h.held r)) in
+    let one = at_covered a a x s.live p (covers_own c (a, x) (in_space_at c a x s.live h.live p)) in
+    let two = at_covered a a y s.held r (covers_own c (a, y) (in_space_at c a y s.held h.held r)) in
     omega (arith, one, two, h.once a)
 
 -- a further block comes into quarantine
@@ -151,13 +151,13 @@ given_late t s g a b asked guard base x allowed is meets w =
 pub delays : Delays
 delays t es middle fs f g a b asked guard x legal freed live small given meets =
     let p₀ = Legal_split step (Allowed t) start es (f ∷ (middle ++ (g ∷ fs))) legal in
-    let s₀ : State = run step (Allowed t) start es in
+    let s₀ : State = state_after step (Allowed t) start es in
     let p₁ = Legal_split step (Allowed t) (step s₀ f) middle (g ∷ fs) p₀.1.1 in
-    let s₁ : State = run step (Allowed t) (step s₀ f) middle in
+    let s₁ : State = state_after step (Allowed t) (step s₀ f) middle in
     let base : ℕ = length (step s₀ f).frees in
     let begun : Keeps a x base t.config (step s₀ f) = (sound_step t s₀ f (sound t es p₀.0) p₀.1.0, freed_waits t s₀ f a x p₀.1.0 freed live small) in
-    let w = run_keeps step (Allowed t) (Keeps a x base t.config) (waits_step a x base t) (step s₀ f) middle begun p₁.0 in
+    let w = legal_keeps step (Allowed t) (Keeps a x base t.config) (waits_step a x base t) (step s₀ f) middle begun p₁.0 in
     let late : base + 1025 ≤ length s₁.frees = given_late t s₁ g a b asked guard base x p₁.1.0 given meets w.1 in
-    let first = ap (λ (s : State). length s.frees) (run_push step (Allowed t) start es f) in
-    let last = ap (λ (s : State). length s.frees) (run_append step (Allowed t) start es (f ∷ middle)) in
+    let first = ap (λ (s : State). length s.frees) (state_push step (Allowed t) start es f) in
+    let last = ap (λ (s : State). length s.frees) (state_append step (Allowed t) start es (f ∷ middle)) in
     omega (arith, late, first, last)

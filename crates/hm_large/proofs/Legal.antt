@@ -10,7 +10,7 @@ use Rattle.hm_model.specs.declared.entry.Call.{Call}
 use Rattle.hm_model.specs.declared.entry.Call.TheVariants.{Allot, GiveBack, Fill}
 use Rattle.hm_model.specs.declared.entry.Reply.{Reply}
 use Rattle.hm_model.specs.declared.entry.Reply.TheVariants.{Given, PagesFailed, Freed, Filled}
-use Rattle.hm_model.specs.Machine.{Legal_push, Legal_split, run_keeps}
+use Rattle.hm_model.specs.Machine.{Legal_push, Legal_split, legal_keeps}
 use Rattle.hm_model.specs.Maps.{times, at, removed, keys}
 use Rattle.hm_model.specs.Runs.{expand}
 use Rattle.hm_sizes.specs.Aligned.{IsAlignment}
@@ -22,7 +22,7 @@ use Rattle.hm_large.specs.Blocks.{Block, Blocks, size_for, new_block, is_quarant
 use Rattle.hm_large.specs.State.{State, start, step, changed, takes_back, releases, free_of}
 use Rattle.hm_large.specs.Rules.{Terms, Allows, Allowed, Asks, state, taken, IsCandidate}
 use Rattle.hm_large.specs.Laws.{IsInSpace, IsSound, Sound, Prefixes, OneMore, OneLess, Apart}
-use Rattle.hm_large.proofs.BlockLists.{weight, how_many_removed, how_many_same, at_covered, times_covered, placed_at, placed_removed, placed_same, placed_overlay, placed_mark, covers_own, at_removed}
+use Rattle.hm_large.proofs.BlockLists.{weight, how_many_removed, how_many_same, at_covered, times_covered, in_space_at, placed_removed, placed_same, placed_overlay, placed_mark, covers_own, at_removed}
 
 -- ---- prefixes
 pub prefixes : Prefixes
@@ -118,7 +118,7 @@ sound_leaves c s a x e h = record {
 sound_holds : (c : Config) (s : State) (a : ℕ) (x : Block) → at a s.live ≡ Some x → IsSound c s → IsSound c (record s { live = removed a s.live; held = (a, x) ∷ s.held })
 sound_holds c s a x e h = record {
   live = placed_removed c a s.live h.live;
-  held = (placed_at c a x s.live h.live e, h.held);
+  held = (in_space_at c a x s.live h.live e, h.held);
   once = λ q. omega (arith, how_many_removed (covers q) a x s.live e (live_once c s a h), h.once q);
 }
 
@@ -157,7 +157,7 @@ pub sound_step : (t : Terms) (s : State) (e : Entry) → IsSound t.config s → 
 sound_step t s e h allowed = (let k = sound_changed t s e e.call e.reply allowed.asks allowed.allows h in record { live = k.live; held = k.held; once = k.once })
 
 pub sound : Sound
-sound t es legal = run_keeps step (Allowed t) (IsSound t.config) (sound_step t) start es (record { live = tt; held = tt; once = λ q. omega arith }) legal
+sound t es legal = legal_keeps step (Allowed t) (IsSound t.config) (sound_step t) start es (record { live = tt; held = tt; once = λ q. omega arith }) legal
 
 -- ---- live blocks never overlap
 pub apart : Apart
@@ -177,6 +177,6 @@ apart t es a b x y legal p r ne =
         twice in_x =
             let first : covers b (a, x) ≡ true = and_from _ _ (le-leb a (b + 4096 * x.guard) (omega arith)) (lt-ltb b (a + x.size + 4096 * x.guard) (omega arith)) in
             let one : weight (covers b (a, x)) ≡ 1 = ap weight first in
-            let second = covers_own t.config (b, y) (placed_at t.config b y live h.live r) in
+            let second = covers_own t.config (b, y) (in_space_at t.config b y live h.live r) in
             let other = at_covered b b y (removed a live) (at_removed b a live ne ∙ r) second in
             omega (arith, how_many_removed (covers b) a x live p (live_once t.config (state t es) a h), one, other)

@@ -9,7 +9,7 @@ use Rattle.hm_model.specs.declared.entry.Call.{Call}
 use Rattle.hm_model.specs.declared.entry.Call.TheVariants.{Allot, GiveBack, Measure, Fetch, Fill}
 use Rattle.hm_model.specs.declared.entry.Reply.{Reply}
 use Rattle.hm_model.specs.declared.entry.Reply.TheVariants.{Given, PagesFailed, Freed, Filled}
-use Rattle.hm_model.specs.Machine.{run, Legal}
+use Rattle.hm_model.specs.Machine.{state_after, Legal}
 use Rattle.hm_model.specs.Changes.{change, changes_of}
 use Rattle.hm_model.specs.Maps.{at, removed}
 use Rattle.hm_model.specs.Runs.{expand}
@@ -80,7 +80,7 @@ changed_sizes t s e (Fill a runs) (Given b size) asks allows h = absurd allows
 changed_sizes t s e call reply asks allows h = refl
 
 sizes_run : (t : Terms) (s : State) (es : List Entry) → IsSound t.config s → Legal step (Allowed t) s es
-    → fold listed (map size_of s.live) (changes_of es) ≡ map size_of (run step (Allowed t) s es).live
+    → fold listed (map size_of s.live) (changes_of es) ≡ map size_of (state_after step (Allowed t) s es).live
 sizes_run t s [] h legal = refl
 sizes_run t s (e ∷ es) h legal =
     fold-append listed (map size_of s.live) (change e.call e.reply) (changes_of es)

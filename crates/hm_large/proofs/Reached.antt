@@ -14,7 +14,7 @@ use Rattle.hm_model.specs.declared.entry.Reply.{Reply}
 use Rattle.hm_model.specs.declared.entry.Reply.TheVariants as reply
 use Rattle.hm_model.specs.Calls.{IsRange, no_choices, no_words, entry_of}
 use Rattle.hm_model.specs.Replies.{IsWithin, IsFetchReply, IsFillReply}
-use Rattle.hm_model.specs.Machine.{run_keeps}
+use Rattle.hm_model.specs.Machine.{legal_keeps}
 use Rattle.hm_model.specs.Maps.{at, removed}
 use Rattle.hm_model.specs.Overlaid.{overlaid}
 use Rattle.hm_model.specs.Runs.{expand}
@@ -36,12 +36,12 @@ use Rattle.hm_large.specs.Laws.{IsSound}
 use Rattle.hm_large.specs.Region.{HoldsBlocks}
 use Rattle.hm_large.specs.Kept.{kept_or, Shows, IsKept, AreGuarded}
 use Rattle.hm_large.specs.Stored.{HeldByNone}
-use Rattle.hm_large.proofs.BlockLists.{placed_at, covers_own, how_many_same, length_same}
+use Rattle.hm_large.proofs.BlockLists.{in_space_at, covers_own, how_many_same, length_same}
 use Rattle.hm_large.proofs.Places.{spans_from}
 use Rattle.hm_large.proofs.Tables.{map_test}
 use Rattle.hm_large.proofs.Accessed.{bytes_there, byte_there, no_trap, two_covered}
 use Rattle.hm_large.proofs.Legal.{live_once}
-use Rattle.hm_large.proofs.Entries.{AreSame, all_same, terms_of, run_same, kept_sound, kept_plain, kept_push, shows_step, none_drawn}
+use Rattle.hm_large.proofs.Entries.{AreSame, all_same, terms_of, state_same, kept_sound, kept_plain, kept_push, shows_step, none_drawn}
 
 -- ---- each live block has a guard
 guarded_removed : (a : ℕ) (m : Blocks) → AreGuarded m → AreGuarded (removed a m)
@@ -73,8 +73,8 @@ guarded_changed n s e c r h draws = h
 
 pub kept_guarded : {P : Type 0} (meaning : pages.Ghosts P) (p : P) (c : Config) (n : ℕ) (es : List Entry) (k : Store) → IsKept meaning p c n es k → AreGuarded (state (terms_of c (meaning.told p)) es).live
 kept_guarded meaning p c n es k h =
-    subst (λ (s : State). AreGuarded s.live) (run_same (Drawn n) (Allowed (terms_of c (meaning.told p))) start es)
-    (run_keeps step (Drawn n) (λ s. AreGuarded s.live) (λ s e g draws. guarded_changed n s e e.call e.reply g draws) start es tt h.drawn)
+    subst (λ (s : State). AreGuarded s.live) (state_same (Drawn n) (Allowed (terms_of c (meaning.told p))) start es)
+    (legal_keeps step (Drawn n) (λ s. AreGuarded s.live) (λ s e g draws. guarded_changed n s e e.call e.reply g draws) start es tt h.drawn)
 
 -- ---- reading
 -- a run that is there is that of a block
@@ -89,7 +89,7 @@ page_run_of live runs a bytes holds is = by_block (at a live) refl (sym (holds a
 pub reads_blocks : (c : Config) (s : State) (runs : PageRuns) (a len : ℕ) (w : List ℕ) → IsSound c s → HoldsBlocks s.live runs → Reads runs a len w → (first_trap s.live a len ≡ None) × (w ≡ bytes_read s.live a len)
 reads_blocks c s runs a len w sound holds r =
     let x = page_run_of s.live runs r.first r.bytes holds r.is_run in
-    let size : length r.bytes ≡ x.0.size = ap length (sym x.2) ∙ (placed_at c r.first x.0 s.live sound.live x.1).whole in
+    let size : length r.bytes ≡ x.0.size = ap length (sym x.2) ∙ (in_space_at c r.first x.0 s.live sound.live x.1).whole in
     let once = λ (k : ℕ). (let o : covered k s.live ≤ 1 = omega (arith, sound.once k) in o) in (
       no_trap s.live a len (λ k l h. ap is_some (byte_there c s.live r.first k x.0 sound.live (once k) x.1 (omega (arith, r.lies.from)) (omega (arith, r.lies.to, size)))),
       r.value ∙ (ap (λ (b : List ℕ). take len (drop (a - r.first) b)) (sym x.2) ∙ sym (bytes_there c s.live r.first a len x.0 sound.live once x.1 r.lies.from (omega (arith, r.lies.to, size)))),
@@ -98,15 +98,15 @@ reads_blocks c s runs a len w sound holds r =
 -- where the pages have no such run, no block has the range
 pub held_by_none : (c : Config) (s : State) (runs : PageRuns) (q len : ℕ) → IsSound c s → HoldsBlocks s.live runs → 1 ≤ len → (IsHeld runs q len → ⊥) → HeldByNone s.live q len
 held_by_none c s runs q len sound holds some none a x e low high =
-    none (a, x.bytes, holds a ∙ ap (option_map (λ (b : Block). b.bytes)) e, record { some = some; from = low; to = omega (arith, high, (placed_at c a x s.live sound.live e).whole) })
+    none (a, x.bytes, holds a ∙ ap (option_map (λ (b : Block). b.bytes)) e, record { some = some; from = low; to = omega (arith, high, (in_space_at c a x s.live sound.live e).whole) })
 
 -- no two runs meet, as no two blocks do
 pub disjoint_blocks : (c : Config) (s : State) (runs : PageRuns) → IsSound c s → HoldsBlocks s.live runs → AreDisjoint runs
 disjoint_blocks c s runs sound holds p q b d first second ne =
     let x = page_run_of s.live runs p b holds first in
     let y = page_run_of s.live runs q d holds second in
-    let long : length b ≡ x.0.size = ap length (sym x.2) ∙ (placed_at c p x.0 s.live sound.live x.1).whole in
-    let long' : length d ≡ y.0.size = ap length (sym y.2) ∙ (placed_at c q y.0 s.live sound.live y.1).whole in
+    let long : length b ≡ x.0.size = ap length (sym x.2) ∙ (in_space_at c p x.0 s.live sound.live x.1).whole in
+    let long' : length d ≡ y.0.size = ap length (sym y.2) ∙ (in_space_at c q y.0 s.live sound.live y.1).whole in
     ⊎_elim
     (λ (lt : p < q). ⊎_elim (λ (inside : q < p + length b). absurd (omega (arith, twice p q x.0 y.0 x.1 y.1 ne (omega arith) (omega (arith, inside, long))))) inl (cases_lt q (p + length b)))
     (λ (ge : q ≤ p). ⊎_elim (λ (inside : p < q + length d). absurd (omega (arith, twice q p y.0 x.0 y.1 x.1 (λ e. ne (sym e)) ge (omega (arith, inside, long'))))) inr (cases_lt p (q + length d)))
@@ -116,7 +116,7 @@ disjoint_blocks c s runs sound holds p q b d first second ne =
     twice a k x y e f ne low high =
         omega (
           arith,
-          two_covered a k k x y s.live e f ne (spans_from a x.size x.guard k (omega (arith, low)) (omega (arith, high))) (covers_own c (k, y) (placed_at c k y s.live sound.live f)) (live_once c s a sound),
+          two_covered a k k x y s.live e f ne (spans_from a x.size x.guard k (omega (arith, low)) (omega (arith, high))) (covers_own c (k, y) (in_space_at c k y s.live sound.live f)) (live_once c s a sound),
           sound.once k,
         )
 
@@ -141,7 +141,7 @@ writes_blocks c s runs after a w sound holds h q =
     x = page_run_of s.live runs h.first h.bytes holds h.is_run
 
     size : length h.bytes ≡ x.0.size
-    size = ap length (sym x.2) ∙ (placed_at c h.first x.0 s.live sound.live x.1).whole
+    size = ap length (sym x.2) ∙ (in_space_at c h.first x.0 s.live sound.live x.1).whole
 
     here : h.first ≡ q → cond (h.first == q) (Some (written h.bytes (a - h.first) w)) (finite.get runs q) ≡ option_map (λ (b : Block). b.bytes) (option_map (λ (b : Block). (overlay a w (q, b)).1) (at q s.live))
     here e =
@@ -155,7 +155,7 @@ writes_blocks c s runs after a w sound holds h q =
 
     apart : (y : Block) → (h.first ≡ q → ⊥) → at q s.live ≡ Some y → (q + length y.bytes ≤ a) ⊎ (a + length w ≤ q)
     apart y ne e =
-        let whole = (placed_at c q y s.live sound.live e).whole in
+        let whole = (in_space_at c q y s.live sound.live e).whole in
         ⊎_elim (λ (lt : q < a). ⊎_elim (λ (inside : a < q + length y.bytes). absurd (omega (arith, first_twice inside lt))) inl (cases_lt a (q + length y.bytes)))
         (λ (ge : a ≤ q). ⊎_elim (λ (inside : q < a + length w). absurd (omega (arith, second_twice inside ge))) inr (cases_lt q (a + length w)))
         (cases_lt q a)
@@ -165,7 +165,7 @@ writes_blocks c s runs after a w sound holds h q =
             omega (
               arith,
               two_covered h.first q a x.0 y s.live x.1 e ne (spans_from h.first x.0.size x.0.guard a (omega (arith, h.lies.from)) (omega (arith, h.lies.some, h.lies.to, size)))
-                  (spans_from q y.size y.guard a (omega arith) (omega (arith, (placed_at c q y s.live sound.live e).whole))) (live_once c s h.first sound),
+                  (spans_from q y.size y.guard a (omega arith) (omega (arith, (in_space_at c q y s.live sound.live e).whole))) (live_once c s h.first sound),
               sound.once a,
             )
 
@@ -174,7 +174,7 @@ writes_blocks c s runs after a w sound holds h q =
             omega (
               arith,
               two_covered h.first q q x.0 y s.live x.1 e ne (spans_from h.first x.0.size x.0.guard q (omega (arith, h.lies.from)) (omega (arith, h.lies.to, size)))
-                  (covers_own c (q, y) (placed_at c q y s.live sound.live e)) (live_once c s h.first sound),
+                  (covers_own c (q, y) (in_space_at c q y s.live sound.live e)) (live_once c s h.first sound),
               sound.once q,
             )
 

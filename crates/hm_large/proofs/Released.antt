@@ -10,7 +10,7 @@ use Rattle.hm_choice.specs.Stream.{Words, next_word, after_word, drawn}
 use Rattle.hm_model.specs.Maps.{at, removed, keys, among}
 use Rattle.hm_model.proofs.Lists.{same_eq, other_eq, keys_removed, has_keys}
 use Rattle.hm_quarantine.specs.Delay.{held, AreNew, IsDelayed}
-use Rattle.hm_quarantine.specs.LookingBack.{Free, released, ArePlaces, kept_after}
+use Rattle.hm_quarantine.specs.LookingBack.{Free, released, AreIndices, kept_after}
 use Rattle.hm_quarantine.specs.Quarantine.{Kept, let_go, kept_with}
 use Rattle.hm_quarantine.proofs.Ages.{delays, holds_few}
 use Rattle.hm_quarantine.proofs.Passes.{looks_back}
@@ -28,7 +28,7 @@ use Rattle.hm_large.specs.Draws.{word_after}
 use Rattle.hm_large.specs.Kept.{kept_of, kept_or, kept_at, IsOpen, Shows}
 use Rattle.hm_large.specs.BlockTable.{Updates}
 use Rattle.hm_large.specs.Stored.{GoesBack, GaveBack, Frees}
-use Rattle.hm_large.proofs.BlockLists.{weight, how_many_removed, at_covered, at_removed, at_removed_same, length_removed, placed_at}
+use Rattle.hm_large.proofs.BlockLists.{weight, how_many_removed, at_covered, at_removed, at_removed_same, length_removed, in_space_at}
 use Rattle.hm_large.proofs.Legal.{live_once, held_once, sound_takes_back}
 use Rattle.hm_large.proofs.Delay.{apart_keys}
 use Rattle.hm_large.proofs.Places.{FreeIsOpen, in_space_from, within_spans, spans_within}
@@ -133,7 +133,7 @@ module _ (c : Config) (n : ℕ) (s : State) (k new : Store) (a : ℕ) (x : Block
       → GaveBack k.space new.space a (kept_of false x) → new.owed ≡ k.owed - cond x.failed 0 1 → ShowsTable c (record s { live = removed a s.live }) new
   table_left h e shows blocks gave less = record {
     blocks_are = λ q. blocks q ∙ (ap (λ o. cond (a == q) None o) (shows.blocks q) ∙ sym (kept_without_live c s a q x h e));
-    space_is = open_back c s (record s { live = removed a s.live }) k.space new.space a x (placed_at c a x s.live h.live e) (λ q. (let m = how_many_removed (covers q) a x s.live e (live_once c s a h) in omega (arith, m))) h.once shows.space gave.ranges;
+    space_is = open_back c s (record s { live = removed a s.live }) k.space new.space a x (in_space_at c a x s.live h.live e) (λ q. (let m = how_many_removed (covers q) a x s.live e (live_once c s a h) in omega (arith, m))) h.once shows.space gave.ranges;
     out_is = omega (arith, gave.out_less, shows.out, length_removed a x s.live e (live_once c s a h));
     owed_are = less ∙ (ap (λ m. m - cond x.failed 0 1) shows.owed_is ∙ owed_less (owed s.live) (owed (removed a s.live)) x.failed (how_many_removed is_owed a x s.live e (live_once c s a h)));
   }
@@ -157,7 +157,7 @@ pub table_released : (c : Config) (s : State) (k new : Store) (b : ℕ) (y : Blo
     → ShowsTable c (record s { held = removed b s.held }) new
 table_released c s k new b y h e shows blocks gave same = record {
   blocks_are = λ q. blocks q ∙ (ap (λ o. cond (b == q) None o) (shows.blocks_are q) ∙ sym (kept_without_held c s b q y h e));
-  space_is = open_back c s (record s { held = removed b s.held }) k.space new.space b y (placed_at c b y s.held h.held e) (λ q. (let m = how_many_removed (covers q) b y s.held e (held_once c s b h) in omega (arith, m))) h.once shows.space_is gave.ranges;
+  space_is = open_back c s (record s { held = removed b s.held }) k.space new.space b y (in_space_at c b y s.held h.held e) (λ q. (let m = how_many_removed (covers q) b y s.held e (held_once c s b h) in omega (arith, m))) h.once shows.space_is gave.ranges;
   out_is = omega (arith, gave.out_less, shows.out_is, length_removed b y s.held e (held_once c s b h));
   owed_are = same ∙ shows.owed_are;
 }
@@ -168,7 +168,7 @@ length_keys [] = refl
 length_keys (y ∷ m) = ap suc (length_keys m)
 
 module _ (c : Config) (n : ℕ) (s : State) (k : Store) (a word : ℕ) (x : Block) where
-  pub places_more : Shows c n s k → drawn array_length word < array_length → ArePlaces array_length (free_of a word ∷ s.frees)
+  pub places_more : Shows c n s k → drawn array_length word < array_length → AreIndices array_length (free_of a word ∷ s.frees)
   places_more h lt = (lt, h.places)
 
   pub new_more : IsSound c s → at a s.live ≡ Some x → Shows c n s k → AreNew array_length ring_length (free_of a word ∷ s.frees)
@@ -221,12 +221,12 @@ owed_some c s a x sound e fresh = omega (arith, how_many_removed is_owed a x s.l
 pub live_goes_back : (c : Config) (n : ℕ) (s : State) (k : Store) (a : ℕ) (x : Block) → IsValid c → IsSound c s → Shows c n s k → at a s.live ≡ Some x → IfSome (map.get k.blocks.blocks a) (GoesBack k.space a)
 live_goes_back c n s k a x valid sound h e =
     subst (λ o. IfSome o (GoesBack k.space a)) (sym (kept_live c n s k a x h e))
-    (goes_back c s k.space a x false valid (placed_at c a x s.live sound.live e) h.space (omega (arith, h.out, length_removed a x s.live e (live_once c s a sound))) (λ q covers_q. omega (arith, at_covered q a x s.live e covers_q)))
+    (goes_back c s k.space a x false valid (in_space_at c a x s.live sound.live e) h.space (omega (arith, h.out, length_removed a x s.live e (live_once c s a sound))) (λ q covers_q. omega (arith, at_covered q a x s.live e covers_q)))
 
 pub held_goes_back : (c : Config) (s : State) (k : Store) (b : ℕ) (y : Block) → IsValid c → IsSound c s → ShowsTable c s k → at b s.held ≡ Some y → IfSome (map.get k.blocks.blocks b) (GoesBack k.space b)
 held_goes_back c s k b y valid sound h e =
     subst (λ o. IfSome o (GoesBack k.space b)) (sym (kept_held_at c s k b y sound h e))
-    (goes_back c s k.space b y true valid (placed_at c b y s.held sound.held e) h.space_is (omega (arith, h.out_is, length_removed b y s.held e (held_once c s b sound))) (λ q covers_q. omega (arith, at_covered q b y s.held e covers_q)))
+    (goes_back c s k.space b y true valid (in_space_at c b y s.held sound.held e) h.space_is (omega (arith, h.out_is, length_removed b y s.held e (held_once c s b sound))) (λ q covers_q. omega (arith, at_covered q b y s.held e covers_q)))
 
 module _ (c : Config) (n : ℕ) (s : State) (k new : Store) (a : ℕ) (x : Block) where
   -- a greater block draws no word and releases none

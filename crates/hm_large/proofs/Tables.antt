@@ -16,7 +16,7 @@ use Rattle.hm_large.specs.State.{State}
 use Rattle.hm_large.specs.Rules.{taken, IsCandidate}
 use Rattle.hm_large.specs.Laws.{IsSound}
 use Rattle.hm_large.specs.Region.{HoldsBlocks}
-use Rattle.hm_large.proofs.BlockLists.{at_covered, placed_at, covers_own, at_removed, at_removed_same}
+use Rattle.hm_large.proofs.BlockLists.{at_covered, in_space_at, covers_own, at_removed, at_removed_same}
 use Rattle.hm_large.proofs.Places.{spans_from}
 
 -- ---- tests of keys
@@ -70,10 +70,10 @@ module _ (c : Config) (s : State) (align size guard a : ℕ) where
   own_span some k = k.free a (spans_from a size guard a (omega arith) (omega arith))
 
   pub not_live : 1 ≤ size → IsSound c s → IsCandidate c s align size guard a → (x : Block) → at a s.live ≡ Some x → ⊥
-  not_live some h k x e = omega (arith, own_span some k, at_covered a a x s.live e (covers_own c (a, x) (placed_at c a x s.live h.live e)))
+  not_live some h k x e = omega (arith, own_span some k, at_covered a a x s.live e (covers_own c (a, x) (in_space_at c a x s.live h.live e)))
 
   pub not_held : 1 ≤ size → IsSound c s → IsCandidate c s align size guard a → (x : Block) → at a s.held ≡ Some x → ⊥
-  not_held some h k x e = omega (arith, own_span some k, at_covered a a x s.held e (covers_own c (a, x) (placed_at c a x s.held h.held e)))
+  not_held some h k x e = omega (arith, own_span some k, at_covered a a x s.held e (covers_own c (a, x) (in_space_at c a x s.held h.held e)))
 
   -- its bytes lie apart from those of each live block
   pub bytes_apart : 1 ≤ size → IsSound c s → IsCandidate c s align size guard a → (q : ℕ) (x : Block) → at q s.live ≡ Some x → (q + x.size ≤ a) ⊎ (a + size ≤ q)
@@ -83,7 +83,7 @@ module _ (c : Config) (s : State) (align size guard a : ℕ) where
       in_block lt in_x = omega (arith, own_span some k, at_covered a q x s.live e (spans_from q x.size x.guard a (omega arith) (omega arith)))
 
       in_new : a ≤ q → q < a + size → ⊥
-      in_new le inside = omega (arith, k.free q (spans_from a size guard q (omega arith) (omega arith)), at_covered q q x s.live e (covers_own c (q, x) (placed_at c q x s.live h.live e)))
+      in_new le inside = omega (arith, k.free q (spans_from a size guard q (omega arith) (omega arith)), at_covered q q x s.live e (covers_own c (q, x) (in_space_at c q x s.live h.live e)))
 
   pub meets_none : (runs : PageRuns) → 1 ≤ size → IsSound c s → IsCandidate c s align size guard a → HoldsBlocks s.live runs → MeetsNone runs a size
   meets_none runs some h k holds = record {
@@ -99,5 +99,5 @@ module _ (c : Config) (s : State) (align size guard a : ℕ) where
       by_block q b None e f = absurd (none-some b (sym (ap (option_map (λ (x : Block). x.bytes)) e) ∙ f))
       by_block q b (Some x) e f =
           let same : x.bytes ≡ b = same_Some x.bytes b (sym (ap (option_map (λ (y : Block). y.bytes)) e) ∙ f) in
-          let count : length b ≡ x.size = ap length (sym same) ∙ (placed_at c q x s.live h.live e).whole in
+          let count : length b ≡ x.size = ap length (sym same) ∙ (in_space_at c q x s.live h.live e).whole in
           subst (λ (n : ℕ). (q + n ≤ a) ⊎ (a + size ≤ q)) (sym count) (bytes_apart some h k q x e)

@@ -6,7 +6,7 @@ use Rattle.std.proofs.lemmas.List.{length-replicate}
 use Rattle.hm_model.specs.declared.entry.Call.{Call}
 use Rattle.hm_model.specs.declared.entry.Call.TheVariants.{Allot}
 use Rattle.hm_model.specs.declared.entry.Reply.{Reply}
-use Rattle.hm_model.specs.Machine.{run_push}
+use Rattle.hm_model.specs.Machine.{state_push}
 use Rattle.hm_large.specs.Blocks.{Block, Blocks, byte_at, new_block, size_for}
 use Rattle.hm_large.specs.State.{State, start, step, changed}
 use Rattle.hm_large.specs.Rules.{Allowed, state}
@@ -29,4 +29,4 @@ zeroed t es g b asked guard k legal given lt =
     let s : State = state t es in
     let live : (step s g).live ≡ (b, new_block asked (unwrap_or g.choices.guard 0)) ∷ s.live =
     ap (λ (c : Call). (changed g c g.reply s).live) given.call ∙ ap (λ (r : Reply). (changed g (Allot asked given.align) r s).live) given.reply in
-    ap (λ (z : State). byte_at z.live (b + k)) (run_push step (Allowed t) start es g) ∙ (ap (λ (l : Blocks). byte_at l (b + k)) live ∙ zero_byte b (size_for asked) k (new_block asked (unwrap_or g.choices.guard 0)) s.live refl lt)
+    ap (λ (z : State). byte_at z.live (b + k)) (state_push step (Allowed t) start es g) ∙ (ap (λ (l : Blocks). byte_at l (b + k)) live ∙ zero_byte b (size_for asked) k (new_block asked (unwrap_or g.choices.guard 0)) s.live refl lt)

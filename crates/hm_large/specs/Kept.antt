@@ -5,7 +5,7 @@ use Rattle.hm_model.specs.declared.entry.Entry.{Entry}
 use Rattle.hm_model.specs.Maps.{at, keys}
 use Rattle.hm_outside.specs.declared.pages.Pages as pages
 use Rattle.hm_quarantine.specs.Delay.{held, AreNew}
-use Rattle.hm_quarantine.specs.LookingBack.{ArePlaces, kept_after}
+use Rattle.hm_quarantine.specs.LookingBack.{AreIndices, kept_after}
 use Rattle.hm_sizes.specs.declared.config.Config.{Config}
 use Rattle.hm_sizes.specs.Configs.{IsValid}
 use Rattle.hm_space.specs.Space.{IsFree}
@@ -49,7 +49,7 @@ pub record Shows (c : Config) (number : ℕ) (s : State) (k : Store) : Type 0 wh
   pub owed_is : k.owed ≡ owed s.live
   -- the blocks in quarantine are those that looking back through the frees finds there
   pub held_are : keys s.held ≡ held array_length ring_length s.frees
-  pub places : ArePlaces array_length s.frees
+  pub places : AreIndices array_length s.frees
   pub new : AreNew array_length ring_length s.frees
 
 -- the history is legal and drawn, and the pages and the store are what it says

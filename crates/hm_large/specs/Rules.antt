@@ -9,7 +9,7 @@ use Rattle.hm_model.specs.declared.entry.Reply.TheVariants.{Given, NoSpace, Page
 use Rattle.hm_model.specs.declared.entry.Choices.{Choices}
 use Rattle.hm_model.specs.Calls.{AsksRange, no_choices}
 use Rattle.hm_model.specs.Entries.{AreDraws}
-use Rattle.hm_model.specs.Machine.{run, Legal}
+use Rattle.hm_model.specs.Machine.{state_after, Legal}
 use Rattle.hm_model.specs.Maps.{at, has, among, removed}
 use Rattle.hm_model.specs.Runs.{expand}
 use Rattle.hm_quarantine.specs.Delay.{delay, slots_of}
@@ -127,7 +127,7 @@ pub record Allowed (t : Terms) (s : State) (e : Entry) : Type 0 where
   pub allows : Allows t s e e.call e.reply
 
 abbrev pub state : Terms → List Entry → State
-state t entries = run step (Allowed t) start entries
+state t entries = state_after step (Allowed t) start entries
 
 abbrev pub IsLegal : Terms → List Entry → Type 0
 IsLegal t entries = Legal step (Allowed t) start entries

@@ -14,7 +14,7 @@ use Rattle.hm_model.specs.declared.entry.Reply.{Reply}
 use Rattle.hm_model.specs.declared.entry.Reply.TheVariants.{Given, NoSpace, PagesFailed}
 use Rattle.hm_model.specs.Calls.{one_word}
 use Rattle.hm_large.specs.Blocks.{size_for, guard_of, new_block}
-use Rattle.hm_quarantine.specs.LookingBack.{ArePlaces, kept_after}
+use Rattle.hm_quarantine.specs.LookingBack.{AreIndices, kept_after}
 use Rattle.hm_large.specs.State.{State, changed, array_length, ring_length}
 use Rattle.hm_large.specs.Rules.{Allows, chose_guard, IsCandidate, IsLeastCandidate}
 use Rattle.hm_large.specs.Draws.{EntryDraws, stream_after}
@@ -54,7 +54,7 @@ module _ (k : LargeBook) (e : Entry) (asked align : ℕ) (reply : Reply) where
         record {
           blocks = blocks_words k.config (changed e (Allot asked align) reply s) b (e.draws.used + s.words) (shows s st);
           quarantine = st.shows.quarantine ∙ ap (λ f. kept_after array_length ring_length f) (sym (same s).0);
-          places = subst (ArePlaces array_length) (sym (same s).0) st.shows.places;
+          places = subst (AreIndices array_length) (sym (same s).0) st.shows.places;
           words = took ∙ ap after_word st.shows.words ∙ ap (stream_after k.number) {x = suc s.words} {y = e.draws.used + s.words} (omega (arith, ap (λ (d : Draws). d.used) h.word));
           faults = st.shows.faults ∙ sym (same s).1;
         },

@@ -17,7 +17,7 @@ use Rattle.hm_large.specs.Rules.{IsCandidate, taken}
 use Rattle.hm_large.specs.Kept.{IsOpen, kept_of}
 use Rattle.hm_large.specs.Laws.{IsSound}
 use Rattle.hm_large.specs.Stored.{GoesBack}
-use Rattle.hm_large.proofs.BlockLists.{how_many_removed, at_covered, length_removed, placed_at}
+use Rattle.hm_large.proofs.BlockLists.{how_many_removed, at_covered, length_removed, in_space_at}
 use Rattle.hm_large.proofs.Legal.{live_once, held_once}
 use Rattle.hm_large.proofs.Places.{candidate_fit}
 use Rattle.hm_large.proofs.Shown.{open_given}
@@ -62,7 +62,7 @@ taken_twice (suc n) (x ∷ l) = ap (λ m. x ∷ m) (taken_twice n l)
 
 module _ (c : Config) (s : State) (k : BlockBook) (a : ℕ) (x : Block) (sound : IsSound c s) (shows : ShowsBlocks c s k) (there : at a s.live ≡ Some x) where
   pub goes_live : IsValid c → GoesBack k.space a (kept_of false x)
-  goes_live valid = goes_back c s k.space a x false valid (placed_at c a x s.live sound.live there) shows.space (omega (arith, shows.out, length_removed a x s.live there (live_once c s a sound))) (λ q covers_q. omega (arith, at_covered q a x s.live there covers_q))
+  goes_live valid = goes_back c s k.space a x false valid (in_space_at c a x s.live sound.live there) shows.space (omega (arith, shows.out, length_removed a x s.live there (live_once c s a sound))) (λ q covers_q. omega (arith, at_covered q a x s.live there covers_q))
 
   -- it leaves
   pub shows_left : (new : BlockBook) → blocks_in new.live.items ≡ removed a (blocks_in k.live.items) → new.held.items ≡ k.held.items → new.recent.items ≡ k.recent.items
@@ -71,7 +71,7 @@ module _ (c : Config) (s : State) (k : BlockBook) (a : ℕ) (x : Block) (sound :
     live = live ∙ ap (removed a) shows.live;
     held = held ∙ shows.held;
     recent = recent ∙ shows.recent;
-    space = open_back c s (record s { live = removed a s.live }) k.space new.space a x (placed_at c a x s.live sound.live there) (λ q. (let m = how_many_removed (covers q) a x s.live there (live_once c s a sound) in omega (arith, m))) sound.once shows.space gives;
+    space = open_back c s (record s { live = removed a s.live }) k.space new.space a x (in_space_at c a x s.live sound.live there) (λ q. (let m = how_many_removed (covers q) a x s.live there (live_once c s a sound) in omega (arith, m))) sound.once shows.space gives;
     out = omega (arith, out, shows.out, length_removed a x s.live there (live_once c s a sound));
   }
 
@@ -97,7 +97,7 @@ module _ (c : Config) (s : State) (k : BlockBook) (a : ℕ) (x : Block) (sound :
 -- ---- a block that leaves the quarantine
 module _ (c : Config) (s : State) (k : BlockBook) (b : ℕ) (y : Block) (sound : IsSound c s) (shows : ShowsBlocks c s k) (there : at b s.held ≡ Some y) where
   pub goes_held : IsValid c → GoesBack k.space b (kept_of true y)
-  goes_held valid = goes_back c s k.space b y true valid (placed_at c b y s.held sound.held there) shows.space (omega (arith, shows.out, length_removed b y s.held there (held_once c s b sound))) (λ q covers_q. omega (arith, at_covered q b y s.held there covers_q))
+  goes_held valid = goes_back c s k.space b y true valid (in_space_at c b y s.held sound.held there) shows.space (omega (arith, shows.out, length_removed b y s.held there (held_once c s b sound))) (λ q covers_q. omega (arith, at_covered q b y s.held there covers_q))
 
   pub shows_let_go : (new : BlockBook) → new.live.items ≡ k.live.items → new.held.items ≡ removed b k.held.items → new.recent.items ≡ k.recent.items
       → GivesRange k.space new.space (b - 4096 * y.guard) (y.size + 2 * (4096 * y.guard)) → new.space.out + 1 ≡ k.space.out → ShowsBlocks c (record s { held = removed b s.held }) new
@@ -105,7 +105,7 @@ module _ (c : Config) (s : State) (k : BlockBook) (b : ℕ) (y : Block) (sound :
     live = ap blocks_in live ∙ shows.live;
     held = held ∙ ap (removed b) shows.held ∙ sym (removed_pairs extent_of b s.held);
     recent = recent ∙ shows.recent;
-    space = open_back c s (record s { held = removed b s.held }) k.space new.space b y (placed_at c b y s.held sound.held there) (λ q. (let m = how_many_removed (covers q) b y s.held there (held_once c s b sound) in omega (arith, m))) sound.once shows.space gives;
+    space = open_back c s (record s { held = removed b s.held }) k.space new.space b y (in_space_at c b y s.held sound.held there) (λ q. (let m = how_many_removed (covers q) b y s.held there (held_once c s b sound) in omega (arith, m))) sound.once shows.space gives;
     out = omega (arith, out, shows.out, length_removed b y s.held there (held_once c s b sound));
   }
 

@@ -9,8 +9,8 @@ use Rattle.hm_model.specs.declared.entry.Call.TheVariants.{GiveBack}
 use Rattle.hm_model.specs.declared.entry.Reply.TheVariants.{Freed}
 use Rattle.hm_model.specs.Calls.{no_choices, no_words, one_word}
 use Rattle.hm_model.specs.Maps.{at, has, removed}
-use Rattle.hm_quarantine.specs.Quarantine.{IsArrayPlace, Kept, let_go, kept_with}
-use Rattle.hm_quarantine.specs.LookingBack.{released, ArePlaces, kept_after}
+use Rattle.hm_quarantine.specs.Quarantine.{IsArrayIndex, Kept, let_go, kept_with}
+use Rattle.hm_quarantine.specs.LookingBack.{released, AreIndices, kept_after}
 use Rattle.hm_quarantine.proofs.Passes.{looks_back, length_array}
 use Rattle.hm_sizes.specs.declared.config.Config.{Config}
 use Rattle.hm_large.specs.Laws.{IsSound}
@@ -162,7 +162,7 @@ module _ (k : LargeBook) (e : Entry) (a : ℕ) (extent : Extent) (small : extent
     word_is : (s : State) → Stands s k → both.0 ≡ word_after k.number s.words
     word_is s st = ap (λ (p : ℕ × ℕ). p.0) drawn_is ∙ ap next_word st.shows.words
 
-    places : (s : State) → Stands s k → ArePlaces array_length (free_of a both.0 ∷ s.frees)
+    places : (s : State) → Stands s k → AreIndices array_length (free_of a both.0 ∷ s.frees)
     places s st = (subst (λ (p : ℕ). p < array_length) place_is below, st.shows.places)
 
     released_is : (s : State) → Stands s k → left ≡ released array_length ring_length s.frees (free_of a (word_after k.number s.words))
@@ -194,7 +194,7 @@ module _ (k : LargeBook) (e : Entry) (a : ℕ) (extent : Extent) (small : extent
             record {
               blocks = blocks_words k.config (releases e.choices.released (takes_back a e.draws.w0 (Some x) s)) b (e.draws.used + s.words) f.1;
               quarantine = keeps ∙ (λ i. kept_with (st.shows.quarantine i) a (place_is i)) ∙ ap (kept_after array_length ring_length) (sym frees);
-              places = subst (ArePlaces array_length) (sym frees) (places s st);
+              places = subst (AreIndices array_length) (sym frees) (places s st);
               words = took ∙ ap after_word st.shows.words ∙ ap (stream_after k.number) {x = suc s.words} {y = e.draws.used + s.words} (omega (arith, ap (λ (d : Draws). d.used) draws));
               faults = st.shows.faults ∙ sym rest.1;
             },
@@ -234,8 +234,8 @@ module _ (k : LargeBook) (b new : BlockBook) (a word : ℕ) (extent : Extent) (r
   may on s x st there reach = subst (λ (t : Bool). MatchBool t (ReleasesFrom (takes_back a word (Some x) s) released × ShowsBlocks k.config (releases released (takes_back a word (Some x) s)) new) (ReleasesFrom (takes_back a word (Some x) s) released → ⊥)) on (after s x st there reach)
 
 -- the place is one of the array
-pub is_place : (s : State) (k : LargeBook) (place : ℕ) → Stands s k → place < array_length → IsArrayPlace (length k.quarantine.array) place
-is_place s k place st below = subst (λ (n : ℕ). IsArrayPlace n place) (sym (ap (λ (q : Kept). length q.array) st.shows.quarantine ∙ length_array array_length ring_length s.frees)) below
+pub is_place : (s : State) (k : LargeBook) (place : ℕ) → Stands s k → place < array_length → IsArrayIndex (length k.quarantine.array) place
+is_place s k place st below = subst (λ (n : ℕ). IsArrayIndex n place) (sym (ap (λ (q : Kept). length q.array) st.shows.quarantine ∙ length_array array_length ring_length s.frees)) below
 
 pub off_on : (b : Bool) → b ≡ false → b ≡ true → ⊥
 off_on b off on = true≢false (sym on ∙ off)

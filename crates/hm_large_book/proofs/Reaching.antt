@@ -18,7 +18,7 @@ use Rattle.hm_large.specs.State.{State}
 use Rattle.hm_large.specs.Laws.{IsInSpace, AreInSpace, IsSound}
 use Rattle.hm_large.specs.Kept.{AreGuarded}
 use Rattle.hm_large.specs.Stored.{IsLeft}
-use Rattle.hm_large.proofs.BlockLists.{weight, placed_at}
+use Rattle.hm_large.proofs.BlockLists.{weight, in_space_at}
 use Rattle.hm_large.proofs.Legal.{live_once}
 use Rattle.hm_large.proofs.Places.{spans_from}
 use Rattle.hm_large.proofs.Accessed.{bytes_there, none_left, trap_left}
@@ -52,7 +52,7 @@ module _ (c : Config) (s : State) (live : List (ℕ × LiveBlock)) (sound : IsSo
       subst (λ (m : Blocks). at e.0 m ≡ Some (block_of e.1)) is (at_index (blocks_in live) i (block_in e) (slice_pairs block_of live i ∙ ap (option_map block_in) got) once)
 
   whole : (i : ℕ) (e : ℕ × LiveBlock) → slice_get live i ≡ Some e → length e.1.bytes ≡ e.1.size
-  whole i e got = (placed_at c e.0 (block_of e.1) s.live sound.live (there i e got)).whole
+  whole i e got = (in_space_at c e.0 (block_of e.1) s.live sound.live (there i e got)).whole
 
   pub left_some : (q i left : ℕ) (e : ℕ × LiveBlock) → slice_get live i ≡ Some e → e.0 ≤ q → 1 ≤ left → q + left ≡ e.0 + length e.1.bytes → IsLeft s.live q left
   left_some q i left e got low some sum = left_is s.live q e.0 left (block_of e.1) (there i e got) low some (omega (arith, sum, whole i e got))

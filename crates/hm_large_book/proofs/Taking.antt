@@ -1,14 +1,14 @@
 -- What taking an entry leaves.
 use Rattle.std.proofs.Common.{◌≡◌, ℕ, List, refl, sym, ◌∙◌, subst}
 use Rattle.hm_model.specs.declared.entry.Entry.{Entry}
-use Rattle.hm_model.specs.Machine.{run, run_push, Legal_push}
+use Rattle.hm_model.specs.Machine.{state_after, state_push, Legal_push}
 use Rattle.hm_sizes.specs.declared.config.Config.{Config}
 use Rattle.hm_sizes.specs.Configs.{IsValid}
 use Rattle.hm_large.specs.State.{State, start, step}
 use Rattle.hm_large.specs.Rules.{Allowed, state}
 use Rattle.hm_large.specs.Draws.{Drawn}
 use Rattle.hm_large.specs.Laws.{IsSound}
-use Rattle.hm_large.proofs.Entries.{run_same}
+use Rattle.hm_large.proofs.Entries.{state_same}
 use Rattle.hm_large.proofs.Legal.{sound}
 use Rattle.hm_model.specs.declared.judgement.Judgement.{Judgement}
 use Rattle.hm_model.specs.declared.judgement.Judgement.TheVariants.{Taken, NotLegal, NotDrawn}
@@ -53,7 +53,7 @@ module _ (es : List Entry) (old mid : LargeBook) (e : Entry) (formed : IsFormed 
       by : (j : Judgement) → IsJudged old (state (terms_of old.config) es) e e.call e.reply mid j → Says old.config old.number es e (record mid { faults = e.faults_after }) j
       by Taken k =
           let allowed : Allowed (terms_of old.config) (state (terms_of old.config) es) e = record { draws = formed.draws; asks = formed.asks; follows = formed.follows ∙ h.shows.faults; later = formed.later; allows = k.0 } in
-          let same : run step (Drawn old.number) start es ≡ state (terms_of old.config) es = run_same (Drawn old.number) (Allowed (terms_of old.config)) start es in (
+          let same : state_after step (Drawn old.number) start es ≡ state (terms_of old.config) es = state_same (Drawn old.number) (Allowed (terms_of old.config)) start es in (
             allowed,
             k.1,
             record {
@@ -62,7 +62,7 @@ module _ (es : List Entry) (old mid : LargeBook) (e : Entry) (formed : IsFormed 
               valid = h.valid;
               legal = Legal_push step (Allowed (terms_of old.config)) start es e h.legal allowed;
               drawn = Legal_push step (Drawn old.number) start es e h.drawn (subst (λ (z : State). Drawn old.number z e) (sym same) k.1);
-              shows = subst (λ (z : State). Shows z (record mid { faults = e.faults_after })) (sym (run_push step (Allowed (terms_of old.config)) start es e)) (shows_step (state (terms_of old.config) es) e mid k.2);
+              shows = subst (λ (z : State). Shows z (record mid { faults = e.faults_after })) (sym (state_push step (Allowed (terms_of old.config)) start es e)) (shows_step (state (terms_of old.config) es) e mid k.2);
             },
           )
       by NotLegal k = λ a. k a.allows

@@ -3,7 +3,7 @@ use Rattle.std.specs.Prelude.{◌≡◌, ℕ, ◌+◌, ◌&&◌, nat_le, nat_lt,
 use Rattle.hm_model.specs.Maps.{at}
 use Rattle.hm_large.specs.Rules.{wrong_size}
 use Rattle.hm_quarantine.specs.Delay.{delay, slots_of}
-use Rattle.hm_quarantine.specs.LookingBack.{ArePlaces, kept_after}
+use Rattle.hm_quarantine.specs.LookingBack.{AreIndices, kept_after}
 use Rattle.hm_sizes.specs.declared.config.Config.{Config}
 use Rattle.hm_sizes.specs.Configs.{IsValid}
 use Rattle.hm_large.specs.Blocks.{Block, Blocks}
@@ -64,7 +64,7 @@ pub record ShowsBlocks (c : Config) (s : State) (k : BlockBook) : Type 0 where
 pub record Shows (s : State) (k : LargeBook) : Type 0 where
   pub blocks : ShowsBlocks k.config s k.blocks
   pub quarantine : k.quarantine ≡ kept_after array_length ring_length s.frees
-  pub places : ArePlaces array_length s.frees
+  pub places : AreIndices array_length s.frees
   pub words : k.words ≡ stream_after k.number s.words
   pub faults : k.faults ≡ s.faults
 

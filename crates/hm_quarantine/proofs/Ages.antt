@@ -2,8 +2,8 @@
 use Rattle.std.proofs.Common.{◌≡◌, ℕ, zero, suc, ◌+◌, ◌<◌, ◌≤◌, ◌==◌, min, Bool, true, false, cond, ◌||◌, List, [], ◌∷◌, ◌++◌, length, take, get_or, Option, Some, None, IfSome, sym, ◌∙◌, ap, subst, refl, arith, true≢false, length-append}
 use Rattle.std.specs.Bool.{⊤}
 use Rattle.std.proofs.lemmas.Bool.Decides.{nat_tests}
-use Rattle.hm_quarantine.specs.Quarantine.{Kept, IsArrayPlace, goes_on, ring_with, goes_out, let_go, kept_with}
-use Rattle.hm_quarantine.specs.LookingBack.{Free, ArePlaces, kept_after}
+use Rattle.hm_quarantine.specs.Quarantine.{Kept, IsArrayIndex, goes_on, ring_with, goes_out, let_go, kept_with}
+use Rattle.hm_quarantine.specs.LookingBack.{Free, AreIndices, kept_after}
 use Rattle.hm_base.specs.Members.{among, without_option}
 use Rattle.hm_quarantine.specs.Delay.{slots_of, held, AreNew, IsDelayed, Delays, HoldsFew}
 use Rattle.hm_quarantine.proofs.Rings.{Takes, Room, Full, HasRoom, IsFull, takes}
@@ -117,7 +117,7 @@ none_of : (n f : ℕ) (hold frees : List ℕ) (k : Kept) → Fine n hold frees k
 none_of n f hold frees k fine new = sym (fine.counts (λ x. x == f)) ∙ none_among f hold new
 
 -- what goes on from the array is not the freed slot
-quiet_on : (n f p : ℕ) (hold frees : List ℕ) (k : Kept) → length k.array ≡ n → IsArrayPlace n p → Fine n hold frees k → among f hold ≡ false
+quiet_on : (n f p : ℕ) (hold frees : List ℕ) (k : Kept) → length k.array ≡ n → IsArrayIndex n p → Fine n hold frees k → among f hold ≡ false
     → (x : ℕ) → goes_on k.array f p ≡ Some x → Quiet (more n) x (f ∷ frees)
 quiet_on zero f p hold frees k wide place fine new x e = refl
 quiet_on (suc n) f p hold frees k wide place fine new x e = or_both (f == x) false (differ (x == f) least refl) refl
@@ -135,10 +135,10 @@ quiet_on (suc n) f p hold frees k wide place fine new x e = or_both (f == x) fal
     differ true le is = absurd (omega (arith, le))
     differ false le is = flip x f (sym is)
 
-freed : (n f p : ℕ) (hold frees : List ℕ) (k : Kept) → length k.array ≡ n → IsArrayPlace n p → among f hold ≡ false → Fine n hold frees k
+freed : (n f p : ℕ) (hold frees : List ℕ) (k : Kept) → length k.array ≡ n → IsArrayIndex n p → among f hold ≡ false → Fine n hold frees k
     → Freed n (f ∷ hold) (f ∷ frees) (kept_with k f p) (let_go k f p)
 freed n f p hold frees k wide place new fine = record {
-  counts = λ t. omega (arith, fine.counts t, count_ring t k.ring_length k.ring (goes_on k.array f p) fine.few, count_array t k.array f p (subst (λ (j : ℕ). IsArrayPlace j p) (sym wide) place));
+  counts = λ t. omega (arith, fine.counts t, count_ring t k.ring_length k.ring (goes_on k.array f p) fine.few, count_array t k.array f p (subst (λ (j : ℕ). IsArrayIndex j p) (sym wide) place));
   once = λ a. once_more a f hold new (fine.once a);
   ring = enter_after k.ring_length (more n) f k.ring frees (goes_on k.array f p) fine.few fine.ages
       (among_none f k.ring (omega (arith, none_of n f hold frees k fine new))) (quiet_on n f p hold frees k wide place fine new);
@@ -167,7 +167,7 @@ abbrev freed_by : ℕ → ℕ → List Free → Free → Type 0
 freed_by n size past free =
     Freed n (free.slot ∷ held n size past) (slots_of (free ∷ past)) (kept_after n size (free ∷ past)) (let_go (kept_after n size past) free.slot free.place)
 
-all_fine : (n size : ℕ) (past : List Free) → ArePlaces n past → AreNew n size past → Fine n (held n size past) (slots_of past) (kept_after n size past)
+all_fine : (n size : ℕ) (past : List Free) → AreIndices n past → AreNew n size past → Fine n (held n size past) (slots_of past) (kept_after n size past)
 all_fine n size [] places new = record { counts = λ t. omega (arith, count_empty t n); once = λ a. omega arith; ages = tt; few = omega arith }
 all_fine n size (free ∷ past) places new =
     subst (λ (o : Option ℕ). Fine n (without_option o (free.slot ∷ held n size past)) (slots_of (free ∷ past)) (kept_after n size (free ∷ past)))
@@ -175,7 +175,7 @@ all_fine n size (free ∷ past) places new =
     (fine_after n (free.slot ∷ held n size past) (slots_of (free ∷ past)) (kept_after n size (free ∷ past)) (let_go (kept_after n size past) free.slot free.place)
     (freed n free.slot free.place (held n size past) (slots_of past) (kept_after n size past) (length_array n size past) places.0 new.0 (all_fine n size past places.1 new.1)))
 
-all_freed : (n size : ℕ) (past : List Free) (free : Free) → ArePlaces n (free ∷ past) → AreNew n size (free ∷ past) → freed_by n size past free
+all_freed : (n size : ℕ) (past : List Free) (free : Free) → AreIndices n (free ∷ past) → AreNew n size (free ∷ past) → freed_by n size past free
 all_freed n size past free places new =
     freed n free.slot free.place (held n size past) (slots_of past) (kept_after n size past) (length_array n size past) places.0 new.0 (all_fine n size past places.1 new.1)
 

@@ -2,7 +2,7 @@
 use Rattle.std.proofs.Common.{◌≡◌, ℕ, zero, suc, ◌+◌, ◌<◌, ◌≤◌, ◌==◌, Bool, true, false, cond, ◌||◌, List, [], ◌∷◌, ◌++◌, length, replicate, get_or, set, Option, Some, None, ap, refl, arith, true≢false}
 use Rattle.std.specs.Prelude.{not}
 use Rattle.std.proofs.lemmas.Bool.{eqb-true, eq-eqb}
-use Rattle.hm_quarantine.specs.Quarantine.{IsArrayPlace, goes_on, ring_with, goes_out}
+use Rattle.hm_quarantine.specs.Quarantine.{IsArrayIndex, goes_on, ring_with, goes_out}
 use Rattle.hm_base.specs.Members.{among, without, without_option}
 use Rattle.hm_quarantine.proofs.Rings.{Takes, Room, Full, HasRoom, IsFull, takes}
 
@@ -35,7 +35,7 @@ count_set t (o ∷ array) zero x lt = omega arith
 count_set t (o ∷ array) (suc p) x lt = omega (arith, count_set t array p x (omega arith))
 
 -- the array takes a slot and lets one go on
-pub count_array : (t : ℕ → Bool) (array : List (Option ℕ)) (x p : ℕ) → IsArrayPlace (length array) p → count_in t (set array p (Some x)) + one_of t (goes_on array x p) ≡ count_in t array + one t x
+pub count_array : (t : ℕ → Bool) (array : List (Option ℕ)) (x p : ℕ) → IsArrayIndex (length array) p → count_in t (set array p (Some x)) + one_of t (goes_on array x p) ≡ count_in t array + one t x
 count_array t [] x p place = refl
 count_array t (o ∷ array) x p place = count_set t (o ∷ array) p x place
 

@@ -4,8 +4,8 @@ use Rattle.std.specs.Prelude.{is_some}
 use Rattle.std.specs.List.{cons_option}
 use Rattle.std.proofs.lemmas.List.{length-replicate, get_or-replicate, reverse-append, length-reverse}
 use Rattle.std.proofs.lemmas.Bool.{eqb-true, eqb-false}
-use Rattle.hm_quarantine.specs.Quarantine.{IsArrayPlace, goes_on, ring_with, goes_out}
-use Rattle.hm_quarantine.specs.LookingBack.{Free, latest_at, leaves_array, all_left, ArePlaces, kept_after, LooksBack}
+use Rattle.hm_quarantine.specs.Quarantine.{IsArrayIndex, goes_on, ring_with, goes_out}
+use Rattle.hm_quarantine.specs.LookingBack.{Free, latest_at, leaves_array, all_left, AreIndices, kept_after, LooksBack}
 use Rattle.hm_quarantine.proofs.Rings.{HasRoom, has_room, IsFull, is_full}
 
 -- the array keeps its length
@@ -36,7 +36,7 @@ on_with [] slot p lt = absurd (omega (arith, lt))
 on_with (o ∷ array) slot p lt = refl
 
 -- what goes on from the array is what leaves it
-pub comes : (n size : ℕ) (past : List Free) (free : Free) → IsArrayPlace n free.place → goes_on (kept_after n size past).array free.slot free.place ≡ leaves_array n past free
+pub comes : (n size : ℕ) (past : List Free) (free : Free) → IsArrayIndex n free.place → goes_on (kept_after n size past).array free.slot free.place ≡ leaves_array n past free
 comes zero size past free place = on_without (kept_after zero size past).array free.slot free.place (length_array zero size past)
 comes (suc n) size past free place =
     on_with (kept_after (suc n) size past).array free.slot free.place (subst (λ (k : ℕ). free.place < k) (sym (length_array (suc n) size past)) place)
@@ -102,7 +102,7 @@ length_is n size [] = refl
 length_is n size (free ∷ past) = length_is n size past
 
 -- the ring holds the latest that have left the array
-pub ring_is : (n size : ℕ) (past : List Free) → ArePlaces n past → (kept_after n size past).ring ≡ reverse (take size (all_left n past))
+pub ring_is : (n size : ℕ) (past : List Free) → AreIndices n past → (kept_after n size past).ring ≡ reverse (take size (all_left n past))
 ring_is n zero [] places = refl
 ring_is n (suc size) [] places = refl
 ring_is n size (free ∷ past) places =

@@ -1,7 +1,7 @@
 -- How long a freed slot stays in quarantine. `array` and `ring` are the lengths of the two.
 use Rattle.std.specs.Prelude.{◌≡◌, ℕ, ◌+◌, ◌≤◌, min, true, false, List, [], ◌∷◌, map, length, take, IfSome}
 use Rattle.hm_base.specs.Members.{among, without_option}
-use Rattle.hm_quarantine.specs.LookingBack.{Free, released, ArePlaces}
+use Rattle.hm_quarantine.specs.LookingBack.{Free, released, AreIndices}
 
 abbrev pub slots_of : List Free → List ℕ
 slots_of past = map (λ (free : Free). free.slot) past
@@ -27,10 +27,10 @@ pub record IsDelayed (array ring : ℕ) (past : List Free) (free : Free) (slot :
 
 -- what is released is delayed
 abbrev pub Delays : Type 0
-Delays = (array ring : ℕ) (past : List Free) (free : Free) → ArePlaces array (free ∷ past)
+Delays = (array ring : ℕ) (past : List Free) (free : Free) → AreIndices array (free ∷ past)
     → AreNew array ring (free ∷ past) → IfSome (released array ring past free) (IsDelayed array ring past free)
 
 -- no more slots are in quarantine than the array and the ring have places
 abbrev pub HoldsFew : Type 0
-HoldsFew = (array ring : ℕ) (past : List Free) → ArePlaces array past → AreNew array ring past
+HoldsFew = (array ring : ℕ) (past : List Free) → AreIndices array past → AreNew array ring past
     → length (held array ring past) ≤ array + ring

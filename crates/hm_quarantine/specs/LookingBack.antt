@@ -1,7 +1,7 @@
 -- What a free releases, found by looking back through the frees before it.
 use Rattle.std.specs.Prelude.{◌≡◌, ℕ, zero, suc, ◌==◌, List, [], ◌∷◌, slice_get, Option, Some, None, is_some, if◌then◌else◌}
 use Rattle.std.specs.List.{cons_option}
-use Rattle.hm_quarantine.specs.Quarantine.{Kept, IsArrayPlace, nothing_kept, let_go, kept_with}
+use Rattle.hm_quarantine.specs.Quarantine.{Kept, IsArrayIndex, nothing_kept, let_go, kept_with}
 
 -- a free of a slot, and the place of the array that was drawn for it
 pub record Free : Type 0 where
@@ -32,9 +32,9 @@ released array ring past free =
     if is_some (leaves_array array past free) then slice_get (all_left array (free ∷ past)) ring else None
 
 -- each free stands at a place of the array
-abbrev pub ArePlaces : ℕ → List Free → Type 0
-ArePlaces array [] = Unit {0}
-ArePlaces array (free ∷ past) = IsArrayPlace array free.place × ArePlaces array past
+abbrev pub AreIndices : ℕ → List Free → Type 0
+AreIndices array [] = Unit {0}
+AreIndices array (free ∷ past) = IsArrayIndex array free.place × AreIndices array past
 
 -- what a quarantine keeps after these frees, one after another
 abbrev pub kept_after : ℕ → ℕ → List Free → Kept
@@ -43,5 +43,5 @@ kept_after array ring (free ∷ past) = kept_with (kept_after array ring past) f
 
 -- at each free the array and the ring let go what looking back finds
 abbrev pub LooksBack : Type 0
-LooksBack = (array ring : ℕ) (past : List Free) (free : Free) → ArePlaces array (free ∷ past)
+LooksBack = (array ring : ℕ) (past : List Free) (free : Free) → AreIndices array (free ∷ past)
     → let_go (kept_after array ring past) free.slot free.place ≡ released array ring past free

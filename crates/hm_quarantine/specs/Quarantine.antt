@@ -18,9 +18,9 @@ nothing_kept array_length ring_length =
     record { array = replicate array_length None; ring = []; ring_length = ring_length }
 
 -- an index is below the array's length, or 0 where there is no array
-abbrev pub IsArrayPlace : ℕ → ℕ → Type 0
-IsArrayPlace zero index = index ≡ 0
-IsArrayPlace (suc n) index = index < suc n
+abbrev pub IsArrayIndex : ℕ → ℕ → Type 0
+IsArrayIndex zero index = index ≡ 0
+IsArrayIndex (suc n) index = index < suc n
 
 -- what goes on from the array as a slot comes: what stood at its place; with no array, the slot itself
 abbrev pub goes_on : List (Option ℕ) → ℕ → ℕ → Option ℕ

@@ -1,7 +1,7 @@
 //! The array and the ring of one region. A freed slot goes to a place of the array, what stood there goes
 //! on to the ring, and a full ring gives its oldest out.
 ghost use Rattle.std.specs.Prelude.{◌≡◌, length, IfOk};
-ghost use Rattle.hm_quarantine.specs.Quarantine.{IsArrayPlace, nothing_kept, let_go, kept_with};
+ghost use Rattle.hm_quarantine.specs.Quarantine.{IsArrayIndex, nothing_kept, let_go, kept_with};
 
 use crate::array::Array;
 use circular_buffer::HeapCircularBuffer;
@@ -36,7 +36,7 @@ impl Quarantine {
 
     /// Takes a freed slot in, at a place of the array, and answers the slot that leaves.
     pub fn pass(&mut self, slot: u64, index: u32) -> Option<u64>
-        requires { IsArrayPlace (length self.old.array) index }
+        requires { IsArrayIndex (length self.old.array) index }
         ensures released { result ≡ let_go self.old slot index }
         ensures kept { self.new ≡ kept_with self.old slot index }
     {

@@ -6,7 +6,7 @@ use Rattle.std.proofs.lemmas.List.{get_or-map}
 use Rattle.std.proofs.lemmas.Option.{slice_get-get_or}
 use Rattle.hm_outside.specs.declared.pages.Pages as pages
 use Rattle.hm_model.specs.declared.entry.Entry.{Entry}
-use Rattle.hm_model.specs.Machine.{run}
+use Rattle.hm_model.specs.Machine.{state_after}
 use Rattle.hm_report.specs.declared.results.Results.{Results}
 use Rattle.hm_sizes.specs.declared.config.Config.{Config}
 use Rattle.hm_sizes.specs.Homes.{region_count}
@@ -35,7 +35,7 @@ use Rattle.hm_run.specs.Words.{config_of}
 use Rattle.hm_run.proofs.Outcomes.{lawful}
 
 -- what is kept is the same by whatever terms
-same_state : (t u : Terms) (s : State) (es : List Entry) → run step (Allowed t) s es ≡ run step (Allowed u) s es
+same_state : (t u : Terms) (s : State) (es : List Entry) → state_after step (Allowed t) s es ≡ state_after step (Allowed u) s es
 same_state t u s [] = refl
 same_state t u s (e ∷ es) = same_state t u (step s e) es
 

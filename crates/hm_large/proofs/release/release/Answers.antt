@@ -3,7 +3,7 @@ use Rattle.std.specs.Option.{IfSome}
 use Rattle.std.specs.FinMap as map
 use Rattle.std.proofs.lemmas.Bool.{le-ltb, lt-ltb}
 use Rattle.hm_quarantine.specs.LookingBack.{kept_after}
-use Rattle.hm_quarantine.specs.Quarantine.{Kept, IsArrayPlace}
+use Rattle.hm_quarantine.specs.Quarantine.{Kept, IsArrayIndex}
 use Rattle.hm_quarantine.proofs.Passes.{length_array}
 use Rattle.hm_region_table.specs.declared.entry.Block.{Block as KeptBlock}
 use Rattle.hm_large.specs.declared.store.Store.{Store}
@@ -53,7 +53,7 @@ pass-released-requires c =
     let t = c.requires in
     let same : c.replace.new.store.quarantine ≡ kept_after 256 1024 t.s.frees = ap (λ (k : Store). k.quarantine) c.replace.ensures.others ∙ (ap (λ (k : Store). k.quarantine) c.uncount.ensures.others ∙ t.shows.quarantine) in
     let count : length c.replace.new.store.quarantine.array ≡ 256 = ap (λ (q : Kept). length q.array) same ∙ length_array 256 1024 t.s.frees in
-    subst (λ (m : ℕ). IsArrayPlace m c.draw-word.result.1) (sym count) c.draw-word.ensures.below
+    subst (λ (m : ℕ). IsArrayIndex m c.draw-word.result.1) (sym count) c.draw-word.ensures.below
 
 pub put_back-requires-in-Some : goal.put_back-requires-in-Some
 put_back-requires-in-Some c =
