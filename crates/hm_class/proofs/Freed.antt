@@ -73,7 +73,7 @@ after_by stream false (emptied.Purged d) = refl
 pub after_freed : (p : Shape) (stream : Words) (e : Emptied) → after_words stream (freed_draws (array_word p (next_word stream)) e).used ≡ stream_after (array_stream p stream) e
 after_freed p stream e = after_by stream (p.array == 0) e
 
--- the place of the array
+-- the index in the array
 is_zero : (n : ℕ) → (n == 0) ≡ true → n ≡ 0
 is_zero n e = grind (arith, nat_tests)
 
@@ -102,7 +102,7 @@ index_fits p stream = of p.array
         not_zero : (n : ℕ) → (suc n == 0) ≡ false
         not_zero n = grind (arith, nat_tests)
 
--- the parking place of a retired slab
+-- the parking index of a retired slab
 pub parking_drawn : (t : Terms) (stream : Words) (d w : ℕ) (u : Option ℕ) → parking_index t (freed_draws (array_word t.shape (next_word stream)) (emptied.Retired d w u)) ≡ drawn t.config.park_length w
 parking_drawn t stream d w u = of (t.shape.array == 0)
   where

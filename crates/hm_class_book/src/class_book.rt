@@ -413,7 +413,7 @@ fn touched(shape: &Shape, choices: &Choices, addr: u64) -> u64
     }
 }
 
-// What stands at a parking place goes out as a retired slab comes, if one does.
+// What stands at a parking index goes out as a retired slab comes, if one does.
 fn park(parking: &mut Vec<Option<u64>>, place: u32, retired: Option<u64>) -> Option<u64>
     ensures stood { result ≡ unparked_by retired (slice_index_or parking.old.items place None) }
     ensures parking { parking.new.items ≡ parking_with place retired parking.old.items }

@@ -94,7 +94,7 @@ pub(crate) fn picking_words(region: &Region, choices: &Choices) -> u8
     canary_words(&region.shape, choices) + start
 }
 
-/// How many words the place of the array takes.
+/// How many words the index in the array takes.
 pub(crate) fn array_words(shape: &Shape) -> u8
     ensures value { result ≡ array_words shape.now }
     ensures few { result ≤ 1 }
@@ -138,7 +138,7 @@ pub(crate) fn start_slot(region: &Region, choices: &Choices, draws: &Draws) -> u
     }
 }
 
-/// The place of the array to which a freed slot goes.
+/// The index in the array to which a freed slot goes.
 pub(crate) fn array_index(shape: &Shape, draws: &Draws) -> u32
     ensures value { result ≡ array_index shape.now draws.now }
     ensures place { IsArrayIndex shape.now.array result }
@@ -146,7 +146,7 @@ pub(crate) fn array_index(shape: &Shape, draws: &Draws) -> u32
     drawn(shape.array, draws.w0)
 }
 
-/// The parking place of a retired slab.
+/// The parking index of a retired slab.
 pub(crate) fn parking_index(region: &Region, draws: &Draws) -> u32
     requires { 1 ≤ region.now.config.park_length }
     ensures value { result ≡ parking_index (terms region.now) draws.now }

@@ -30,12 +30,12 @@ drawn_below n word some low = div_below (word * n) (2 ^ 32) n (omega arith) (pro
     product : (w k n : ℕ) → 0 < n → w < k → w * n < n * k
     product w k n some low = grind arith
 
-drawn_place : (n word : ℕ) → word < 2 ^ 32 → IsArrayIndex n (drawn n word)
-drawn_place zero word low = none word
+drawn_index : (n word : ℕ) → word < 2 ^ 32 → IsArrayIndex n (drawn n word)
+drawn_index zero word low = none word
   where
     none : (w : ℕ) → w * 0 / 2 ^ 32 ≡ 0
     none w = omega arith
-drawn_place (suc n) word low = drawn_below (suc n) word (omega arith) low
+drawn_index (suc n) word low = drawn_below (suc n) word (omega arith) low
 
 word_below : (d : Draws) → AreWords d → (k : ℕ) → word_after k d < 2 ^ 32
 word_below d words zero = omega arith
@@ -70,17 +70,17 @@ now_is t shape (e ∷ past) n = refl
 -- ---- the parking array, as an array without a ring
 abbrev as_frees : List Retirement → List Free
 as_frees [] = []
-as_frees (r ∷ past) = record { slot = r.slab; place = r.place } ∷ as_frees past
+as_frees (r ∷ past) = record { slot = r.slab; index = r.index } ∷ as_frees past
 
 abbrev parked_after : ℕ → List Retirement → List (Option ℕ)
 parked_after n past = (kept_after n 0 (as_frees past)).array
 
-latest_is : (place : ℕ) (past : List Retirement) → latest_at place (as_frees past) ≡ latest_parked place past
-latest_is place [] = refl
-latest_is place (r ∷ past) = ap (λ (o : Option ℕ). cond (r.place == place) (Some r.slab) o) (latest_is place past)
+latest_is : (index : ℕ) (past : List Retirement) → latest_at index (as_frees past) ≡ latest_parked index past
+latest_is index [] = refl
+latest_is index (r ∷ past) = ap (λ (o : Option ℕ). cond (r.index == index) (Some r.slab) o) (latest_is index past)
 
-parks : (n place : ℕ) (past : List Retirement) → place < n → get_or (parked_after n past) place None ≡ latest_parked place past
-parks n place past lt = stands n 0 place (as_frees past) lt ∙ latest_is place past
+parks : (n index : ℕ) (past : List Retirement) → index < n → get_or (parked_after n past) index None ≡ latest_parked index past
+parks n index past lt = stands n 0 index (as_frees past) lt ∙ latest_is index past
 
 -- ---- what the lists are after a legal past
 pub record Shown (t : Terms) (past : List Entry) (c : Cells) : Type 0 where
@@ -125,9 +125,9 @@ with_kept p e (Picked a) frees = refl
 with_kept p e (Returned a) frees = refl
 with_kept p e Undrawn frees = refl
 
-with_slab : (n place : ℕ) (o : Option ℕ) (past : List Retirement) → parking_with place o (parked_after n past) ≡ parked_after n (with_retired place o past)
-with_slab n place None past = refl
-with_slab n place (Some slab) past = refl
+with_slab : (n index : ℕ) (o : Option ℕ) (past : List Retirement) → parking_with index o (parked_after n past) ≡ parked_after n (with_retired index o past)
+with_slab n index None past = refl
+with_slab n index (Some slab) past = refl
 
 with_parked : (t : Terms) (e : Entry) (ev : Event) (past : List Retirement) → parking_after t e ev (parked_after t.config.park_length past) ≡ parked_after t.config.park_length (with_retirement t e ev past)
 with_parked t e (Picked a) past = refl
@@ -139,7 +139,7 @@ next_shown t past c e shape shown allowed words = record {
   state_is = ap (λ (s : State). step t.shape s e) shown.state_is;
   partial = list_shown t past c e Partial c.partial shape shown.state_is allowed shown.partial;
   empty = list_shown t past c e Empty c.empty shape shown.state_is allowed shown.empty;
-  places = with_places t.shape e.draws (event e) (frees_of t past) (drawn_place t.shape.array e.draws.w0 words.first) shown.places;
+  places = with_places t.shape e.draws (event e) (frees_of t past) (drawn_index t.shape.array e.draws.w0 words.first) shown.places;
   quarantine = ap (quarantine_with t.shape e (event e)) shown.quarantine ∙ with_kept t.shape e (event e) (frees_of t past);
   parking = ap (parking_after t e (event e)) shown.parking ∙ with_parked t e (event e) (retirements_of t past);
 }
@@ -149,7 +149,7 @@ pub released_alike : (t : Terms) (past : List Entry) (c : Cells) (e : Entry) (a 
     → let_go c.quarantine a (array_index t.shape e.draws) ≡ released t.shape.array t.shape.ring (frees_of t past) (free_at t.shape e.draws a)
 released_alike t past c e a shown words =
     ap (λ (k : Kept). let_go k a (array_index t.shape e.draws)) shown.quarantine
-    ∙ looks_back t.shape.array t.shape.ring (frees_of t past) (free_at t.shape e.draws a) (drawn_place t.shape.array e.draws.w0 words.first, shown.places)
+    ∙ looks_back t.shape.array t.shape.ring (frees_of t past) (free_at t.shape e.draws a) (drawn_index t.shape.array e.draws.w0 words.first, shown.places)
 
 unparked_alike : (t : Terms) (past : List Entry) (c : Cells) (e : Entry) → 1 ≤ t.config.park_length → Shown t past c → AreWords e.draws
     → unparked_by e.choices.retired (get_or c.parking (parking_index t e.draws) None) ≡ unparked_by e.choices.retired (latest_parked (parking_index t e.draws) (retirements_of t past))

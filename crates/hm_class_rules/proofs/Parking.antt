@@ -33,53 +33,53 @@ pub times_same : (a : ℕ) (xs : List ℕ) → counted.times a xs ≡ times a xs
 times_same a [] = refl
 times_same a (x ∷ xs) = ap (λ (n : ℕ). cond (x == a) 1 0 + n) (times_same a xs)
 
--- an array with an empty place is not full
-not_full : (array : List (Option ℕ)) (place : ℕ) → place < length array → get_or array place None ≡ None → count_in (λ x. true) array < length array
-not_full [] place lt e = absurd (omega arith)
+-- an array with an empty index is not full
+not_full : (array : List (Option ℕ)) (index : ℕ) → index < length array → get_or array index None ≡ None → count_in (λ x. true) array < length array
+not_full [] index lt e = absurd (omega arith)
 not_full (o ∷ array) zero lt e = omega (arith, count_most array, ap (λ (q : Option ℕ). one_of (λ x. true) q) e)
-not_full (None ∷ array) (suc place) lt e = omega (arith, not_full array place (omega arith) e)
-not_full (Some x ∷ array) (suc place) lt e = omega (arith, not_full array place (omega arith) e)
+not_full (None ∷ array) (suc index) lt e = omega (arith, not_full array index (omega arith) e)
+not_full (Some x ∷ array) (suc index) lt e = omega (arith, not_full array index (omega arith) e)
 
--- what stands at a place was parked
-stands_once : (most place u : ℕ) (parked : List ℕ) (parking : List (Option ℕ)) → AreParked most parked parking → get_or parking place None ≡ Some u → 1 ≤ counted.times u parked
-stands_once most place u parked parking are e = omega (arith, are.counts (λ x. x == u), count_at (λ x. x == u) parking place u e, self_is u)
+-- what stands at a index was parked
+stands_once : (most index u : ℕ) (parked : List ℕ) (parking : List (Option ℕ)) → AreParked most parked parking → get_or parking index None ≡ Some u → 1 ≤ counted.times u parked
+stands_once most index u parked parking are e = omega (arith, are.counts (λ x. x == u), count_at (λ x. x == u) parking index u e, self_is u)
 
 pub only_one : (a : ℕ) → 1 ≤ a → a ≤ 1 → a ≡ 1
 only_one a low high = omega arith
 
-left_count : (most place : ℕ) (parked : List ℕ) (parking : List (Option ℕ)) → AreParked most parked parking → ((n : ℕ) → times n parked ≤ 1) → (f : ℕ → Bool) (o : Option ℕ) → get_or parking place None ≡ o
+left_count : (most index : ℕ) (parked : List ℕ) (parking : List (Option ℕ)) → AreParked most parked parking → ((n : ℕ) → times n parked ≤ 1) → (f : ℕ → Bool) (o : Option ℕ) → get_or parking index None ≡ o
     → count f (without_option o parked) + one_of f o ≡ count f parked
-left_count most place parked parking are once f o e =
-    count_without f o parked (λ b is. only_one (counted.times b parked) (stands_once most place b parked parking are (e ∙ is)) (omega (arith, times_same b parked, once b)))
+left_count most index parked parking are once f o e =
+    count_without f o parked (λ b is. only_one (counted.times b parked) (stands_once most index b parked parking are (e ∙ is)) (omega (arith, times_same b parked, once b)))
 
--- what stands at a place may be unparked
-pub unpark_allowed : (most place : ℕ) (parked : List ℕ) (parking : List (Option ℕ)) → AreParked most parked parking → ((n : ℕ) → times n parked ≤ 1) → place < most → Unparks most parked (get_or parking place None)
-unpark_allowed most place parked parking are once lt = goes (get_or parking place None) refl
+-- what stands at a index may be unparked
+pub unpark_allowed : (most index : ℕ) (parked : List ℕ) (parking : List (Option ℕ)) → AreParked most parked parking → ((n : ℕ) → times n parked ≤ 1) → index < most → Unparks most parked (get_or parking index None)
+unpark_allowed most index parked parking are once lt = goes (get_or parking index None) refl
   where
-    goes : (o : Option ℕ) → get_or parking place None ≡ o → Unparks most parked o
-    goes None e = omega (arith, not_full parking place (omega (arith, are.length_is)) e, are.length_is, are.counts (λ x. true), count_all parked)
+    goes : (o : Option ℕ) → get_or parking index None ≡ o → Unparks most parked o
+    goes None e = omega (arith, not_full parking index (omega (arith, are.length_is)) e, are.length_is, are.counts (λ x. true), count_all parked)
     goes (Some u) e = (
-      among_times u parked (omega (arith, times_same u parked, stands_once most place u parked parking are e)),
-      omega (arith, left_count most place parked parking are once (λ x. true) (Some u) e, count_all (without_option (Some u) parked), are.counts (λ x. true), count_most parking, are.length_is),
+      among_times u parked (omega (arith, times_same u parked, stands_once most index u parked parking are e)),
+      omega (arith, left_count most index parked parking are once (λ x. true) (Some u) e, count_all (without_option (Some u) parked), are.counts (λ x. true), count_most parking, are.length_is),
     )
 
--- a slab goes to a place, and what stood there leaves
-parks_at : (most place m : ℕ) (parked : List ℕ) (parking : List (Option ℕ)) → AreParked most parked parking → ((n : ℕ) → times n parked ≤ 1) → place < most
-    → AreParked most (m ∷ without_option (get_or parking place None) parked) (set parking place (Some m))
-parks_at most place m parked parking are once lt =
-    let within : place < length parking = omega (arith, are.length_is) in
+-- a slab goes to a index, and what stood there leaves
+parks_at : (most index m : ℕ) (parked : List ℕ) (parking : List (Option ℕ)) → AreParked most parked parking → ((n : ℕ) → times n parked ≤ 1) → index < most
+    → AreParked most (m ∷ without_option (get_or parking index None) parked) (set parking index (Some m))
+parks_at most index m parked parking are once lt =
+    let within : index < length parking = omega (arith, are.length_is) in
     record {
       counts = λ f. omega (
         arith,
-        left_count most place parked parking are once f (get_or parking place None) refl,
+        left_count most index parked parking are once f (get_or parking index None) refl,
         are.counts f,
-        count_array f parking m place (is_place (length parking) within),
-        ap (λ (o : Option ℕ). one_of f o) (on_with parking m place within),
+        count_array f parking m index (is_place (length parking) within),
+        ap (λ (o : Option ℕ). one_of f o) (on_with parking m index within),
       );
-      length_is = length-set parking place (Some m) ∙ are.length_is;
+      length_is = length-set parking index (Some m) ∙ are.length_is;
     }
   where
-    is_place : (n : ℕ) → place < n → IsArrayIndex n place
+    is_place : (n : ℕ) → index < n → IsArrayIndex n index
     is_place zero h = absurd (omega arith)
     is_place (suc n) h = h
 
@@ -112,33 +112,33 @@ out_parked p s (Some r) (Some q) None = refl
 out_parked p s (Some r) (Some q) (Some u) = refl
 
 -- a retirement parks, and without one the parked slabs stay
-retired_parks : (most place : ℕ) (retired unparked : Option ℕ) (parked : List ℕ) (parking : List (Option ℕ)) → AreParked most parked parking → ((n : ℕ) → times n parked ≤ 1) → place < most
-    → unparked ≡ unparked_by retired (get_or parking place None) → AreParked most (parked_with retired unparked parked) (parking_with place retired parking)
-retired_parks most place None unparked parked parking are once lt e = subst (λ (o : Option ℕ). AreParked most (without_option o parked) parking) (sym e) are
-retired_parks most place (Some m) unparked parked parking are once lt e =
-    subst (λ (o : Option ℕ). AreParked most (m ∷ without_option o parked) (set parking place (Some m))) (sym e) (parks_at most place m parked parking are once lt)
+retired_parks : (most index : ℕ) (retired unparked : Option ℕ) (parked : List ℕ) (parking : List (Option ℕ)) → AreParked most parked parking → ((n : ℕ) → times n parked ≤ 1) → index < most
+    → unparked ≡ unparked_by retired (get_or parking index None) → AreParked most (parked_with retired unparked parked) (parking_with index retired parking)
+retired_parks most index None unparked parked parking are once lt e = subst (λ (o : Option ℕ). AreParked most (without_option o parked) parking) (sym e) are
+retired_parks most index (Some m) unparked parked parking are once lt e =
+    subst (λ (o : Option ℕ). AreParked most (m ∷ without_option o parked) (set parking index (Some m))) (sym e) (parks_at most index m parked parking are once lt)
 
 parked_changed : (most : ℕ) (parked parked' : List ℕ) (parking : List (Option ℕ)) → parked' ≡ parked → AreParked most parked parking → AreParked most parked' parking
 parked_changed most parked parked' parking e are = subst (λ (l : List ℕ). AreParked most l parking) (sym e) are
 
 -- the parking array after an event
 abbrev pub parking_by : ℕ → Choices → Event → List (Option ℕ) → List (Option ℕ)
-parking_by place c (Returned a) parking = parking_with place c.retired parking
-parking_by place c event parking = parking
+parking_by index c (Returned a) parking = parking_with index c.retired parking
+parking_by index c event parking = parking
 
--- what an event unparks is what stands at its place
+-- what an event unparks is what stands at its index
 abbrev pub UnparksDrawn : ℕ → Choices → Event → List (Option ℕ) → Type 0
-UnparksDrawn place c (Returned a) parking = c.unparked ≡ unparked_by c.retired (get_or parking place None)
-UnparksDrawn place c event parking = Unit {0}
+UnparksDrawn index c (Returned a) parking = c.unparked ≡ unparked_by c.retired (get_or parking index None)
+UnparksDrawn index c event parking = Unit {0}
 
-pub parked_next : (t : Terms) (s : State) (most place : ℕ) (parking : List (Option ℕ)) (c : Choices) (call : Call) (reply : Reply) → ((n : ℕ) → times n s.parked ≤ 1) → place < most
-    → UnparksDrawn place c (event_of call reply) parking → AreParked most s.parked parking → AreParked most (changed t.shape c call reply s).parked (parking_by place c (event_of call reply) parking)
-parked_next t s most place parking c (Allot asked align) (Given a size) once lt drawn are = parked_changed most s.parked _ parking (opened_parked t.shape c.opened c.canary s) are
-parked_next t s most place parking c (Allot asked align) (Overwritten a at found) once lt drawn are = parked_changed most s.parked _ parking (opened_parked t.shape c.opened c.canary s) are
-parked_next t s most place parking c (GiveBack a stated) Freed once lt drawn are =
+pub parked_next : (t : Terms) (s : State) (most index : ℕ) (parking : List (Option ℕ)) (c : Choices) (call : Call) (reply : Reply) → ((n : ℕ) → times n s.parked ≤ 1) → index < most
+    → UnparksDrawn index c (event_of call reply) parking → AreParked most s.parked parking → AreParked most (changed t.shape c call reply s).parked (parking_by index c (event_of call reply) parking)
+parked_next t s most index parking c (Allot asked align) (Given a size) once lt drawn are = parked_changed most s.parked _ parking (opened_parked t.shape c.opened c.canary s) are
+parked_next t s most index parking c (Allot asked align) (Overwritten a at found) once lt drawn are = parked_changed most s.parked _ parking (opened_parked t.shape c.opened c.canary s) are
+parked_next t s most index parking c (GiveBack a stated) Freed once lt drawn are =
     let s₂ : State = releases c.released (takes_back t.shape a s) in
-    parked_changed most (parked_with c.retired c.unparked s.parked) _ (parking_with place c.retired parking)
+    parked_changed most (parked_with c.retired c.unparked s.parked) _ (parking_with index c.retired parking)
     (out_parked t.shape s₂ c.retired c.purged c.unparked ∙ ap (λ (l : List ℕ). parked_with c.retired c.unparked l) (released_parked c.released (takes_back t.shape a s)))
-    (retired_parks most place c.retired c.unparked s.parked parking are once lt drawn)
-parked_next t s most place parking c (Fill a runs) Filled once lt drawn are = are
-parked_next t s most place parking c call reply once lt drawn are = are
+    (retired_parks most index c.retired c.unparked s.parked parking are once lt drawn)
+parked_next t s most index parking c (Fill a runs) Filled once lt drawn are = are
+parked_next t s most index parking c call reply once lt drawn are = are

@@ -86,12 +86,12 @@ releases_by p s (Some b) frees free are late few = (
   subst (λ (l : List ℕ). length (without_option (Some b) (free.slot ∷ l)) ≤ p.array + p.ring) (sym are.held_is) few,
 )
 
-pub release_allowed : (p : Shape) (s : State) (frees : List Free) (kept : Kept) (a place : ℕ) → IsSound p s → AreHeld p frees s.held s.frees → AreIndices p.array frees → kept ≡ kept_after p.array p.ring frees → is_live s a ≡ true
-    → IsArrayIndex p.array place → Releases p (takes_back p a s) (let_go kept a place)
-release_allowed p s frees kept a place sound are places is live at_place =
-    let free : Free = record { slot = a; place = place } in
+pub release_allowed : (p : Shape) (s : State) (frees : List Free) (kept : Kept) (a index : ℕ) → IsSound p s → AreHeld p frees s.held s.frees → AreIndices p.array frees → kept ≡ kept_after p.array p.ring frees → is_live s a ≡ true
+    → IsArrayIndex p.array index → Releases p (takes_back p a s) (let_go kept a index)
+release_allowed p s frees kept a index sound are places is live at_place =
+    let free : Free = record { slot = a; index = index } in
     let new : AreNew p.array p.ring (free ∷ frees) = (ap (λ (l : List ℕ). among a l) (sym are.held_is) ∙ live_apart p s a sound live, are.new) in
-    let path : let_go kept a place ≡ released p.array p.ring frees free = ap (λ (k : Kept). let_go k a place) is ∙ looks_back p.array p.ring frees free (at_place, places) in
+    let path : let_go kept a index ≡ released p.array p.ring frees free = ap (λ (k : Kept). let_go k a index) is ∙ looks_back p.array p.ring frees free (at_place, places) in
     subst (λ (o : Option ℕ). Releases p (takes_back p a s) o) (sym path)
     (releases_by p s (released p.array p.ring frees free) frees free are (delays p.array p.ring frees free (at_place, places) new) (holds_few p.array p.ring (free ∷ frees) (at_place, places) new))
 
@@ -117,13 +117,13 @@ counted_next n size past free places new before = record {
     out = released n size past free
 
     -- what enters is what stays and what goes out
-    entered : (f : ℕ → Bool) → count_in f (kept_with kept free.slot free.place).array + count f (kept_with kept free.slot free.place).ring + one_of f out ≡ count f (free.slot ∷ held n size past)
+    entered : (f : ℕ → Bool) → count_in f (kept_with kept free.slot free.index).array + count f (kept_with kept free.slot free.index).ring + one_of f out ≡ count f (free.slot ∷ held n size past)
     entered f =
         omega (
           arith,
           before.counts f,
-          count_array f kept.array free.slot free.place (subst (λ (j : ℕ). IsArrayIndex j free.place) (sym (length_array n size past)) places.0),
-          count_ring f kept.ring_length kept.ring (goes_on kept.array free.slot free.place) (subst (λ (k : ℕ). length kept.ring ≤ k) (sym (length_is n size past)) (ring_few n size past places.1)),
+          count_array f kept.array free.slot free.index (subst (λ (j : ℕ). IsArrayIndex j free.index) (sym (length_array n size past)) places.0),
+          count_ring f kept.ring_length kept.ring (goes_on kept.array free.slot free.index) (subst (λ (k : ℕ). length kept.ring ≤ k) (sym (length_is n size past)) (ring_few n size past places.1)),
           ap (λ (o : Option ℕ). one_of f o) (looks_back n size past free places),
         )
 

@@ -34,9 +34,9 @@ abbrev pub kinds_after : Terms → List Entry → List (ℕ → Kind)
 kinds_after t [] = []
 kinds_after t (e ∷ past) = kind t.shape (state_after_past t (e ∷ past)) ∷ kinds_after t past
 
--- the accepted frees, each with its place of the array
+-- the accepted frees, each with its index in the array
 abbrev pub free_at : Shape → Draws → ℕ → Free
-free_at p d a = record { slot = a; place = array_index p d }
+free_at p d a = record { slot = a; index = array_index p d }
 
 abbrev pub with_free : Shape → Draws → Event → List Free → List Free
 with_free p d (Returned a) frees = free_at p d a ∷ frees
@@ -46,14 +46,14 @@ abbrev pub frees_of : Terms → List Entry → List Free
 frees_of t [] = []
 frees_of t (e ∷ past) = with_free t.shape e.draws (event e) (frees_of t past)
 
--- the retirements, each with its parking place
+-- the retirements, each with its parking index
 pub record Retirement : Type 0 where
   pub slab : ℕ
-  pub place : ℕ
+  pub index : ℕ
 
 abbrev pub with_retired : ℕ → Option ℕ → List Retirement → List Retirement
-with_retired place None retirements = retirements
-with_retired place (Some n) retirements = record { slab = n; place = place } ∷ retirements
+with_retired index None retirements = retirements
+with_retired index (Some n) retirements = record { slab = n; index = index } ∷ retirements
 
 abbrev pub with_retirement : Terms → Entry → Event → List Retirement → List Retirement
 with_retirement t e (Returned a) retirements = with_retired (parking_index t e.draws) e.choices.retired retirements
@@ -63,11 +63,11 @@ abbrev pub retirements_of : Terms → List Entry → List Retirement
 retirements_of t [] = []
 retirements_of t (e ∷ past) = with_retirement t e (event e) (retirements_of t past)
 
--- the slab of the latest retirement to this parking place
+-- the slab of the latest retirement to this parking index
 abbrev pub latest_parked : ℕ → List Retirement → Option ℕ
-latest_parked place [] = None
-latest_parked place (retirement ∷ past) =
-    if retirement.place == place then Some retirement.slab else latest_parked place past
+latest_parked index [] = None
+latest_parked index (retirement ∷ past) =
+    if retirement.index == index then Some retirement.slab else latest_parked index past
 
 -- a slab is unparked only where one is retired
 abbrev pub unparked_by : Option ℕ → Option ℕ → Option ℕ

@@ -97,7 +97,7 @@ undrawn = record paired { config = record standard { random_slots = false } }
 abbrev pub first_slots : List Entry
 first_slots = given 1099511631872 (opens_bare 0) ∷ given 1099511633920 no_choices ∷ []
 
--- an array of two places and a ring of one
+-- an array of two cells and a ring of one
 abbrev pub waiting_room : Terms
 waiting_room = region (record placed { slot = 1024; slots = 4; array = 2; ring = 1 })
 
@@ -120,13 +120,13 @@ oldest_released = three_freed ++ (drawing 1062052300 (freed 1099511633920 (frees
 abbrev pub newest_released : List Entry
 newest_released = three_freed ++ (drawing 1062052300 (freed 1099511633920 (frees 1099511632896)) ∷ [])
 
--- slabs of one slot and 131,072 bytes of address space, and two parking places
+-- slabs of one slot and 131,072 bytes of address space, and two parking indices
 abbrev pub parked : Terms
 parked = record (region (record placed { slot = 131072; slots = 1; slab = 131072 })) {
   config = record standard { park_length = 2 };
 }
 
--- slabs 2 and 4 are retired, to places 0 and 1
+-- slabs 2 and 4 are retired, to indices 0 and 1
 abbrev pub two_parked : List Entry
 two_parked =
     drawing 3984891895 (given 1099511631872 (opens_bare 0))
@@ -151,7 +151,7 @@ abbrev pub other_place : List Entry
 other_place =
     two_parked ++ (drawing 1062052300 (freed 1099511631872 (retires 1099511631872 0 (Some 4))) ∷ [])
 
--- the same with an array of one place, in the run of seed 1
+-- the same with an array of one cell, in the run of seed 1
 abbrev pub parked_later : Terms
 parked_later = record parked { shape = record parked.shape { array = 1 } }
 

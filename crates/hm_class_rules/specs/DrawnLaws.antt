@@ -91,11 +91,11 @@ pub record AllowsDrawn (t : Terms) (s : State) (c : Cells) : Type 0 where
   pub source : (n : ℕ) → front c.partial c.empty ≡ Some n → Source t.shape s None n
   pub no_source : front c.partial c.empty ≡ None → NoneServes t.shape s
   -- what the quarantine lets go as a live slot is freed
-  pub release : (a place : ℕ) → is_live s a ≡ true → IsArrayIndex t.shape.array place
-      → Releases t.shape (takes_back t.shape a s) (let_go c.quarantine a place)
-  -- what stands at a parking place
-  pub unparked : (place : ℕ) → place < t.config.park_length
-      → Unparks t.config.park_length s.parked (slice_index_or c.parking place None)
+  pub release : (a index : ℕ) → is_live s a ≡ true → IsArrayIndex t.shape.array index
+      → Releases t.shape (takes_back t.shape a s) (let_go c.quarantine a index)
+  -- what stands at a parking index
+  pub unparked : (index : ℕ) → index < t.config.park_length
+      → Unparks t.config.park_length s.parked (slice_index_or c.parking index None)
 
 abbrev pub DrawnIsAllowed : Type 0
 DrawnIsAllowed = (seed arena : ℕ) (t : Terms) (es : List Entry) → 1 ≤ t.config.park_length → IsShape t.shape

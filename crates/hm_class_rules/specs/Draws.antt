@@ -61,8 +61,8 @@ event_of call reply = Undrawn
 abbrev pub event : Entry → Event
 event e = event_of e.call e.reply
 
--- how many words each choice takes: a canary, where a slab with bytes is opened; the start slot; the place of the array,
--- where there is one; the parking place, where a slab is retired
+-- how many words each choice takes: a canary, where a slab with bytes is opened; the start slot; the index in the array,
+-- where there is one; the parking index, where a slab is retired
 abbrev pub canary_words : Shape → Choices → ℕ
 canary_words p c = if has_bytes p && is_some c.opened then 2 else 0
 
@@ -90,7 +90,7 @@ word_after n d = slice_index (d.w0 ∷ d.w1 ∷ d.w2 ∷ []) n
 abbrev pub start_slot : Terms → Choices → Draws → ℕ
 start_slot t c d = if t.config.random_slots then drawn t.shape.slots (word_after (canary_words t.shape c) d) else 0
 
--- the place of the array to which a freed slot goes, and the parking place of a retired slab
+-- the index in the array to which a freed slot goes, and the parking index of a retired slab
 abbrev pub array_index : Shape → Draws → ℕ
 array_index p d = drawn p.array (word_after 0 d)
 

@@ -56,8 +56,8 @@ quarantine_with p e (Returned a) kept = kept_with kept a (array_index p e.draws)
 quarantine_with p e event kept = kept
 
 abbrev pub parking_with : ℕ → Option ℕ → List (Option ℕ) → List (Option ℕ)
-parking_with place None parking = parking
-parking_with place (Some n) parking = slice_set parking place (Some n)
+parking_with index None parking = parking
+parking_with index (Some n) parking = slice_set parking index (Some n)
 
 abbrev pub parking_after : Terms → Entry → Event → List (Option ℕ) → List (Option ℕ)
 parking_after t e (Returned a) parking = parking_with (parking_index t e.draws) e.choices.retired parking

@@ -50,7 +50,7 @@ pub fn parked_slabs()
     ensures other { AreDrawn parked [] other_place → ⊥ }
 {}
 
-/// A free draws the place of the array first, and then the parking place of the slab that it retires.
+/// A free draws the index in the array first, and then the parking index of the slab that it retires.
 pub fn second_word()
     ensures legal { IsLegal parked_later second_word }
     ensures drawn { AreDrawn parked_later [] second_word }

@@ -140,7 +140,7 @@ fn moved<P: Pages>(region: &ClassHeap<P>, at: usize) -> Option<Moved> {
     Some((choices.opened, choices.retired, choices.purged))
 }
 
-/// The slab that left its parking place in a call.
+/// The slab that left its parking index in a call.
 fn unparked<P: Pages>(region: &ClassHeap<P>, at: usize) -> Option<Option<u64>> {
     Some(region.entries().get(at)?.choices.unparked)
 }

@@ -41,46 +41,46 @@ pub no_alignment_plan : (c : Config) (thread align asked : ℕ) → AlignedGives
 no_alignment_plan c thread align asked none = record { kind = None; kind_is = none; is = refl }
 
 -- where a kind is asked for, said of the fields, and so of what contracts see of the heap and the pass
-pub place_seen : {inside h : HeapView} {inner p : PassView} {place : Option ℕ} (kind : Kind) → inside ≡ h → inner ≡ p
-    → place ≡ index_for inside.config inner.thread kind → place ≡ index_for h.config p.thread kind
-place_seen {h = h} {inner = inner} kind heap_is pass_is at =
+pub index_seen : {inside h : HeapView} {inner p : PassView} {index : Option ℕ} (kind : Kind) → inside ≡ h → inner ≡ p
+    → index ≡ index_for inside.config inner.thread kind → index ≡ index_for h.config p.thread kind
+index_seen {h = h} {inner = inner} kind heap_is pass_is at =
     at
     ∙ ap (λ (z : HeapView). index_for z.config inner.thread kind) heap_is
     ∙ ap (λ (z : PassView). index_for h.config z.thread kind) pass_is
 
 -- where the region of an address stands, likewise
-pub home_seen : {inside h : HeapView} {place : Option ℕ} (a : ℕ) → inside ≡ h → place ≡ home_index inside.config a
-    → place ≡ home_index h.config a
+pub home_seen : {inside h : HeapView} {index : Option ℕ} (a : ℕ) → inside ≡ h → index ≡ home_index inside.config a
+    → index ≡ home_index h.config a
 home_seen a heap_is at = at ∙ ap (λ (z : HeapView). home_index z.config a) heap_is
 
 module _ (c : Config) (thread a asked : ℕ) (kind : Kind) (kind_is : IsKindOf asked kind) where
   pub too_large : None ≡ index_for c thread kind → IsReallocPlan c thread a asked (Done answer.TooLarge)
   too_large at = record { kind = kind; kind_is = kind_is; is = ap (resize_plan c thread a asked kind) at }
 
-  pub moves : (place : ℕ) (home : Option ℕ) → Some place ≡ index_for c thread kind → (a == 0) ≡ false → home ≡ home_index c a → IsReallocPlan c thread a asked (moving_plan c place a asked kind home)
-  moves place home at some is = record {
+  pub moves : (index : ℕ) (home : Option ℕ) → Some index ≡ index_for c thread kind → (a == 0) ≡ false → home ≡ home_index c a → IsReallocPlan c thread a asked (moving_plan c index a asked kind home)
+  moves index home at some is = record {
     kind = kind;
     kind_is = kind_is;
-    is = ap (moving_plan c place a asked kind) is
-        ∙ sym (ap (λ (b : Bool). if b then allot_plan c thread asked 1 kind else moving_plan c place a asked kind (home_index c a)) some)
+    is = ap (moving_plan c index a asked kind) is
+        ∙ sym (ap (λ (b : Bool). if b then allot_plan c thread asked 1 kind else moving_plan c index a asked kind (home_index c a)) some)
         ∙ ap (resize_plan c thread a asked kind) at;
   }
 
--- of a kind that has no place
+-- of a kind that has no index
 pub allots_nowhere : (c : Config) (thread asked align : ℕ) (kind : Kind) → None ≡ index_for c thread kind
     → Done answer.TooLarge ≡ allot_plan c thread asked align kind
 allots_nowhere c thread asked align TooLarge at = refl
 allots_nowhere c thread asked align (Small class) at = absurd (none-some (class_index c thread class.0) at)
 allots_nowhere c thread asked align (Large size) at = absurd (none-some (large_index c) at)
 
--- of a kind that has this place
-pub allots_there : (c : Config) (thread asked place : ℕ) (kind : Kind) → Some place ≡ index_for c thread kind
-    → Part place (Allot asked 1) replied ≡ allot_plan c thread asked 1 kind
-allots_there c thread asked place TooLarge at = absurd (none-some place (sym at))
-allots_there c thread asked place (Small class) at =
-    ap (λ (n : ℕ). Part n (Allot asked 1) replied) (same_Some place (class_index c thread class.0) at)
-allots_there c thread asked place (Large size) at =
-    ap (λ (n : ℕ). Part n (Allot asked 1) replied) (same_Some place (large_index c) at)
+-- of a kind that has this index
+pub allots_there : (c : Config) (thread asked index : ℕ) (kind : Kind) → Some index ≡ index_for c thread kind
+    → Part index (Allot asked 1) replied ≡ allot_plan c thread asked 1 kind
+allots_there c thread asked index TooLarge at = absurd (none-some index (sym at))
+allots_there c thread asked index (Small class) at =
+    ap (λ (n : ℕ). Part n (Allot asked 1) replied) (same_Some index (class_index c thread class.0) at)
+allots_there c thread asked index (Large size) at =
+    ap (λ (n : ℕ). Part n (Allot asked 1) replied) (same_Some index (large_index c) at)
 
 -- the block of a reply
 pub reply_in_reach : (call : Call) (reply : Reply) → Reaches call reply → ReplyInReach reply

@@ -14,19 +14,19 @@ use Rattle.hm_turn.specs.Known.{Lock, Known, IsOf}
 use Rattle.hm_heap.specs.Called.{Called, Tried}
 use Rattle.hm_heap.specs.Passes.{AreOf, HasNumbers, IsPass}
 
-pub set_length : {X : Type 0} (xs : List X) (place : ℕ) (u : X) → length (slice_set xs place u) ≡ length xs
-set_length xs place u = grind (arith, common_steps)
+pub set_length : {X : Type 0} (xs : List X) (index : ℕ) (u : X) → length (slice_set xs index u) ≡ length xs
+set_length xs index u = grind (arith, common_steps)
 
-set_each : {X : Type 0} (A : ℕ → X → Type 0) (xs : List X) (place : ℕ) (u : X) → place < length xs → ((r : ℕ) (d : X) → r < length xs → A r (slice_index_or xs r d)) → A place u
-    → (r : ℕ) (d : X) → r < length xs → A r (slice_index_or (slice_set xs place u) r d)
-set_each A xs place u below all one r d l =
-    let other : r ≢ place → A r (slice_index_or (slice_set xs place u) r d) = λ n. subst (A r) (sym (get_or-set_other xs place r u d n)) (all r d l) in
-    elim (cases_lt r place) [
+set_each : {X : Type 0} (A : ℕ → X → Type 0) (xs : List X) (index : ℕ) (u : X) → index < length xs → ((r : ℕ) (d : X) → r < length xs → A r (slice_index_or xs r d)) → A index u
+    → (r : ℕ) (d : X) → r < length xs → A r (slice_index_or (slice_set xs index u) r d)
+set_each A xs index u below all one r d l =
+    let other : r ≢ index → A r (slice_index_or (slice_set xs index u) r d) = λ n. subst (A r) (sym (get_or-set_other xs index r u d n)) (all r d l) in
+    elim (cases_lt r index) [
       | inl b ↦ other (λ e. omega (arith, b, e))
-      | inr b ↦ elim (cases_lt place r) [
+      | inr b ↦ elim (cases_lt index r) [
         | inl b' ↦ other (λ e. omega (arith, b', e))
-        | inr b' ↦ let e : place ≡ r = omega (arith, b, b') in
-            subst (λ (n : ℕ). A n (slice_index_or (slice_set xs place u) n d)) e (subst (A place) (sym (get_or-set_same xs place u d below)) one)
+        | inr b' ↦ let e : index ≡ r = omega (arith, b, b') in
+            subst (λ (n : ℕ). A n (slice_index_or (slice_set xs index u) n d)) e (subst (A index) (sym (get_or-set_same xs index u d below)) one)
       ]
     ]
 
@@ -57,10 +57,10 @@ tried_stays t u who call None lock c = record {
   out = ap (λ (k : Knowledge). k.out) c;
 }
 
-pub pass_set : (caller thread splits out : ℕ) (ts : List Known) (place : ℕ) (t u : Known) → IsPass caller thread splits out ts → place < length ts → t ≡ slice_index_or ts place t → Stays t u
-    → IsPass caller thread splits out (slice_set ts place u)
-pass_set caller thread splits out ts place t u h below at s =
-    let was : HasNumbers caller splits out t = subst (HasNumbers caller splits out) (sym at) (h.each place t below) in
+pub pass_set : (caller thread splits out : ℕ) (ts : List Known) (index : ℕ) (t u : Known) → IsPass caller thread splits out ts → index < length ts → t ≡ slice_index_or ts index t → Stays t u
+    → IsPass caller thread splits out (slice_set ts index u)
+pass_set caller thread splits out ts index t u h below at s =
+    let was : HasNumbers caller splits out t = subst (HasNumbers caller splits out) (sym at) (h.each index t below) in
     let now : HasNumbers caller splits out u = record {
       caller_is = s.caller ∙ was.caller_is;
       out_is = s.out ∙ was.out_is;
@@ -69,16 +69,16 @@ pass_set caller thread splits out ts place t u h below at s =
     record {
       thread_some = h.thread_some;
       out_most = h.out_most;
-      each = λ r d l. set_each (λ n x. HasNumbers caller splits out x) ts place u below (λ n x b. h.each n x b) now r d (omega (arith, l, set_length ts place u));
+      each = λ r d l. set_each (λ n x. HasNumbers caller splits out x) ts index u below (λ n x b. h.each n x b) now r d (omega (arith, l, set_length ts index u));
     }
 
-pub of_set : (locks : List Lock) (ts : List Known) (place : ℕ) (t u : Known) → AreOf locks ts → place < length locks → t ≡ slice_index_or ts place t → Stays t u → AreOf locks (slice_set ts place u)
-of_set locks ts place t u of below at s =
-    let below' : place < length ts = omega (arith, below, of.same) in
+pub of_set : (locks : List Lock) (ts : List Known) (index : ℕ) (t u : Known) → AreOf locks ts → index < length locks → t ≡ slice_index_or ts index t → Stays t u → AreOf locks (slice_set ts index u)
+of_set locks ts index t u of below at s =
+    let below' : index < length ts = omega (arith, below, of.same) in
     record {
-      same = set_length ts place u ∙ of.same;
-      each = λ r l d b. set_each (λ n x. (k : Lock) → IsOf (slice_index_or locks n k) x) ts place u below'
+      same = set_length ts index u ∙ of.same;
+      each = λ r l d b. set_each (λ n x. (k : Lock) → IsOf (slice_index_or locks n k) x) ts index u below'
           (λ n x m k. of.each n k x (omega (arith, m, of.same)))
-          (λ k. let was : IsOf (slice_index_or locks place k) t = subst (λ (x : Known). IsOf (slice_index_or locks place k) x) (sym at) (of.each place k t below) in (s.lock ∙ was.0, s.origin ∙ was.1))
+          (λ k. let was : IsOf (slice_index_or locks index k) t = subst (λ (x : Known). IsOf (slice_index_or locks index k) x) (sym at) (of.each index k t below) in (s.lock ∙ was.0, s.origin ∙ was.1))
           r d (omega (arith, b, of.same)) l;
     }

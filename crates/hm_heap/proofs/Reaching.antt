@@ -96,35 +96,35 @@ module _ (o : Origin) (es : List Entry) (e : Entry) (call : Call) (reply : Reply
         bytes = λ a len runs fetch bytes. subst (λ (r : Reply). IsLargeReply (Fetch a len) r) bytes (subst (λ (c : Call). IsLargeReply c reply) fetch is);
       }
 
--- of the region at a place
-region_below : (c : Config) (place : ℕ) → (region_at c place < region_count c) ⊎ (region_at c place ≡ large_region_number)
-region_below c place = elim (cases_lt place (region_count c)) [
-  | inl lt ↦ inl (subst (λ (r : ℕ). r < region_count c) (sym (ap (λ (b : Bool). if b then place else large_region_number) (lt-ltb place (region_count c) lt))) lt)
-  | inr le ↦ inr (ap (λ (b : Bool). if b then place else large_region_number) (le-ltb place (region_count c) le))
+-- of the region at an index
+region_below : (c : Config) (index : ℕ) → (region_at c index < region_count c) ⊎ (region_at c index ≡ large_region_number)
+region_below c index = elim (cases_lt index (region_count c)) [
+  | inl lt ↦ inl (subst (λ (r : ℕ). r < region_count c) (sym (ap (λ (b : Bool). if b then index else large_region_number) (lt-ltb index (region_count c) lt))) lt)
+  | inr le ↦ inr (ap (λ (b : Bool). if b then index else large_region_number) (le-ltb index (region_count c) le))
 ]
 
-reply_reaches : (o : Origin) (es : List Entry) (e : Entry) (c : Config) (place : ℕ) (call : Call) (reply : Reply) → c.arenas ≤ 4 → o.region ≡ region_at c place
+reply_reaches : (o : Origin) (es : List Entry) (e : Entry) (c : Config) (index : ℕ) (call : Call) (reply : Reply) → c.arenas ≤ 4 → o.region ≡ region_at c index
     → IsLawful o (es ++ e ∷ []) → e.call ≡ call → e.reply ≡ reply → IsReply o call reply → Reaches call reply
-reply_reaches o es e c place call reply most is lawful call_is reply_is kind = elim (region_below c place) [
+reply_reaches o es e c index call reply most is lawful call_is reply_is kind = elim (region_below c index) [
   | inl lt ↦ class_reaches o es e call reply lawful call_is reply_is kind (omega (arith, lt, is, most))
   | inr large ↦ large_reaches o es e call reply lawful call_is reply_is kind (is ∙ large)
 ]
 
-pub called_reaches : (who : Who) (c : Config) (place : ℕ) (call : Call) (r : Result Reply NoMemory) (before after : Knowledge) → c.arenas ≤ 4 → (origin_in before.origin).region ≡ region_at c place
+pub called_reaches : (who : Who) (c : Config) (index : ℕ) (call : Call) (r : Result Reply NoMemory) (before after : Knowledge) → c.arenas ≤ 4 → (origin_in before.origin).region ≡ region_at c index
     → Called who call r before after → IfOk r (Reaches call)
-called_reaches who c place call (Ok reply) before after most is called =
+called_reaches who c index call (Ok reply) before after most is called =
     let m = called.made in
-    reply_reaches (origin_in before.origin) m.earlier m.entry c place call reply most is (subst (IsLawful (origin_in before.origin)) m.seen called.lawful) m.is.call_is m.is.reply_is m.kind
-called_reaches who c place call (Err none) before after most is called = tt
+    reply_reaches (origin_in before.origin) m.earlier m.entry c index call reply most is (subst (IsLawful (origin_in before.origin)) m.seen called.lawful) m.is.call_is m.is.reply_is m.kind
+called_reaches who c index call (Err none) before after most is called = tt
 
--- the origin of a turn is that of the region at its place
-pub region_there : (c : Config) (number : ℕ) (locks : List Lock) (turns : List Known) (place : ℕ) (t : Known) → AreLocks c number locks → place < length locks → AreOf locks turns → t ≡ slice_index_or turns place t
-    → (origin_in t.knows.origin).region ≡ region_at c place
-region_there c number locks turns place t are below of at =
+-- the origin of a turn is that of the region at its index
+pub region_there : (c : Config) (number : ℕ) (locks : List Lock) (turns : List Known) (index : ℕ) (t : Known) → AreLocks c number locks → index < length locks → AreOf locks turns → t ≡ slice_index_or turns index t
+    → (origin_in t.knows.origin).region ≡ region_at c index
+region_there c number locks turns index t are below of at =
     let l : Lock = record { id = t.lock; origin = t.knows.origin } in
-    ap (λ (numbers : List ℕ). (origin_in numbers).region) (ap (λ (z : Known). z.knows.origin) at ∙ (of.each place l t below).1 ∙ (are.each place l below).is)
+    ap (λ (numbers : List ℕ). (origin_in numbers).region) (ap (λ (z : Known). z.knows.origin) at ∙ (of.each index l t below).1 ∙ (are.each index l below).is)
 
-pub tried_reaches : (who : Who) (c : Config) (place : ℕ) (call : Call) (o : Option (Result Reply NoMemory)) (before after : Knowledge) → c.arenas ≤ 4 → (origin_in before.origin).region ≡ region_at c place
+pub tried_reaches : (who : Who) (c : Config) (index : ℕ) (call : Call) (o : Option (Result Reply NoMemory)) (before after : Knowledge) → c.arenas ≤ 4 → (origin_in before.origin).region ≡ region_at c index
     → Tried who call o before after → IfSome o (λ made. IfOk made (Reaches call))
-tried_reaches who c place call (Some r) before after most is tried = called_reaches who c place call r before after most is tried
-tried_reaches who c place call None before after most is tried = tt
+tried_reaches who c index call (Some r) before after most is tried = called_reaches who c index call r before after most is tried
+tried_reaches who c index call None before after most is tried = tt

@@ -51,7 +51,7 @@ replied reply = Done (answer.Reply reply)
 -- one part in the region of an address
 abbrev pub at_home : Option ℕ → Call → Plan
 at_home None call = Done answer.Outside
-at_home (Some place) call = Part place call replied
+at_home (Some index) call = Part index call replied
 
 -- a request that goes to a block of this kind; a class region asks for no alignment
 abbrev pub allot_plan : Config → ℕ → ℕ → ℕ → Kind → Plan
@@ -95,10 +95,10 @@ write_plan c a runs = at_home (home_index c a) (Fill a runs)
 -- a block at an address in reach, whose region and that of a new block stand in the heap, and the latter may be asked
 pub record IsSource (h : HeapView) (source : Source) : Type 0 where
   pub home : source.home < length h.locks
-  pub place : source.place < length h.locks
+  pub index : source.index < length h.locks
   pub reach : IsInReach source.addr
   pub few : source.asked ≤ 2 ^ 30
-  pub asks : Asks (region_at h.config source.place) (Allot source.asked 1)
+  pub asks : Asks (region_at h.config source.index) (Allot source.asked 1)
 
 pub record IsMove (h : HeapView) (moved : Move) : Type 0 where
   pub source : IsSource h moved.source
@@ -121,7 +121,7 @@ module _ (moved : Move) where
 
   -- the old block's bytes were fetched, or not
   abbrev pub fetched : Reply → Plan
-  fetched (Bytes runs) = Part moved.source.place (Fill moved.new runs) filled
+  fetched (Bytes runs) = Part moved.source.index (Fill moved.new runs) filled
   fetched reply = Done (answer.HalfMoved moved.new moved.usable reply)
 
   -- so many bytes are copied
@@ -139,7 +139,7 @@ module _ (source : Source) where
   abbrev pub measured : (ℕ → Bool) → Reply → Plan
   measured keeps (Usable old) =
       if keeps old then Done (answer.Kept source.addr old)
-      else Part source.place (Allot source.asked 1) (allotted (min old source.asked))
+      else Part source.index (Allot source.asked 1) (allotted (min old source.asked))
   measured keeps reply = Done (answer.Reply reply)
 
 -- a block at home with so many usable bytes serves the new kind as it is: the class, or the large size, is the same
@@ -149,15 +149,15 @@ keeps c home (Large size) old = (home == large_index c) && (size == old)
 keeps c home TooLarge old = false
 
 abbrev pub moving_plan : Config → ℕ → ℕ → ℕ → Kind → Option ℕ → Plan
-moving_plan c place a asked kind None = Done answer.Outside
-moving_plan c place a asked kind (Some home) =
+moving_plan c index a asked kind None = Done answer.Outside
+moving_plan c index a asked kind (Some home) =
     Part home (Measure a)
-    (measured (record { home = home; place = place; addr = a; asked = asked }) (keeps c home kind))
+    (measured (record { home = home; index = index; addr = a; asked = asked }) (keeps c home kind))
 
 abbrev pub resize_plan : Config → ℕ → ℕ → ℕ → Kind → Option ℕ → Plan
 resize_plan c thread a asked kind None = Done answer.TooLarge
-resize_plan c thread a asked kind (Some place) =
-    if a == 0 then allot_plan c thread asked 1 kind else moving_plan c place a asked kind (home_index c a)
+resize_plan c thread a asked kind (Some index) =
+    if a == 0 then allot_plan c thread asked 1 kind else moving_plan c index a asked kind (home_index c a)
 
 pub record IsReallocPlan (c : Config) (thread a asked : ℕ) (plan : Plan) : Type 0 where
   pub kind : Kind

@@ -22,13 +22,13 @@ pub record Looked (from : ℕ) (before after : Knowledge) (result : Result Chang
 abbrev pub HasJoined : Knowledge → Type 0
 HasJoined k = (c : ℕ) → ended_of c k.ended ≡ None → is_among c k.used ≡ false
 
--- the turn at this place has looked; every other turn is as before
-pub record HasLooked (p q : PassView) (place from : ℕ) (result : Result Changes NoMemory) : Type 0 where
-  pub inside : place < length p.turns
+-- the turn at this index has looked; every other turn is as before
+pub record HasLooked (p q : PassView) (index from : ℕ) (result : Result Changes NoMemory) : Type 0 where
+  pub inside : index < length p.turns
   pub turn : Known
-  pub turns_are : q.turns ≡ slice_set p.turns place turn
-  pub looked : (t : Known) → (turn.lock ≡ (slice_index_or p.turns place t).lock)
-      × Looked from (slice_index_or p.turns place t).knows turn.knows result
+  pub turns_are : q.turns ≡ slice_set p.turns index turn
+  pub looked : (t : Known) → (turn.lock ≡ (slice_index_or p.turns index t).lock)
+      × Looked from (slice_index_or p.turns index t).knows turn.knows result
       × KnowsCallers turn.knows
-      × (HasJoined (slice_index_or p.turns place t).knows → KnowsCallers (slice_index_or p.turns place t).knows
-      → turn.knows.seen ≡ (slice_index_or p.turns place t).knows.seen)
+      × (HasJoined (slice_index_or p.turns index t).knows → KnowsCallers (slice_index_or p.turns index t).knows
+      → turn.knows.seen ≡ (slice_index_or p.turns index t).knows.seen)

@@ -1,4 +1,4 @@
--- One part of a call of a heap: a call of the region at one place, under its turn.
+-- One part of a call of a heap: a call of the region at one index, under its turn.
 use Rattle.std.specs.Prelude.{◌≡◌, ◌<◌, ℕ, length, slice_index_or, slice_set, Option, Result}
 use Rattle.hm_base.specs.declared.memory.NoMemory.{NoMemory}
 use Rattle.hm_model.specs.declared.entry.Call.{Call}
@@ -12,20 +12,20 @@ use Rattle.hm_heap.specs.Passes.{PassView}
 abbrev pub who_of : PassView → ℕ → ℕ → Who
 who_of p step part = record { caller = p.caller; round = p.round; thread = p.thread; step = step; part = part }
 
--- the turn at this place made the call; every other turn is as before
-pub record HasPart (p q : PassView) (place : ℕ) (who : Who) (call : Call)
+-- the turn at this index made the call; every other turn is as before
+pub record HasPart (p q : PassView) (index : ℕ) (who : Who) (call : Call)
     (result : Result Reply NoMemory) : Type 0 where
-  pub inside : place < length p.turns
+  pub inside : index < length p.turns
   pub turn : Known
-  pub turns_are : q.turns ≡ slice_set p.turns place turn
-  pub called : (t : Known) → (turn.lock ≡ (slice_index_or p.turns place t).lock)
-      × Called who call result (slice_index_or p.turns place t).knows turn.knows
+  pub turns_are : q.turns ≡ slice_set p.turns index turn
+  pub called : (t : Known) → (turn.lock ≡ (slice_index_or p.turns index t).lock)
+      × Called who call result (slice_index_or p.turns index t).knows turn.knows
 
 -- the same, where the turn may not have been free
-pub record HasTried (p q : PassView) (place : ℕ) (who : Who) (call : Call)
+pub record HasTried (p q : PassView) (index : ℕ) (who : Who) (call : Call)
     (made : Option (Result Reply NoMemory)) : Type 0 where
-  pub inside : place < length p.turns
+  pub inside : index < length p.turns
   pub turn : Known
-  pub turns_are : q.turns ≡ slice_set p.turns place turn
-  pub tried : (t : Known) → (turn.lock ≡ (slice_index_or p.turns place t).lock)
-      × Tried who call made (slice_index_or p.turns place t).knows turn.knows
+  pub turns_are : q.turns ≡ slice_set p.turns index turn
+  pub tried : (t : Known) → (turn.lock ≡ (slice_index_or p.turns index t).lock)
+      × Tried who call made (slice_index_or p.turns index t).knows turn.knows

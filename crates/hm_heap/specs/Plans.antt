@@ -10,7 +10,7 @@ use Rattle.hm_heap.specs.Passes.{HeapView, PassView, GoesOnAs}
 use Rattle.hm_heap.specs.Parts.{who_of, HasPart, HasTried}
 use Rattle.hm_heap.specs.Requests.{AnswerInReach}
 
--- an answer, or a call of the region at a place and what follows its reply
+-- an answer, or a call of the region at an index and what follows its reply
 pub data Plan : Type 0 where
   Done : Answer → Plan
   Part : ℕ → Call → (Reply → Plan) → Plan
@@ -22,19 +22,19 @@ abbrev pub GoesOn : PassView → PassView → Result Answer NoMemory → (PassVi
 GoesOn between q answer Rest made = MatchResult made (Rest between) (λ none. (q ≡ between) × (answer ≡ Err none))
 
 -- the part was made, and then the rest
-pub record MakesPart (p q : PassView) (place : ℕ) (who : Who) (call : Call) (answer : Result Answer NoMemory)
+pub record MakesPart (p q : PassView) (index : ℕ) (who : Who) (call : Call) (answer : Result Answer NoMemory)
     (Rest : PassView → Reply → Type 0) : Type 0 where
   pub between : PassView
   pub made : Result Reply NoMemory
   pub same : between ≡ record p { turns = between.turns }
-  pub part : HasPart p between place who call made
+  pub part : HasPart p between index who call made
   pub rest : GoesOn between q answer Rest made
 
 -- from pass p to pass q the plan was followed, with this answer; its parts are numbered from n
 abbrev pub Follows : PassView → PassView → ℕ → ℕ → Plan → Result Answer NoMemory → Type 0
 Follows p q step n (Done a) answer = (answer ≡ Ok a) × (q ≡ p)
-Follows p q step n (Part place call next) answer =
-    MakesPart p q place (who_of p step n) call answer
+Follows p q step n (Part index call next) answer =
+    MakesPart p q index (who_of p step n) call answer
     (λ between reply. Follows between q step (n + 1) (next reply) answer)
 
 -- a call of heap h: pass p goes on as pass q, the plan was followed, and a block that is answered lies in reach
@@ -53,18 +53,18 @@ pub record Serves (h : HeapView) (IsPlan : Plan → Type 0) (p q : PassView) (st
 
 -- ---- a plan is tried
 -- the first part may have found the turn not free: then the answer is Busy
-pub record TriesPart (p q : PassView) (place : ℕ) (who : Who) (call : Call) (answer : Result Answer NoMemory)
+pub record TriesPart (p q : PassView) (index : ℕ) (who : Who) (call : Call) (answer : Result Answer NoMemory)
     (Rest : PassView → Reply → Type 0) : Type 0 where
   pub between : PassView
   pub tried : Option (Result Reply NoMemory)
   pub same : between ≡ record p { turns = between.turns }
-  pub part : HasTried p between place who call tried
+  pub part : HasTried p between index who call tried
   pub rest : MatchOption tried ((q ≡ between) × (answer ≡ Ok Busy)) (GoesOn between q answer Rest)
 
 abbrev pub Tries : PassView → PassView → ℕ → Plan → Result Answer NoMemory → Type 0
 Tries p q step (Done a) answer = (answer ≡ Ok a) × (q ≡ p)
-Tries p q step (Part place call next) answer =
-    TriesPart p q place (who_of p step 1) call answer (λ between reply. Follows between q step 2 (next reply) answer)
+Tries p q step (Part index call next) answer =
+    TriesPart p q index (who_of p step 1) call answer (λ between reply. Follows between q step 2 (next reply) answer)
 
 -- as CarriesOut, where the plan was tried
 pub record TriesOut (h : HeapView) (p q : PassView) (step : ℕ) (plan : Plan)

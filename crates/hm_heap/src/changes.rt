@@ -156,12 +156,12 @@ impl<'g, P: Pages, G: Gate> Heap<'g, P, G> {
         ensures of { AreOf self.now.locks pass.new.turns }
         ensures looked { HasLooked pass.old pass.new (large_index self.now.config) from result }
     {
-        let place = large_index(&self.config);
+        let index = large_index(&self.config);
         look_at(
             rt,
             alloc,
-            &self.locks[place],
-            &mut pass.turns[place],
+            &self.locks[index],
+            &mut pass.turns[index],
             from as usize,
         )
     }

@@ -17,7 +17,7 @@ pub(crate) fn class_index(config: &Config, thread: u32, class: ClassId) -> usize
     requires valid { IsValid config.now }
     requires thread { 1 ≤ thread }
     requires class { class.0 < class_count }
-    ensures place { result ≡ class_index config.now thread class.0 }
+    ensures index { result ≡ class_index config.now thread class.0 }
     ensures below { result < region_count config.now }
 {
     let arena = (thread - 1) % config.arenas;
@@ -38,10 +38,10 @@ pub(crate) fn index_for(config: &Config, thread: u32, kind: Kind, asked: u64) ->
     requires valid { IsValid config.now }
     requires thread { 1 ≤ thread }
     requires kind { IsKindOf asked kind }
-    ensures place { result ≡ index_for config.now thread kind }
-    ensures below { IfSome result (λ place. place < region_count config.now + 1) }
-    ensures asks { IfSome result (λ place. Asks (region_at config.now place) (call.Allot asked 1)) }
-    ensures few { IfSome result (λ place. asked ≤ 2 ^ 30) }
+    ensures index { result ≡ index_for config.now thread kind }
+    ensures below { IfSome result (λ index. index < region_count config.now + 1) }
+    ensures asks { IfSome result (λ index. Asks (region_at config.now index) (call.Allot asked 1)) }
+    ensures few { IfSome result (λ index. asked ≤ 2 ^ 30) }
 {
     match kind {
         Kind::TooLarge => None,
@@ -53,9 +53,9 @@ pub(crate) fn index_for(config: &Config, thread: u32, kind: Kind, asked: u64) ->
 /// The index of the region to which an address belongs.
 pub(crate) fn home_index(config: &Config, addr: u64) -> Option<usize>
     requires { IsValid config.now }
-    ensures place { result ≡ home_index config.now addr }
-    ensures below { IfSome result (λ place. place < region_count config.now + 1) }
-    ensures reach { IfSome result (λ place. IsInReach addr) }
+    ensures index { result ≡ home_index config.now addr }
+    ensures below { IfSome result (λ index. index < region_count config.now + 1) }
+    ensures reach { IfSome result (λ index. IsInReach addr) }
 {
     match home_of(config, addr) {
         Home::Class(region) => Some(region.0 as usize),

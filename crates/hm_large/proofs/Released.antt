@@ -255,16 +255,16 @@ module _ (c : Config) (n : ℕ) (s : State) (k new : Store) (a : ℕ) (x : Block
   pub frees_held : (word place : ℕ) (r : Option ℕ) → IsSound c s → at a s.live ≡ Some x → is_quarantined x ≡ true → Shows c n s k → word ≡ next_word k.words → place ≡ drawn array_length word → place < array_length
       → r ≡ let_go k.quarantine a place → ShowsTable c (releases r (record s { live = removed a s.live; held = (a, x) ∷ s.held; frees = free_of a word ∷ s.frees })) new
       → new.quarantine ≡ kept_with k.quarantine a place → new.words ≡ after_word k.words → Frees c n s a x new (record { released = r; word = Some word })
-  frees_held word place r sound e small h drawn_word drawn_place lt left table quarantine words =
+  frees_held word place r sound e small h drawn_word drawn_index lt left table quarantine words =
       let w : ℕ = word_after n s.words in
       let is_word : word ≡ w = drawn_word ∙ ap next_word h.words in
       let before : State = record s { live = removed a s.live; held = (a, x) ∷ s.held; frees = free_of a word ∷ s.frees } in
       let same : takes_back a w (Some x) s ≡ before =
       ap (λ t. cond t (record s { live = removed a s.live; held = (a, x) ∷ s.held; frees = free_of a w ∷ s.frees }) (record s { live = removed a s.live })) small
       ∙ ap (λ (z : ℕ). record s { live = removed a s.live; held = (a, x) ∷ s.held; frees = free_of a z ∷ s.frees }) (sym is_word) in
-      let below : drawn array_length word < array_length = subst (λ (p : ℕ). p < array_length) drawn_place lt in
+      let below : drawn array_length word < array_length = subst (λ (p : ℕ). p < array_length) drawn_index lt in
       let back : let_go k.quarantine a place ≡ released array_length ring_length s.frees (free_of a word) =
-      ap (λ (z : Kept). let_go z a place) h.quarantine ∙ (ap (λ p. let_go (kept_after array_length ring_length s.frees) a p) drawn_place ∙ looks_back array_length ring_length s.frees (free_of a word) (places_more c n s k a word x h below)) in
+      ap (λ (z : Kept). let_go z a place) h.quarantine ∙ (ap (λ p. let_go (kept_after array_length ring_length s.frees) a p) drawn_index ∙ looks_back array_length ring_length s.frees (free_of a word) (places_more c n s k a word x h below)) in
       let is : released array_length ring_length s.frees (free_of a word) ≡ r = sym (left ∙ back) in
       let ok = release_ok c n s k a word x r sound e h below is in
       record {
@@ -281,22 +281,22 @@ module _ (c : Config) (n : ℕ) (s : State) (k new : Store) (a : ℕ) (x : Block
         blocks = table.blocks_are;
         space = table.space_is;
         out = table.out_is;
-        quarantine = quarantine ∙ (ap (λ (z : Kept). kept_with z a place) h.quarantine ∙ ap (kept_with (kept_after array_length ring_length s.frees) a) drawn_place);
+        quarantine = quarantine ∙ (ap (λ (z : Kept). kept_with z a place) h.quarantine ∙ ap (kept_with (kept_after array_length ring_length s.frees) a) drawn_index);
         words = words ∙ ap after_word h.words;
         owed_is = table.owed_are;
         held_are = held_is;
-        places = places_more c n s k a word x h (subst (λ (p : ℕ). p < array_length) drawn_place lt);
+        places = places_more c n s k a word x h (subst (λ (p : ℕ). p < array_length) drawn_index lt);
         new = new_more c n s k a word x sound e h;
       }
       shows_held (Some b) is table held_is = record {
         blocks = table.blocks_are;
         space = table.space_is;
         out = table.out_is;
-        quarantine = quarantine ∙ (ap (λ (z : Kept). kept_with z a place) h.quarantine ∙ ap (kept_with (kept_after array_length ring_length s.frees) a) drawn_place);
+        quarantine = quarantine ∙ (ap (λ (z : Kept). kept_with z a place) h.quarantine ∙ ap (kept_with (kept_after array_length ring_length s.frees) a) drawn_index);
         words = words ∙ ap after_word h.words;
         owed_is = table.owed_are;
         held_are = held_is;
-        places = places_more c n s k a word x h (subst (λ (p : ℕ). p < array_length) drawn_place lt);
+        places = places_more c n s k a word x h (subst (λ (p : ℕ). p < array_length) drawn_index lt);
         new = new_more c n s k a word x sound e h;
       }
 

@@ -16,7 +16,7 @@ pub record State : Type 0 where
   -- live blocks, and those in quarantine as they were when they were freed
   pub live : Blocks
   pub held : Blocks
-  -- the frees of blocks that went into quarantine: the address, and the place of the array that the word draws
+  -- the frees of blocks that went into quarantine: the address, and the index in the array that the word draws
   pub frees : List Free
   -- how many words were drawn
   pub words : ℕ
@@ -35,7 +35,7 @@ ring_length = 1024
 
 -- the free of the block at a, with the word that was drawn for it
 abbrev pub free_of : ℕ → ℕ → Free
-free_of a word = record { slot = a; place = drawn array_length word }
+free_of a word = record { slot = a; index = drawn array_length word }
 
 -- the block at a is no longer live: a greater one has left, any other is in quarantine
 abbrev pub takes_back : ℕ → ℕ → Option Block → State → State

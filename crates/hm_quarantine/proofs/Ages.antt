@@ -119,11 +119,11 @@ none_of n f hold frees k fine new = sym (fine.counts (λ x. x == f)) ∙ none_am
 -- what goes on from the array is not the freed slot
 quiet_on : (n f p : ℕ) (hold frees : List ℕ) (k : Kept) → length k.array ≡ n → IsArrayIndex n p → Fine n hold frees k → among f hold ≡ false
     → (x : ℕ) → goes_on k.array f p ≡ Some x → Quiet (more n) x (f ∷ frees)
-quiet_on zero f p hold frees k wide place fine new x e = refl
-quiet_on (suc n) f p hold frees k wide place fine new x e = or_both (f == x) false (differ (x == f) least refl) refl
+quiet_on zero f p hold frees k wide index fine new x e = refl
+quiet_on (suc n) f p hold frees k wide index fine new x e = or_both (f == x) false (differ (x == f) least refl) refl
   where
     within : p < length k.array
-    within = subst (λ (j : ℕ). p < j) (sym wide) place
+    within = subst (λ (j : ℕ). p < j) (sym wide) index
 
     stood : get_or k.array p None ≡ Some x
     stood = sym (on_with k.array f p within) ∙ e
@@ -137,11 +137,11 @@ quiet_on (suc n) f p hold frees k wide place fine new x e = or_both (f == x) fal
 
 freed : (n f p : ℕ) (hold frees : List ℕ) (k : Kept) → length k.array ≡ n → IsArrayIndex n p → among f hold ≡ false → Fine n hold frees k
     → Freed n (f ∷ hold) (f ∷ frees) (kept_with k f p) (let_go k f p)
-freed n f p hold frees k wide place new fine = record {
-  counts = λ t. omega (arith, fine.counts t, count_ring t k.ring_length k.ring (goes_on k.array f p) fine.few, count_array t k.array f p (subst (λ (j : ℕ). IsArrayIndex j p) (sym wide) place));
+freed n f p hold frees k wide index new fine = record {
+  counts = λ t. omega (arith, fine.counts t, count_ring t k.ring_length k.ring (goes_on k.array f p) fine.few, count_array t k.array f p (subst (λ (j : ℕ). IsArrayIndex j p) (sym wide) index));
   once = λ a. once_more a f hold new (fine.once a);
   ring = enter_after k.ring_length (more n) f k.ring frees (goes_on k.array f p) fine.few fine.ages
-      (among_none f k.ring (omega (arith, none_of n f hold frees k fine new))) (quiet_on n f p hold frees k wide place fine new);
+      (among_none f k.ring (omega (arith, none_of n f hold frees k fine new))) (quiet_on n f p hold frees k wide index fine new);
 }
 
 -- what a free releases was held
@@ -165,19 +165,19 @@ fine_after n hold frees k out free = record {
 
 abbrev freed_by : ℕ → ℕ → List Free → Free → Type 0
 freed_by n size past free =
-    Freed n (free.slot ∷ held n size past) (slots_of (free ∷ past)) (kept_after n size (free ∷ past)) (let_go (kept_after n size past) free.slot free.place)
+    Freed n (free.slot ∷ held n size past) (slots_of (free ∷ past)) (kept_after n size (free ∷ past)) (let_go (kept_after n size past) free.slot free.index)
 
 all_fine : (n size : ℕ) (past : List Free) → AreIndices n past → AreNew n size past → Fine n (held n size past) (slots_of past) (kept_after n size past)
-all_fine n size [] places new = record { counts = λ t. omega (arith, count_empty t n); once = λ a. omega arith; ages = tt; few = omega arith }
-all_fine n size (free ∷ past) places new =
+all_fine n size [] indices new = record { counts = λ t. omega (arith, count_empty t n); once = λ a. omega arith; ages = tt; few = omega arith }
+all_fine n size (free ∷ past) indices new =
     subst (λ (o : Option ℕ). Fine n (without_option o (free.slot ∷ held n size past)) (slots_of (free ∷ past)) (kept_after n size (free ∷ past)))
-    (looks_back n size past free places)
-    (fine_after n (free.slot ∷ held n size past) (slots_of (free ∷ past)) (kept_after n size (free ∷ past)) (let_go (kept_after n size past) free.slot free.place)
-    (freed n free.slot free.place (held n size past) (slots_of past) (kept_after n size past) (length_array n size past) places.0 new.0 (all_fine n size past places.1 new.1)))
+    (looks_back n size past free indices)
+    (fine_after n (free.slot ∷ held n size past) (slots_of (free ∷ past)) (kept_after n size (free ∷ past)) (let_go (kept_after n size past) free.slot free.index)
+    (freed n free.slot free.index (held n size past) (slots_of past) (kept_after n size past) (length_array n size past) indices.0 new.0 (all_fine n size past indices.1 new.1)))
 
 all_freed : (n size : ℕ) (past : List Free) (free : Free) → AreIndices n (free ∷ past) → AreNew n size (free ∷ past) → freed_by n size past free
-all_freed n size past free places new =
-    freed n free.slot free.place (held n size past) (slots_of past) (kept_after n size past) (length_array n size past) places.0 new.0 (all_fine n size past places.1 new.1)
+all_freed n size past free indices new =
+    freed n free.slot free.index (held n size past) (slots_of past) (kept_after n size past) (length_array n size past) indices.0 new.0 (all_fine n size past indices.1 new.1)
 
 delayed : (n size : ℕ) (past : List Free) (free : Free) (k : Kept) (out : Option ℕ) → k.ring_length ≡ size
     → Freed n (free.slot ∷ held n size past) (slots_of (free ∷ past)) k out → IfSome out (IsDelayed n size past free)
@@ -190,12 +190,12 @@ delayed n size past free k (Some b) size_is done = record {
 }
 
 pub delays : Delays
-delays n size past free places new =
-    subst (λ (o : Option ℕ). IfSome o (IsDelayed n size past free)) (looks_back n size past free places)
-    (delayed n size past free (kept_after n size (free ∷ past)) (let_go (kept_after n size past) free.slot free.place) (length_is n size (free ∷ past)) (all_freed n size past free places new))
+delays n size past free indices new =
+    subst (λ (o : Option ℕ). IfSome o (IsDelayed n size past free)) (looks_back n size past free indices)
+    (delayed n size past free (kept_after n size (free ∷ past)) (let_go (kept_after n size past) free.slot free.index) (length_is n size (free ∷ past)) (all_freed n size past free indices new))
 
 pub holds_few : HoldsFew
-holds_few n size past places new = few (all_fine n size past places new)
+holds_few n size past indices new = few (all_fine n size past indices new)
   where
     few : Fine n (held n size past) (slots_of past) (kept_after n size past) → length (held n size past) ≤ n + size
     few fine =

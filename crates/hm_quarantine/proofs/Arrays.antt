@@ -1,16 +1,16 @@
--- Places of which those past the first ones are empty, once one of them is set.
+-- Cells of which those past the first ones are empty, once one of them is set.
 use Rattle.std.proofs.Common.{◌≡◌, ℕ, zero, suc, ◌+◌, ◌-◌, ◌<◌, ◌≤◌, List, [], ◌∷◌, ◌++◌, length, replicate, slice_set, Option, None, sym, ap, ◌∙◌, arith, length-append}
 use Rattle.std.proofs.lemmas.List.{set-append_left, set-append_right, length-set, length-replicate, append_assoc}
-use Rattle.hm_quarantine.specs.Quarantine.{places}
+use Rattle.hm_quarantine.specs.Quarantine.{cells}
 
--- one of the first places is set
+-- one of the first cells is set
 pub set_first : (count : ℕ) (first : List (Option ℕ)) (i : ℕ) (x : Option ℕ) → i < length first
-    → places count (slice_set first i x) ≡ slice_set (places count first) i x
+    → cells count (slice_set first i x) ≡ slice_set (cells count first) i x
 set_first count first i x below =
     ap (λ n. slice_set first i x ++ replicate (count - n) None) (length-set first i x)
     ∙ sym (set-append_left first (replicate (count - length first) None) i x below)
 
--- one of so many empty places is set
+-- one of so many empty cells is set
 set_empty : (count i : ℕ) (x : Option ℕ) → i < count
     → slice_set (replicate count None) i x ≡ replicate i None ++ x ∷ replicate (count - (i + 1)) None
 set_empty zero i x below = absurd (omega (arith, below))
@@ -18,9 +18,9 @@ set_empty (suc count) zero x below = ap (λ n. x ∷ replicate n None) (omega ar
 set_empty (suc count) (suc i) x below =
     ap (λ l. None ∷ l) (set_empty count i x (omega (arith, below)) ∙ ap (λ n. replicate i None ++ x ∷ replicate n None) (omega arith))
 
--- a place past the first ones is set
+-- a cell past the first ones is set
 pub set_later : (count : ℕ) (first : List (Option ℕ)) (n i : ℕ) (x : Option ℕ) → n ≡ length first → n ≤ i → i < count
-    → places count ((first ++ replicate (i - n) None) ++ x ∷ []) ≡ slice_set (places count first) i x
+    → cells count ((first ++ replicate (i - n) None) ++ x ∷ []) ≡ slice_set (cells count first) i x
 set_later count first n i x is past below =
     append_assoc (first ++ between) (x ∷ []) _
     ∙ (append_assoc first between _

@@ -36,8 +36,8 @@ count_set t (o ∷ array) (suc p) x lt = omega (arith, count_set t array p x (om
 
 -- the array takes a slot and lets one go on
 pub count_array : (t : ℕ → Bool) (array : List (Option ℕ)) (x p : ℕ) → IsArrayIndex (length array) p → count_in t (set array p (Some x)) + one_of t (goes_on array x p) ≡ count_in t array + one t x
-count_array t [] x p place = refl
-count_array t (o ∷ array) x p place = count_set t (o ∷ array) p x place
+count_array t [] x p index = refl
+count_array t (o ∷ array) x p index = count_set t (o ∷ array) p x index
 
 pub count_empty : (t : ℕ → Bool) (n : ℕ) → count_in t (replicate n None) ≡ 0
 count_empty t zero = refl

@@ -11,7 +11,7 @@ use Rattle.hm_quarantine.proofs.Rings.{HasRoom, has_room, IsFull, is_full}
 -- the array keeps its length
 pub length_array : (n size : ℕ) (past : List Free) → length (kept_after n size past).array ≡ n
 length_array n size [] = length-replicate n None
-length_array n size (free ∷ past) = length-set (kept_after n size past).array free.place (Some free.slot) ∙ length_array n size past
+length_array n size (free ∷ past) = length-set (kept_after n size past).array free.index (Some free.slot) ∙ length_array n size past
 
 -- one store
 stored : (array : List (Option ℕ)) (q p x : ℕ) (o : Option ℕ) → p < length array → get_or array p None ≡ o → get_or (set array q (Some x)) p None ≡ cond (q == p) (Some x) o
@@ -21,11 +21,11 @@ stored array q p x o lt is =
       | false ↦ λ e. get_or-set_other array q p (Some x) None (λ same. eqb-false q p e (sym same)) ∙ is
     ] refl
 
--- at a place stands the latest free there
+-- in a cell stands the latest free there
 pub stands : (n size p : ℕ) (past : List Free) → p < n → get_or (kept_after n size past).array p None ≡ latest_at p past
 stands n size p [] lt = get_or-replicate n p None None lt
 stands n size p (free ∷ past) lt =
-    stored (kept_after n size past).array free.place p free.slot (latest_at p past) (subst (λ (k : ℕ). p < k) (sym (length_array n size past)) lt) (stands n size p past lt)
+    stored (kept_after n size past).array free.index p free.slot (latest_at p past) (subst (λ (k : ℕ). p < k) (sym (length_array n size past)) lt) (stands n size p past lt)
 
 on_without : (array : List (Option ℕ)) (slot p : ℕ) → length array ≡ 0 → goes_on array slot p ≡ Some slot
 on_without [] slot p none = refl
@@ -36,11 +36,11 @@ on_with [] slot p lt = absurd (omega (arith, lt))
 on_with (o ∷ array) slot p lt = refl
 
 -- what goes on from the array is what leaves it
-pub comes : (n size : ℕ) (past : List Free) (free : Free) → IsArrayIndex n free.place → goes_on (kept_after n size past).array free.slot free.place ≡ leaves_array n past free
-comes zero size past free place = on_without (kept_after zero size past).array free.slot free.place (length_array zero size past)
-comes (suc n) size past free place =
-    on_with (kept_after (suc n) size past).array free.slot free.place (subst (λ (k : ℕ). free.place < k) (sym (length_array (suc n) size past)) place)
-    ∙ stands (suc n) size free.place past place
+pub comes : (n size : ℕ) (past : List Free) (free : Free) → IsArrayIndex n free.index → goes_on (kept_after n size past).array free.slot free.index ≡ leaves_array n past free
+comes zero size past free index = on_without (kept_after zero size past).array free.slot free.index (length_array zero size past)
+comes (suc n) size past free index =
+    on_with (kept_after (suc n) size past).array free.slot free.index (subst (λ (k : ℕ). free.index < k) (sym (length_array (suc n) size past)) index)
+    ∙ stands (suc n) size free.index past index
 
 -- the latest `size` of a list, and the one before them
 data Latest (size : ℕ) (g : List ℕ) : Type 0 where
@@ -103,17 +103,17 @@ length_is n size (free ∷ past) = length_is n size past
 
 -- the ring holds the latest that have left the array
 pub ring_is : (n size : ℕ) (past : List Free) → AreIndices n past → (kept_after n size past).ring ≡ reverse (take size (all_left n past))
-ring_is n zero [] places = refl
-ring_is n (suc size) [] places = refl
-ring_is n size (free ∷ past) places =
-    ap (λ (k : ℕ). ring_with k (kept_after n size past).ring (goes_on (kept_after n size past).array free.slot free.place)) (length_is n size past)
-    ∙ ap (λ (r : List ℕ). ring_with size r (goes_on (kept_after n size past).array free.slot free.place)) (ring_is n size past places.1)
-    ∙ ap (λ (o : Option ℕ). ring_with size (reverse (take size (all_left n past))) o) (comes n size past free places.0)
+ring_is n zero [] indices = refl
+ring_is n (suc size) [] indices = refl
+ring_is n size (free ∷ past) indices =
+    ap (λ (k : ℕ). ring_with k (kept_after n size past).ring (goes_on (kept_after n size past).array free.slot free.index)) (length_is n size past)
+    ∙ ap (λ (r : List ℕ). ring_with size r (goes_on (kept_after n size past).array free.slot free.index)) (ring_is n size past indices.1)
+    ∙ ap (λ (o : Option ℕ). ring_with size (reverse (take size (all_left n past))) o) (comes n size past free indices.0)
     ∙ enter_ring size (all_left n past) (leaves_array n past free)
 
 pub looks_back : LooksBack
-looks_back n size past free places =
-    ap (λ (k : ℕ). goes_out k (kept_after n size past).ring (goes_on (kept_after n size past).array free.slot free.place)) (length_is n size past)
-    ∙ ap (λ (r : List ℕ). goes_out size r (goes_on (kept_after n size past).array free.slot free.place)) (ring_is n size past places.1)
-    ∙ ap (λ (o : Option ℕ). goes_out size (reverse (take size (all_left n past))) o) (comes n size past free places.0)
+looks_back n size past free indices =
+    ap (λ (k : ℕ). goes_out k (kept_after n size past).ring (goes_on (kept_after n size past).array free.slot free.index)) (length_is n size past)
+    ∙ ap (λ (r : List ℕ). goes_out size r (goes_on (kept_after n size past).array free.slot free.index)) (ring_is n size past indices.1)
+    ∙ ap (λ (o : Option ℕ). goes_out size (reverse (take size (all_left n past))) o) (comes n size past free indices.0)
     ∙ enter_out size (all_left n past) (leaves_array n past free)

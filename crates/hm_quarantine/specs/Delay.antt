@@ -30,7 +30,7 @@ abbrev pub Delays : Type 0
 Delays = (array ring : ℕ) (past : List Free) (free : Free) → AreIndices array (free ∷ past)
     → AreNew array ring (free ∷ past) → IfSome (released array ring past free) (IsDelayed array ring past free)
 
--- no more slots are in quarantine than the array and the ring have places
+-- no more slots are in quarantine than the array and the ring have cells
 abbrev pub HoldsFew : Type 0
 HoldsFew = (array ring : ℕ) (past : List Free) → AreIndices array past → AreNew array ring past
     → length (held array ring past) ≤ array + ring

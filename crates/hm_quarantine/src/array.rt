@@ -1,4 +1,4 @@
-//! The array of a quarantine: places that each hold a slot or nothing. It writes its memory only as far as a place
+//! The array of a quarantine: cells that each hold a slot or nothing. It writes its memory only as far as a cell
 //! was ever set, so that an array of which little is used costs little.
 ghost use Rattle.std.specs.Prelude.{◌≡◌, ◌<◌, ◌==◌, length, replicate, slice_index_or, slice_set, None, Some, IfOk};
 
@@ -6,7 +6,7 @@ use hm_base::NoMemory;
 use std::alloc::Global;
 use std::marker::Model;
 
-/// Places of which those past the last one that was ever set are not written.
+/// Cells of which those past the last one that was ever set are not written.
 #[derive(Drop)]
 pub(crate) struct Array {
     written: Vec<Option<u64>>,
@@ -15,17 +15,17 @@ pub(crate) struct Array {
 
 impl Model for Array {
     ghost use Rattle.std.specs.Prelude.{ℕ, ◌≤◌, List, Option, length, vec_capacity};
-    ghost use Rattle.hm_quarantine.specs.Quarantine.{places};
+    ghost use Rattle.hm_quarantine.specs.Quarantine.{cells};
 
     ghost Value = { List (Option ℕ) };
 
-    ghost view = { λ a. places a.len a.written.items };
+    ghost view = { λ a. cells a.len a.written.items };
 
     ghost invariant = { λ a. (length a.written.items ≤ a.len) × (a.len ≤ vec_capacity a.written) };
 }
 
 impl Array {
-    /// So many empty places.
+    /// So many empty cells.
     pub(crate) fn build(alloc: Global, len: usize) -> Result<Array, NoMemory>
         ensures { IfOk result (λ array. array ≡ replicate len None) }
     {
@@ -33,14 +33,14 @@ impl Array {
         Ok(Array { written, len })
     }
 
-    /// Whether there is no place.
+    /// Whether there is no cell.
     pub(crate) fn is_empty(&self) -> bool
         ensures { result ≡ (length self.now == 0) }
     {
         self.len == 0
     }
 
-    /// Sets a place, and answers what stood there.
+    /// Sets a cell, and answers what stood there.
     pub(crate) fn put(&mut self, index: usize, slot: u64) -> Option<u64>
         requires { index < length self.old }
         ensures before { result ≡ slice_index_or self.old index None }

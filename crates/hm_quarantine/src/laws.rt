@@ -3,7 +3,7 @@ ghost use Rattle.hm_quarantine.specs.Delay.{Delays, HoldsFew};
 ghost use Rattle.hm_quarantine.specs.LookingBack.{LooksBack};
 
 /// What is released is what looking back through the frees finds, and it has stood in quarantine long
-/// enough. No more slots stand there than the array and the ring have places.
+/// enough. No more slots stand there than the array and the ring have cells.
 pub fn release_laws()
     ensures looks_back { LooksBack }
     ensures delays { Delays }

@@ -1,4 +1,4 @@
-//! The array and the ring of one region. A freed slot goes to a place of the array, what stood there goes
+//! The array and the ring of one region. A freed slot goes to a cell of the array, what stood there goes
 //! on to the ring, and a full ring gives its oldest out.
 ghost use Rattle.std.specs.Prelude.{◌≡◌, length, IfOk};
 ghost use Rattle.hm_quarantine.specs.Quarantine.{IsArrayIndex, nothing_kept, let_go, kept_with};
@@ -25,7 +25,7 @@ impl Model for Quarantine {
 }
 
 impl Quarantine {
-    /// An empty quarantine with this many places in its array and in its ring. Either may be 0.
+    /// An empty quarantine with this many cells in its array and in its ring. Either may be 0.
     pub fn build(alloc: Global, array: u32, ring: u32) -> Result<Quarantine, NoMemory>
         ensures { IfOk result (λ q. q ≡ nothing_kept array ring) }
     {
@@ -34,7 +34,7 @@ impl Quarantine {
         Ok(Quarantine { array, ring })
     }
 
-    /// Takes a freed slot in, at a place of the array, and answers the slot that leaves.
+    /// Takes a freed slot in, at a cell of the array, and answers the slot that leaves.
     pub fn pass(&mut self, slot: u64, index: u32) -> Option<u64>
         requires { IsArrayIndex (length self.old.array) index }
         ensures released { result ≡ let_go self.old slot index }

@@ -54,7 +54,7 @@ front_made (Ok rs) t names last steps own ran stops = record {
   results = rs.items;
   left = used_up;
   runs = ran;
-  stops = λ place. refl;
+  stops = λ index. refl;
 }
 
 abbrev pub AllFronts : Config → List Worker → List Worker → Type 0
@@ -93,7 +93,7 @@ module _ (c : Config) (locks : List Lock) (round total : ℕ) (p q z : PassView)
               let own : mine_of (slice_index_or ws i w).pass.turns ≡ ended_in z.turns (p.splits + 1 + i) =
               ended_is locks p q z ws found i w s.parted (worked_begun locks (p.splits + 1) round p names ws s.begun) f l in
               let none : used_up ≡ ended_in z.turns (p.splits + 1 + i) =
-              fun_ext (λ place. sym ((s.begun i w l).ready.fresh place)) ∙ own in
+              fun_ext (λ index. sym ((s.begun i w l).ready.fresh index)) ∙ own in
               let v = slice_index_or ws i w in
               subst (λ (o : Own). IsFront (record { config = c; caller = p.splits + 1 + i; round = round; thread = v.script.now.thread }) names v.script.now.steps names o)
               none
@@ -103,7 +103,7 @@ module _ (c : Config) (locks : List Lock) (round total : ℕ) (p q z : PassView)
                 steps_are = refl;
                 results = [];
                 left = used_up;
-                runs = (refl, refl, λ place. refl);
+                runs = (refl, refl, λ index. refl);
                 stops = stops_none _ 1 names v.script.now.steps used_up;
               });
         }))

@@ -47,7 +47,7 @@ below-le : (f g : ℕ → ℕ) (n : ℕ) → ((k : ℕ) → k < n → f k ≤ g 
 below-le f g zero le = omega arith
 below-le f g (suc n) le = omega (arith, below-le f g n (λ k l. le k (omega arith)), le n (omega arith))
 
--- at one place there is one more
+-- at one index there is one more
 below-one : (f g : ℕ → ℕ) (p n : ℕ) → f p ≤ g p + 1 → ((k : ℕ) → (k ≡ p → ⊥) → f k ≤ g k) → sum_below f n ≤ sum_below g n + 1
 below-one f g p zero here others = omega arith
 below-one f g p (suc n) here others = elim (cases_eq n p) [
@@ -107,19 +107,19 @@ counted first count (e ∷ es) of =
 -- ---- plans of few parts
 abbrev AtMost : ℕ → Plan → Type 0
 AtMost n (Done a) = ⊤
-AtMost n (Part place call next) = (0 < n) × ((reply : Reply) → AtMost (n - 1) (next reply))
+AtMost n (Part index call next) = (0 < n) × ((reply : Reply) → AtMost (n - 1) (next reply))
 
 -- the entries at all places below n
 abbrev total : ℕ → Own → ℕ
-total n xs = sum_below (λ place. length (xs place)) n
+total n xs = sum_below (λ index. length (xs index)) n
 
 stayed : (n : ℕ) (xs ys : Own) → Stay xs ys → total n xs ≤ total n ys
-stayed n xs ys same = below-le (λ place. length (xs place)) (λ place. length (ys place)) n (λ place l. omega (arith, ap length (same place)))
+stayed n xs ys same = below-le (λ index. length (xs index)) (λ index. length (ys index)) n (λ index l. omega (arith, ap length (same index)))
 
 taken : (n p : ℕ) (e : Entry) (xs left : Own) → Takes p e xs left → total n xs ≤ total n left + 1
 taken n p e xs left takes =
-    below-one (λ place. length (xs place)) (λ place. length (left place)) p n
-    (omega (arith, ap length takes.here)) (λ place ne. omega (arith, ap length (takes.elsewhere place ne)))
+    below-one (λ index. length (xs index)) (λ index. length (left index)) p n
+    (omega (arith, ap length takes.here)) (λ index ne. omega (arith, ap length (takes.elsewhere index ne)))
 
 used : (n : ℕ) (who : ℕ → Who) (number : ℕ) (plan : Plan) (a : Answer) (xs ys : Own) (k : ℕ) → AtMost k plan → Uses who number plan a xs ys → total n xs ≤ total n ys + k
 used n who number (Done b) a xs ys k few u = omega (arith, stayed n xs ys u.1)
@@ -134,7 +134,7 @@ allot_few c thread asked align (Large size) = (omega arith, λ reply. tt)
 
 home_few : (o : Option ℕ) (call : Call) → AtMost 5 (at_home o call)
 home_few None call = tt
-home_few (Some place) call = (omega arith, λ reply. tt)
+home_few (Some index) call = (omega arith, λ reply. tt)
 
 freed_few : (moved : _) (n : ℕ) (reply : Reply) → AtMost n (freed moved reply)
 freed_few moved n Freed = tt
@@ -165,15 +165,15 @@ measured_few source stays (Usable old) =
     cond_both (stays old) _ _ (AtMost 4) (λ kept. tt) (λ moves. (omega arith, λ reply. allotted_few source (min old source.asked) reply))
 measured_few source stays _ = tt
 
-moving_few : (c : Config) (place a asked : ℕ) (kind : Kind) (o : Option ℕ) → AtMost 5 (moving_plan c place a asked kind o)
-moving_few c place a asked kind None = tt
-moving_few c place a asked kind (Some home) =
-    (omega arith, λ reply. measured_few (record { home = home; place = place; addr = a; asked = asked }) (keeps c home kind) reply)
+moving_few : (c : Config) (index a asked : ℕ) (kind : Kind) (o : Option ℕ) → AtMost 5 (moving_plan c index a asked kind o)
+moving_few c index a asked kind None = tt
+moving_few c index a asked kind (Some home) =
+    (omega arith, λ reply. measured_few (record { home = home; index = index; addr = a; asked = asked }) (keeps c home kind) reply)
 
 resize_few : (c : Config) (thread a asked : ℕ) (kind : Kind) (o : Option ℕ) → AtMost 5 (resize_plan c thread a asked kind o)
 resize_few c thread a asked kind None = tt
-resize_few c thread a asked kind (Some place) =
-    cond_both (a == 0) _ _ (AtMost 5) (λ null. allot_few c thread asked 1 kind) (λ some. moving_few c place a asked kind (home_index c a))
+resize_few c thread a asked kind (Some index) =
+    cond_both (a == 0) _ _ (AtMost 5) (λ null. allot_few c thread asked 1 kind) (λ some. moving_few c index a asked kind (home_index c a))
 
 aligned_few : (c : Config) (thread asked align : ℕ) (o : Option Kind) → AtMost 5 (aligned_plan c thread asked align o)
 aligned_few c thread asked align None = tt
@@ -248,7 +248,7 @@ module _ (c : Config) (own : ℕ → Own) (n : ℕ) where
 
 -- ---- all histories
 abbrev entries_at : List History → ℕ → List Entry
-entries_at hs place = slice_index_or (map (λ (h : History). h.entries) hs) place []
+entries_at hs index = slice_index_or (map (λ (h : History). h.entries) hs) index []
 
 lengths : (hs : List History) (h : History) (i : ℕ) → i ≤ length hs → sum_by (λ (h : History). length h.entries) (take i hs) ≡ sum_below (λ r. length (entries_at hs r)) i
 lengths hs h zero l = refl

@@ -25,25 +25,25 @@ module _ (P : Entry → Type 0) where
   -- ---- entries that are used up
   -- where each entry that is left passes, each one before passes too
   abbrev AllBefore : Own → Own → Type 0
-  AllBefore xs ys = (place : ℕ) → EachIs P (ys place) → EachIs P (xs place)
+  AllBefore xs ys = (index : ℕ) → EachIs P (ys index) → EachIs P (xs index)
 
   stayed : (xs ys : Own) → Stay xs ys → AllBefore xs ys
-  stayed xs ys same place = subst (λ (l : List Entry). EachIs P l) (same place)
+  stayed xs ys same index = subst (λ (l : List Entry). EachIs P l) (same index)
 
   taken : (p : ℕ) (e : Entry) (xs left : Own) → Takes p e xs left → P e → AllBefore xs left
-  taken p e xs left takes of place rest = elim (cases_eq place p) [
+  taken p e xs left takes of index rest = elim (cases_eq index p) [
     | inl s ↦
         subst (λ (n : ℕ). EachIs P (xs n)) (sym s)
         (subst (λ (l : List Entry). EachIs P l) (sym takes.here) (of, subst (λ (n : ℕ). EachIs P (left n)) s rest))
-    | inr n ↦ subst (λ (l : List Entry). EachIs P l) (takes.elsewhere place n) rest
+    | inr n ↦ subst (λ (l : List Entry). EachIs P l) (takes.elsewhere index n) rest
   ]
 
   uses_all : (who : ℕ → Who) (n : ℕ) (plan : Plan) (a : Answer) (xs ys : Own)
       → ((part : ℕ) (e : Entry) → e.who ≡ who part → P e) → Uses who n plan a xs ys → AllBefore xs ys
-  uses_all who n (Done b) a xs ys of u place rest = stayed xs ys u.1 place rest
-  uses_all who n (Part p call next) a xs ys of u place rest =
-      taken p u.entry xs u.left u.takes (of n u.entry u.who_is) place
-      (uses_all who (n + 1) (next u.entry.reply) a u.left ys of u.rest place rest)
+  uses_all who n (Done b) a xs ys of u index rest = stayed xs ys u.1 index rest
+  uses_all who n (Part p call next) a xs ys of u index rest =
+      taken p u.entry xs u.left u.takes (of n u.entry u.who_is) index
+      (uses_all who (n + 1) (next u.entry.reply) a u.left ys of u.rest index rest)
 
   step_all : (t : Terms) (number : ℕ) (step : StepView) (o : Option ℕ) (r : StepResult) (xs ys : Own)
       → ((part : ℕ) (e : Entry) → e.who ≡ who_at t number part → P e) → Steps t number step o r xs ys → AllBefore xs ys
@@ -54,20 +54,20 @@ module _ (P : Entry → Type 0) where
   runs_all : (t : Terms) (n : ℕ) (names : Names) (steps : List StepView) (rs : List StepResult) (last : Names) (xs ys : Own)
       → ((number part : ℕ) (e : Entry) → n ≤ number → number < n + length steps → e.who ≡ who_at t number part → P e)
       → RunsSteps t n names steps rs last xs ys → AllBefore xs ys
-  runs_all t n names [] rs last xs ys of ran place rest = stayed xs ys ran.2 place rest
-  runs_all t n names (s ∷ steps) rs last xs ys of ran place rest =
+  runs_all t n names [] rs last xs ys of ran index rest = stayed xs ys ran.2 index rest
+  runs_all t n names (s ∷ steps) rs last xs ys of ran index rest =
       step_all t n s (base_of names s) ran.result xs ran.left
-      (λ part e. of n part e (omega arith) (omega arith)) ran.this place
+      (λ part e. of n part e (omega arith) (omega arith)) ran.this index
       (runs_all t (n + 1) (names_after names s ran.result.answer) steps ran.later last ran.left ys
-      (λ number part e l m. of number part e (omega (arith, l)) (omega (arith, m))) ran.rest place rest)
+      (λ number part e l m. of number part e (omega (arith, l)) (omega (arith, m))) ran.rest index rest)
 
   round_all : (c : Config) (own : ℕ → Own) (caller round : ℕ) (names now after : Names) (scripts : List ScriptView)
-      (results : List Results) (k place : ℕ) → ((e : Entry) → IsOfRound caller round scripts e → P e) → caller ≤ k
+      (results : List Results) (k index : ℕ) → ((e : Entry) → IsOfRound caller round scripts e → P e) → caller ≤ k
       → k < caller + length scripts → RunsRound c own caller round names now scripts results after
-      → EachIs P (own k place)
-  round_all c own caller round names now after [] results k place of l m ran = absurd (omega (arith, l, m))
-  round_all c own caller round names now after (s ∷ scripts) results k place of l m ran = elim (cases_eq k caller) [
-    | inl same ↦ subst (λ (n : ℕ). EachIs P (own n place)) (sym same)
+      → EachIs P (own k index)
+  round_all c own caller round names now after [] results k index of l m ran = absurd (omega (arith, l, m))
+  round_all c own caller round names now after (s ∷ scripts) results k index of l m ran = elim (cases_eq k caller) [
+    | inl same ↦ subst (λ (n : ℕ). EachIs P (own n index)) (sym same)
         (runs_all (record { config = c; caller = caller; round = round; thread = s.thread }) 1 names s.steps
         ran.result.items ran.last (own caller) used_up
         (λ number part e least most is. of e (inl (record {
@@ -76,25 +76,25 @@ module _ (P : Entry → Type 0) where
           thread_is = ap (λ (w : Who). w.thread) is;
           step_least = subst (λ (n : ℕ). 1 ≤ n) (sym (ap (λ (w : Who). w.step) is)) least;
           step_most = subst (λ (n : ℕ). n ≤ length s.steps) (sym (ap (λ (w : Who). w.step) is)) (omega (arith, most));
-        }))) ran.run place tt)
+        }))) ran.run index tt)
     | inr other ↦
-        round_all c own (caller + 1) round names (settled now s.steps ran.last) after scripts ran.later k place
+        round_all c own (caller + 1) round names (settled now s.steps ran.last) after scripts ran.later k index
         (λ e is. of e (inr is))
         (omega (arith, l, other)) (omega (arith, m)) ran.rest
   ]
 
   rounds_all : (c : Config) (own : ℕ → Own) (caller round : ℕ) (names last : Names) (rounds : List (List ScriptView))
-      (results : List Results) (k place : ℕ) → ((e : Entry) → IsOfTrace caller round rounds e → P e) → caller ≤ k
+      (results : List Results) (k index : ℕ) → ((e : Entry) → IsOfTrace caller round rounds e → P e) → caller ≤ k
       → k < caller + script_count rounds → RunsRounds c own caller round names rounds results last
-      → EachIs P (own k place)
-  rounds_all c own caller round names last [] results k place of l m ran = absurd (omega (arith, l, m))
-  rounds_all c own caller round names last (scripts ∷ rounds) results k place of l m ran =
+      → EachIs P (own k index)
+  rounds_all c own caller round names last [] results k index of l m ran = absurd (omega (arith, l, m))
+  rounds_all c own caller round names last (scripts ∷ rounds) results k index of l m ran =
       elim (cases_lt k (caller + length scripts)) [
         | inl below ↦
-            round_all c own caller round names names ran.after scripts ran.these k place
+            round_all c own caller round names names ran.after scripts ran.these k index
             (λ e is. of e (inl is)) l below ran.this
         | inr above ↦
-            rounds_all c own (caller + length scripts) (round + 1) ran.after last rounds ran.later k place
+            rounds_all c own (caller + length scripts) (round + 1) ran.after last rounds ran.later k index
             (λ e is. of e (inr is))
             above (omega (arith, m)) ran.rest
       ]

@@ -31,7 +31,7 @@ on_err (Err e) x = x
 -- all parts were made
 pub uses_all : (who : ℕ → Who) (n : ℕ) (plan : Plan) (a : Answer) (xs ys : Own) → Uses who n plan a xs ys → UsesFront who n plan xs ys
 uses_all who n (Done b) a xs ys u = u.1
-uses_all who n (Part place call next) a xs ys u = inr (record {
+uses_all who n (Part index call next) a xs ys u = inr (record {
   entry = u.entry;
   who_is = u.who_is;
   call_is = u.call_is;
@@ -41,13 +41,13 @@ uses_all who n (Part place call next) a xs ys u = inr (record {
 })
 
 -- a part for which memory was wanted gains nothing
-lacks_none : (p m : PassView) (place : ℕ) (who : Who) (call : Call) (e : NoMemory) → HasPart p m place who call (Err e)
+lacks_none : (p m : PassView) (index : ℕ) (who : Who) (call : Call) (e : NoMemory) → HasPart p m index who call (Err e)
     → Gains p.turns m.turns (λ xs ys. xs ≡ ys)
-lacks_none p m place who call e h = record {
+lacks_none p m index who call e h = record {
   own = λ other. [];
   mine = λ other.
       ap (λ z. mine_of z other) h.turns_are
-      ∙ ap (λ z. slice_index_or z other []) (map-set_same (λ (t : Known). t.knows.mine) p.turns place h.turn h.turn (h.called h.turn).1.made.mine)
+      ∙ ap (λ z. slice_index_or z other []) (map-set_same (λ (t : Known). t.knows.mine) p.turns index h.turn h.turn (h.called h.turn).1.made.mine)
       ∙ sym (append-nil (mine_of p.turns other));
   is = λ left. refl;
 }
@@ -55,26 +55,26 @@ lacks_none p m place who call e h = record {
 follows_front : (p q : PassView) (step n : ℕ) (plan : Plan) (e : NoMemory) → Follows p q step n plan (Err e)
     → Gains p.turns q.turns (λ xs ys. UsesFront (λ part. who_of p step part) n plan xs ys)
 follows_front p q step n (Done b) e f = let no : Err e ≡ Ok b = f.0 in absurd cc
-follows_front p q step n (Part place call next) e f =
-    rest_front p q f.between step n place call next e f.made f.same f.part f.rest
+follows_front p q step n (Part index call next) e f =
+    rest_front p q f.between step n index call next e f.made f.same f.part f.rest
     (λ reply g. follows_front f.between q step (n + 1) (next reply) e g)
   where
-    rest_front : (p q m : PassView) (step n place : ℕ) (call : Call) (next : Reply → Plan) (e : NoMemory) (r : Result Reply NoMemory)
-        → m ≡ record p { turns = m.turns } → HasPart p m place (who_of p step n) call r
+    rest_front : (p q m : PassView) (step n index : ℕ) (call : Call) (next : Reply → Plan) (e : NoMemory) (r : Result Reply NoMemory)
+        → m ≡ record p { turns = m.turns } → HasPart p m index (who_of p step n) call r
         → GoesOn m q (Err e) (λ between reply. Follows between q step (n + 1) (next reply) (Err e)) r
         → ((reply : Reply) → Follows m q step (n + 1) (next reply) (Err e)
         → Gains m.turns q.turns (λ xs ys. UsesFront (λ part. who_of m step part) (n + 1) (next reply) xs ys))
-        → Gains p.turns q.turns (λ xs ys. UsesFront (λ part. who_of p step part) n (Part place call next) xs ys)
-    rest_front p q m step n place call next e (Err lacked) same h rest deeper =
-        let Front : Own → Own → Type 0 = λ xs ys. UsesFront (λ part. who_of p step part) n (Part place call next) xs ys in
+        → Gains p.turns q.turns (λ xs ys. UsesFront (λ part. who_of p step part) n (Part index call next) xs ys)
+    rest_front p q m step n index call next e (Err lacked) same h rest deeper =
+        let Front : Own → Own → Type 0 = λ xs ys. UsesFront (λ part. who_of p step part) n (Part index call next) xs ys in
         subst (λ (z : PassView). Gains p.turns z.turns Front) (sym rest.0)
         (gains_as p.turns m.turns (λ xs ys. xs ≡ ys) Front (λ xs ys is. inl (λ other. ap (λ (z : Own). z other) (sym is)))
-        (lacks_none p m place (who_of p step n) call lacked h))
-    rest_front p q m step n place call next e (Ok reply) same h rest deeper =
+        (lacks_none p m index (who_of p step n) call lacked h))
+    rest_front p q m step n index call next e (Ok reply) same h rest deeper =
         gains_as p.turns q.turns
-        (λ xs ys. TakesPart place (who_of p step n) call xs (λ left again. UsesFront (λ part. who_of p step part) (n + 1) (next again) left ys))
-        (λ xs ys. UsesFront (λ part. who_of p step part) n (Part place call next) xs ys) (λ xs ys takes. inr takes)
-        (part_gains p m q place (who_of p step n) call reply
+        (λ xs ys. TakesPart index (who_of p step n) call xs (λ left again. UsesFront (λ part. who_of p step part) (n + 1) (next again) left ys))
+        (λ xs ys. UsesFront (λ part. who_of p step part) n (Part index call next) xs ys) (λ xs ys takes. inr takes)
+        (part_gains p m q index (who_of p step n) call reply
         (λ xs again ys. UsesFront (λ part. who_of p step part) (n + 1) (next again) xs ys) h
         (subst (λ (z : PassView). Gains m.turns q.turns
         (λ xs ys. UsesFront (λ part. who_of z step part) (n + 1) (next reply) xs ys)) same (deeper reply rest)))
@@ -126,7 +126,7 @@ gains_unnamed ts us t number base step o a is g =
 -- the step was not begun
 pub stop_none : (ts : List Known) (t : Terms) (number : ℕ) (names : Names) (step : StepView)
     → Gains ts ts (StopsAt t number names (step ∷ []))
-stop_none ts t number names step = gains_none ts ts (StopsAt t number names (step ∷ [])) refl (λ xs. inl (λ place. refl))
+stop_none ts t number names step = gains_none ts ts (StopsAt t number names (step ∷ [])) refl (λ xs. inl (λ index. refl))
 
 -- or not run to its end
 pub stop_broken : (ts us : List Known) (t : Terms) (number : ℕ) (names : Names) (step : StepView)
@@ -136,7 +136,7 @@ stop_broken ts us t number names step =
     (λ xs ys broken. inr broken)
 
 -- ---- a script
--- the step at a place, between those before it and those after it
+-- the step at an index, between those before it and those after it
 pub split_at : (steps : List Step) (i : ℕ) (s : Step) → i < length steps → s ≡ get_or steps i s
     → steps_view steps ≡ steps_view (take i steps) ++ step_view s ∷ steps_view (drop (suc i) steps)
 split_at [] i s lt is = absurd (omega (arith, lt))
@@ -145,8 +145,8 @@ split_at (x ∷ xs) (suc i) s lt is = ap (λ (l : List StepView). step_view x �
 
 -- the next step was not begun
 pub stops_none : (t : Terms) (number : ℕ) (names : Names) (steps : List StepView) (xs : Own) → StopsAt t number names steps xs xs
-stops_none t number names [] xs = λ place. refl
-stops_none t number names (s ∷ steps) xs = inl (λ place. refl)
+stops_none t number names [] xs = λ index. refl
+stops_none t number names (s ∷ steps) xs = inl (λ index. refl)
 
 -- so many steps were run, and the next one was not begun
 pub ran_front : (ts us : List Known) (t : Terms) (names last : Names) (steps done later : List StepView) (rs : List StepResult)

@@ -35,13 +35,13 @@ clothe_callers k w = record { own = w.own; of_ended = w.of_ended; of_others = w.
 knows_as : (k l : Knowledge) → stripped k ≡ stripped l → KnowsCallers l → KnowsCallers k
 knows_as k l e w = clothe_callers k (subst KnowsCallers (sym e) (strip_callers l w))
 
-module _ (p q : PassView) (place from : ℕ) (result : Result Changes NoMemory) (l : HasLooked p q place from result)
+module _ (p q : PassView) (index from : ℕ) (result : Result Changes NoMemory) (l : HasLooked p q index from result)
     (g : IsGathered p) where
   abbrev before : Knowledge
-  before = (slice_index_or p.turns place l.turn).knows
+  before = (slice_index_or p.turns index l.turn).knows
 
   still : l.turn.knows.seen ≡ before.seen
-  still = (l.looked l.turn).3 (λ k e. g.joined place k l.turn l.inside e) (g.knows place l.turn l.inside)
+  still = (l.looked l.turn).3 (λ k e. g.joined index k l.turn l.inside e) (g.knows index l.turn l.inside)
 
   looked : stripped l.turn.knows ≡ stripped before
   looked = ap stripped (l.looked l.turn).1.same ∙ ap (λ (es : List Entry). stripped (record before { seen = es })) still
@@ -49,10 +49,10 @@ module _ (p q : PassView) (place from : ℕ) (result : Result Changes NoMemory) 
   -- all else that is read of the turns is as before
   alike : {X : Type 0} (f : Knowledge → X) → map (λ (t : Known). f (stripped t.knows)) q.turns ≡ map (λ (t : Known). f (stripped t.knows)) p.turns
   alike f = ap (map (λ (t : Known). f (stripped t.knows))) l.turns_are
-      ∙ map-set_same (λ (t : Known). f (stripped t.knows)) p.turns place l.turn l.turn (ap f looked)
+      ∙ map-set_same (λ (t : Known). f (stripped t.knows)) p.turns index l.turn l.turn (ap f looked)
 
   as_many : length q.turns ≡ length p.turns
-  as_many = ap (λ (ts : List Known). length ts) l.turns_are ∙ length-set p.turns place l.turn
+  as_many = ap (λ (ts : List Known). length ts) l.turns_are ∙ length-set p.turns index l.turn
 
   at_place : (r : ℕ) (t : Known) → r < length p.turns
       → stripped (slice_index_or q.turns r t).knows ≡ stripped (slice_index_or p.turns r t).knows
@@ -77,7 +77,7 @@ module _ (p q : PassView) (place from : ℕ) (result : Result Changes NoMemory) 
   }
 
   abbrev at : List (List Entry) → ℕ → List Entry
-  at l place = slice_index_or l place []
+  at l index = slice_index_or l index []
 
   mine_alike : (other : ℕ) → mine_of q.turns other ≡ mine_of p.turns other
   mine_alike other = ap (λ (l : List (List Entry)). at l other) (alike (λ k. k.mine))
@@ -90,21 +90,21 @@ module _ (p q : PassView) (place from : ℕ) (result : Result Changes NoMemory) 
       ap (λ (l : List (List Entry)). at l other) (alike (λ k. calls_in (ended_of c k.ended)))))
 
 pub looks_keep : (c : Config) (p q : PassView) (rounds : List (List ScriptView)) (results : List Results) (last : Names)
-    (place from : ℕ) (result : Result Changes NoMemory) → HasReplayed c p rounds results last
-    → q ≡ record p { turns = q.turns } → HasLooked p q place from result
+    (index from : ℕ) (result : Result Changes NoMemory) → HasReplayed c p rounds results last
+    → q ≡ record p { turns = q.turns } → HasLooked p q index from result
     → HasReplayed c q rounds results last × ((other : ℕ) → seen_of q.turns other ≡ seen_of p.turns other)
-looks_keep c p q rounds results last place from result h same l =
+looks_keep c p q rounds results last index from result h same l =
     let g = h.gathered in (
       record {
         splits = ap (λ (v : PassView). v.splits) same ∙ h.splits;
-        gathered = gathered p q place from result l g;
-        own = λ other. mine_alike p q place from result l g other ∙ h.own other;
+        gathered = gathered p q index from result l g;
+        own = λ other. mine_alike p q index from result l g other ∙ h.own other;
         ran = subst (λ (own : ℕ → Own). RunsRounds c own 1 1 no_names rounds results last)
-            (sym (ended_alike p q place from result l g)) h.ran;
+            (sym (ended_alike p q index from result l g)) h.ran;
         seen = λ r t b.
-            let b' : r < length p.turns = omega (arith, b, as_many p q place from result l g) in
+            let b' : r < length p.turns = omega (arith, b, as_many p q index from result l g) in
             subst (λ (es : List Entry). InRounds 1 rounds es)
-            (sym (ap (λ (k : Knowledge). k.seen) (at_place p q place from result l g r t b'))) (h.seen r t b');
+            (sym (ap (λ (k : Knowledge). k.seen) (at_place p q index from result l g r t b'))) (h.seen r t b');
       },
-      seen_alike p q place from result l g,
+      seen_alike p q index from result l g,
     )

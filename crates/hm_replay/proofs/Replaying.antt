@@ -132,7 +132,7 @@ goes_on c p q rounds scripts results these names last h left splits ran =
     record {
       splits = omega (arith, n, splits, count_more rounds scripts);
       gathered = left.gathered h.gathered;
-      own = λ place. left.stays.mine place ∙ h.own place;
+      own = λ index. left.stays.mine index ∙ h.own index;
       ran = rounds_more c (ended_in q.turns) 1 1 no_names names last rounds scripts results these
           (rounds_as c (ended_in p.turns) (ended_in q.turns) 1 1 no_names rounds results names
           (λ k l m. sym (fun_ext (left.stays.others k (inl (omega (arith, m, n)))))) h.ran)
@@ -158,12 +158,12 @@ new_replays c locks p long founds none = record {
     knows = λ r t l. subst KnowsCallers (sym (knows r t l)) (founding_knows (origin r t l));
     joined = λ r k t l e. ap (λ (z : Knowledge). is_among k z.used) (knows r t l);
   };
-  own = λ place. elim (cases_lt place (length p.turns)) [
+  own = λ index. elim (cases_lt index (length p.turns)) [
     | inl l ↦
-        let t : Known = some_of p.turns place l in
-        get_or-map (λ (t : Known). t.knows.mine) p.turns place t [] l ∙ ap (λ (k : Knowledge). k.mine) (knows place t l)
+        let t : Known = some_of p.turns index l in
+        get_or-map (λ (t : Known). t.knows.mine) p.turns index t [] l ∙ ap (λ (k : Knowledge). k.mine) (knows index t l)
     | inr l ↦
-        get_or_past (map (λ (t : Known). t.knows.mine) p.turns) place []
+        get_or_past (map (λ (t : Known). t.knows.mine) p.turns) index []
         (omega (arith, l, length-map p.turns (λ (t : Known). t.knows.mine)))
   ];
   ran = (refl, refl);

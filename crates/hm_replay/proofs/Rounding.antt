@@ -241,15 +241,15 @@ module _ (locks : List Lock) (count : ℕ) (p z : PassView) (h : IsWholeRound lo
   stays : (total : ℕ) → count ≤ total → Stays (p.splits + 1) total p.turns z.turns
   stays total fewer =
       let n : length z.turns ≡ length p.turns = h.of_after.same ∙ sym h.of.same in
-      let at : List (List Entry) → ℕ → List Entry = λ l place. slice_index_or l place [] in
+      let at : List (List Entry) → ℕ → List Entry = λ l index. slice_index_or l index [] in
       record {
         as_many = n;
-        mine = λ place. ap (λ l. at l place)
+        mine = λ index. ap (λ l. at l index)
             (read_alike (λ (t : Known). t.knows.mine) (λ (t : Known). t.knows.mine) z.turns p.turns n
             (λ r t l. (h.each r t (inside r l)).mine));
-        others = λ c o place.
+        others = λ c o index.
             let calls : Known → List Entry = λ t. calls_in (ended_of c t.knows.ended) in
-            ap (λ l. at l place) (read_alike calls calls z.turns p.turns n
+            ap (λ l. at l index) (read_alike calls calls z.turns p.turns n
             (λ r t l. ap calls_in ((h.each r t (inside r l)).others c (wider (p.splits + 1) count total c fewer o))));
       }
 
@@ -370,7 +370,7 @@ ended_is locks p q z vs rs i w a o f l =
     let order = in_order locks (p.splits + 1) r vs o inside in
     sym (ap calls_in (ap (λ (h : PassView). ended_of c (slice_index_or h.turns r t).knows.ended) f.same
     ∙ knows (length locks) r t inside (p.splits + 1) i q.turns vs w a.of.same order l))) in
-    fun_ext (λ place. ap (λ (calls : List (List Entry)). slice_index_or calls place []) alike)
+    fun_ext (λ index. ap (λ (calls : List (List Entry)). slice_index_or calls index []) alike)
 
 abbrev pub AllMade : Config → List Worker → List Worker → Type 0
 AllMade c ws vs = (i : ℕ) (w : Worker) → i < length ws → KeepsMade c (slice_index_or ws i w) (slice_index_or vs i w)

@@ -35,7 +35,7 @@ pub gains_skipped : (ts : List Known) (t : Terms) (number : ℕ) (step : StepVie
     → Gains ts ts (Steps t number step o skipped)
 gains_skipped ts t number step o is =
     subst (λ (z : Option ℕ). Gains ts ts (Steps t number step z skipped)) is
-    (gains_none ts ts (Steps t number step None skipped) refl (λ xs. (refl, λ place. refl)))
+    (gains_none ts ts (Steps t number step None skipped) refl (λ xs. (refl, λ index. refl)))
 
 -- ---- a script
 pub pushed : (t : Terms) (n : ℕ) (names last : Names) (steps : List StepView) (s : StepView) (rs : List StepResult) (r : StepResult)
@@ -48,8 +48,8 @@ pushed t n names last [] s rs r xs ys zs ran step =
       later = [];
       left = zs;
       results_are = ap (λ (l : List StepResult). l ++ r ∷ []) ran.0;
-      this = transport (λ i. Steps t (here i) s (base_of (ran.1 i) s) r (λ place. ran.2 place i) zs) step;
-      rest = (refl, ap (λ (l : Names). names_after l s r.answer) ran.1, λ place. refl);
+      this = transport (λ i. Steps t (here i) s (base_of (ran.1 i) s) r (λ index. ran.2 index i) zs) step;
+      rest = (refl, ap (λ (l : Names). names_after l s r.answer) ran.1, λ index. refl);
     }
 pushed t n names last (u ∷ steps) s rs r xs ys zs ran step =
     let next : n + suc (length steps) ≡ (n + 1) + length steps = omega arith in
@@ -63,7 +63,7 @@ pushed t n names last (u ∷ steps) s rs r xs ys zs ran step =
           (subst (λ (m : ℕ). Steps t m s (base_of last s) r ys zs) next step);
     }
 
--- how many steps are before the one at a place
+-- how many steps are before the one at an index
 pub steps_before : (steps : List Step) (i : ℕ) → i < length steps → i + 1 ≡ 1 + length (steps_view (take i steps))
 steps_before steps i lt =
     omega (arith, length-map (take i steps) step_view ∙ length-take-le i steps (omega (arith, lt)))
@@ -103,7 +103,7 @@ touched_more touched steps s = fun_ext (λ q.
         or_assoc (sets_name q u) (list_any (sets_name q) steps) (sets_name q s)
         ∙ ap (λ (b : Bool). sets_name q u || b) (any_last q steps)
 
--- what every step passes, the step at a place passes
+-- what every step passes, the step at an index passes
 pub passes_at : (test : StepView → Bool) (steps : List Step) (i : ℕ) (s : Step) → list_all test (steps_view steps) ≡ true
     → i < length steps → s ≡ get_or steps i s → test (step_view s) ≡ true
 passes_at test [] i s all lt is = absurd (omega arith)
@@ -113,9 +113,9 @@ passes_at test (x ∷ xs) (suc i) s all lt is =
     passes_at test xs i s (and_parts (test (step_view x)) (list_all test (steps_view xs)) all).1 (omega arith) is
 
 -- what was gained by turns without own entries is all that they have
-pub gained_all : (ts us : List Known) (Is : Own → Own → Type 0) → ((place : ℕ) → mine_of ts place ≡ []) → Gains ts us Is
+pub gained_all : (ts us : List Known) (Is : Own → Own → Type 0) → ((index : ℕ) → mine_of ts index ≡ []) → Gains ts us Is
     → Is (mine_of us) used_up
 gained_all ts us Is fresh g =
     subst (λ (xs : Own). Is xs used_up)
-    (fun_ext (λ place. append-nil (g.own place) ∙ ap (λ z. z ++ g.own place) (sym (fresh place)) ∙ sym (g.mine place)))
+    (fun_ext (λ index. append-nil (g.own index) ∙ ap (λ z. z ++ g.own index) (sym (fresh index)) ∙ sym (g.mine index)))
     (g.is used_up)

@@ -15,7 +15,7 @@ use Rattle.hm_replay.specs.Gains.{mine_of}
 use Rattle.hm_replay.specs.declared.round.Worker.{Worker}
 use Rattle.hm_replay.specs.Workers.{IsReady, HasParted, IsBegun, HasCut}
 
--- the workers that were started so far, each for the script at its place
+-- the workers that were started so far, each for the script at its index
 pub record StartedTo (locks : List Lock) (round : ℕ) (p q : PassView) (scripts : List ScriptView) (names : Names)
     (workers : List Worker) : Type 0 where
   pub parted : HasParted locks (length workers) p q
@@ -53,10 +53,10 @@ parted_more locks n p q q' i e =
           });
     }
 
-pub mine_born : (c : ℕ) (ts : List Known) (place : ℕ) → mine_of (map (born c) ts) place ≡ []
-mine_born c [] place = refl
+pub mine_born : (c : ℕ) (ts : List Known) (index : ℕ) → mine_of (map (born c) ts) index ≡ []
+mine_born c [] index = refl
 mine_born c (t ∷ ts) zero = refl
-mine_born c (t ∷ ts) (suc place) = mine_born c ts place
+mine_born c (t ∷ ts) (suc index) = mine_born c ts index
 
 ready_born : (locks : List Lock) (q p' : PassView) (c : ℕ) (s : ScriptView) → AreOf locks q.turns → p'.caller ≡ c
     → p'.thread ≡ s.thread → p'.turns ≡ map (born c) q.turns → IsReady locks p' s
@@ -69,7 +69,7 @@ ready_born locks q p' c s o k th e =
           ap (λ z. slice_index_or z r t) e ∙ get_or-map (born c) q.turns r t t (omega arith) in
           ap (λ (z : Known). z.knows.caller) u ∙ sym k;
       thread = th;
-      fresh = λ place. ap (λ (z : List Known). mine_of z place) e ∙ mine_born c q.turns place;
+      fresh = λ index. ap (λ (z : List Known). mine_of z index) e ∙ mine_born c q.turns index;
     }
 
 -- what holds of each element and of one more holds of each with that

@@ -34,7 +34,7 @@ IsBusy r = IsOkAnd r (λ a. is_busy a ≡ true)
 -- ---- plans of one part
 abbrev pub IsSingle : Plan → Type 0
 IsSingle (Done a) = Unit {0}
-IsSingle (Part place call next) = (reply : Reply) → next reply ≡ replied reply
+IsSingle (Part index call next) = (reply : Reply) → next reply ≡ replied reply
 
 allot_single : (c : Config) (thread asked align : ℕ) (kind : Kind) → IsSingle (allot_plan c thread asked align kind)
 allot_single c thread asked align TooLarge = tt
@@ -46,7 +46,7 @@ malloc_single c thread asked plan m = subst IsSingle (sym m.is) (allot_single c 
 
 home_single : (home : Option ℕ) (call : Call) → IsSingle (at_home home call)
 home_single None call = tt
-home_single (Some place) call = λ reply. refl
+home_single (Some index) call = λ reply. refl
 
 pub free_single : (c : Config) (a : ℕ) (stated : Option ℕ) → IsSingle (free_plan c a stated)
 free_single c a stated =
@@ -67,48 +67,48 @@ lost_grew t u lock e = record {
   begins = subst (λ (k : Knowledge). StartsWith k.seen t.knows.seen) (sym e) (starts_itself t.knows.seen);
 }
 
-idles_one : (ts us : List Known) (place : ℕ) (u : Known) → place < length ts → us ≡ slice_set ts place u
-    → ((t : Known) → (u.lock ≡ (slice_index_or ts place t).lock) × (u.knows ≡ with_lost (slice_index_or ts place t).knows))
+idles_one : (ts us : List Known) (index : ℕ) (u : Known) → index < length ts → us ≡ slice_set ts index u
+    → ((t : Known) → (u.lock ≡ (slice_index_or ts index t).lock) × (u.knows ≡ with_lost (slice_index_or ts index t).knows))
     → Idles ts us
-idles_one ts us place u inside set lost = record {
+idles_one ts us index u inside set lost = record {
   gains = record {
     own = λ other. [];
     mine = λ other.
         ap (λ z. mine_of z other) set
         ∙ ap (λ (z : List (List Entry)). slice_index_or z other [])
-        (map-set_same (λ (t : Known). t.knows.mine) ts place u u (ap (λ (k : Knowledge). k.mine) (lost u).1))
+        (map-set_same (λ (t : Known). t.knows.mine) ts index u u (ap (λ (k : Knowledge). k.mine) (lost u).1))
         ∙ sym (append-nil (mine_of ts other));
     is = λ left. refl;
   };
-  grew = all_grew_one ts us place u inside set (λ t. lost_grew (slice_index_or ts place t) u (lost t).0 (lost t).1);
+  grew = all_grew_one ts us index u inside set (λ t. lost_grew (slice_index_or ts index t) u (lost t).0 (lost t).1);
 }
 
-part_idle : (p m q : PassView) (step place : ℕ) (who : Who) (call : Call) (next : Reply → Plan) (r : Result Answer NoMemory)
+part_idle : (p m q : PassView) (step index : ℕ) (who : Who) (call : Call) (next : Reply → Plan) (r : Result Answer NoMemory)
     (tried : Option (Result Reply NoMemory)) → ((reply : Reply) → next reply ≡ replied reply) → IsBusy r
-    → HasTried p m place who call tried
+    → HasTried p m index who call tried
     → MatchOption tried ((q ≡ m) × (r ≡ Ok answer.Busy)) (GoesOn m q r (λ between reply. Follows between q step 2 (next reply) r))
     → Idles p.turns q.turns
-part_idle p m q step place who call next r None single busy h rest =
+part_idle p m q step index who call next r None single busy h rest =
     subst (λ (z : PassView). Idles p.turns z.turns) (sym rest.0)
-    (idles_one p.turns m.turns place h.turn h.inside h.turns_are h.tried)
-part_idle p m q step place who call next r (Some (Err e)) single busy h rest = absurd (subst IsBusy rest.1 busy)
-part_idle p m q step place who call next r (Some (Ok reply)) single busy h rest =
+    (idles_one p.turns m.turns index h.turn h.inside h.turns_are h.tried)
+part_idle p m q step index who call next r (Some (Err e)) single busy h rest = absurd (subst IsBusy rest.1 busy)
+part_idle p m q step index who call next r (Some (Ok reply)) single busy h rest =
     absurd (true≢false (sym (subst IsBusy (subst (λ (z : Plan). Follows m q step 2 z r) (single reply) rest).0 busy)))
 
 pub tries_idle : (p q : PassView) (step : ℕ) (plan : Plan) (r : Result Answer NoMemory) → IsSingle plan → IsBusy r
     → Tries p q step plan r → Idles p.turns q.turns
 tries_idle p q step (Done a) r single busy t = idles_none p.turns q.turns (ap (λ (z : PassView). z.turns) t.1)
-tries_idle p q step (Part place call next) r single busy t =
-    part_idle p t.between q step place (who_of p step 1) call next r t.tried single busy t.part t.rest
+tries_idle p q step (Part index call next) r single busy t =
+    part_idle p t.between q step index (who_of p step 1) call next r t.tried single busy t.part t.rest
 
 -- ---- it was free: the plan was followed
-part_follows : (p m q : PassView) (step place : ℕ) (call : Call) (next : Reply → Plan) (r : Result Answer NoMemory)
+part_follows : (p m q : PassView) (step index : ℕ) (call : Call) (next : Reply → Plan) (r : Result Answer NoMemory)
     (tried : Option (Result Reply NoMemory)) → (IsBusy r → ⊥) → m ≡ record p { turns = m.turns }
-    → HasTried p m place (who_of p step 1) call tried
+    → HasTried p m index (who_of p step 1) call tried
     → MatchOption tried ((q ≡ m) × (r ≡ Ok answer.Busy)) (GoesOn m q r (λ between reply. Follows between q step 2 (next reply) r))
-    → Follows p q step 1 (Part place call next) r
-part_follows p m q step place call next r None not same h rest = absurd (not (subst IsBusy (sym rest.1) refl))
-part_follows p m q step place call next r (Some made) not same h rest = record {
+    → Follows p q step 1 (Part index call next) r
+part_follows p m q step index call next r None not same h rest = absurd (not (subst IsBusy (sym rest.1) refl))
+part_follows p m q step index call next r (Some made) not same h rest = record {
   between = m;
   made = made;
   same = same;
@@ -119,8 +119,8 @@ part_follows p m q step place call next r (Some made) not same h rest = record {
 pub tries_follows : (p q : PassView) (step : ℕ) (plan : Plan) (r : Result Answer NoMemory) → (IsBusy r → ⊥)
     → Tries p q step plan r → Follows p q step 1 plan r
 tries_follows p q step (Done a) r not t = t
-tries_follows p q step (Part place call next) r not t =
-    part_follows p t.between q step place call next r t.tried not t.same t.part t.rest
+tries_follows p q step (Part index call next) r not t =
+    part_follows p t.between q step index call next r t.tried not t.same t.part t.rest
 
 -- ---- the call that waits, after one that found the turn not free
 pub after_busy : (IsPlan : ℕ → Plan → Type 0) (p m q : PassView) (step : ℕ) (r : Result Answer NoMemory)

@@ -21,17 +21,17 @@ use Rattle.hm_replay.proofs.Entries.{all_of_trace, callers_of}
 use Rattle.hm_replay.proofs.Replaying.{all_seen, replays_close}
 use Rattle.hm_replay.proofs.Turns.{some_of}
 
--- ---- what the turn at a place has seen
-pub sees_more : (first count : ℕ) (ts us : List Known) → length us ≡ length ts → AllSeeMore first count ts us → (place : ℕ)
-    → SeesMore first count (seen_of ts place) (seen_of us place)
-sees_more first count ts us long all place = elim (cases_lt place (length ts)) [
+-- ---- what the turn at an index has seen
+pub sees_more : (first count : ℕ) (ts us : List Known) → length us ≡ length ts → AllSeeMore first count ts us → (index : ℕ)
+    → SeesMore first count (seen_of ts index) (seen_of us index)
+sees_more first count ts us long all index = elim (cases_lt index (length ts)) [
   | inl b ↦
-      let t : Known = some_of ts place b in
-      let m = all place t b in
+      let t : Known = some_of ts index b in
+      let m = all index t b in
       record {
         more = m.more;
-        is = get_or-map seen us place t [] (omega (arith, b, long)) ∙ m.is
-            ∙ ap (λ (es : List Entry). es ++ m.more) (sym (get_or-map seen ts place t [] b));
+        is = get_or-map seen us index t [] (omega (arith, b, long)) ∙ m.is
+            ∙ ap (λ (es : List Entry). es ++ m.more) (sym (get_or-map seen ts index t [] b));
         callers = m.callers;
       }
   | inr b ↦
@@ -45,8 +45,8 @@ sees_more first count ts us long all place = elim (cases_lt place (length ts)) [
     seen : Known → List Entry
     seen t = t.knows.seen
 
-    none : (vs : List Known) → length vs ≤ place → seen_of vs place ≡ []
-    none vs past = get_or_past (map seen vs) place [] (omega (arith, past, length-map vs seen))
+    none : (vs : List Known) → length vs ≤ index → seen_of vs index ≡ []
+    none vs past = get_or_past (map seen vs) index [] (omega (arith, past, length-map vs seen))
 
 -- ---- one more round
 module _ (number : List Entry → ℕ) where
@@ -85,15 +85,15 @@ module _ (number : List Entry → ℕ) where
       )
 
 pub goes_on : (c : Config) (p q : PassView) (rounds : List (List ScriptView)) (scripts : List ScriptView)
-    (results : List Results) (names : Names) (place : ℕ) (number : List Entry → ℕ) (numbers : List ℕ)
+    (results : List Results) (names : Names) (index : ℕ) (number : List Entry → ℕ) (numbers : List ℕ)
     → HasReplayed c p rounds results names → LeavesRoot (length scripts) p q
-    → IsWatched number 1 rounds [] (seen_of p.turns place) numbers
-    → IsWatched number 1 (rounds ++ scripts ∷ []) [] (seen_of q.turns place) (numbers ++ number (seen_of q.turns place) ∷ [])
-goes_on c p q rounds scripts results names place number numbers h left w =
+    → IsWatched number 1 rounds [] (seen_of p.turns index) numbers
+    → IsWatched number 1 (rounds ++ scripts ∷ []) [] (seen_of q.turns index) (numbers ++ number (seen_of q.turns index) ∷ [])
+goes_on c p q rounds scripts results names index number numbers h left w =
     let caller : p.splits + 1 ≡ 1 + script_count rounds = omega (arith, h.splits) in
-    let more = sees_more (p.splits + 1) (length scripts) p.turns q.turns left.stays.as_many (left.seen h.gathered) place in
+    let more = sees_more (p.splits + 1) (length scripts) p.turns q.turns left.stays.as_many (left.seen h.gathered) index in
     subst (λ (es : List Entry). IsWatched number 1 (rounds ++ scripts ∷ []) [] es (numbers ++ number es ∷ [])) (sym more.is)
-    (watched_more number 1 rounds scripts [] (seen_of p.turns place) more.more numbers w
+    (watched_more number 1 rounds scripts [] (seen_of p.turns index) more.more numbers w
     (subst (λ (k : ℕ). AreOfCallers k (length scripts) more.more) caller more.callers))
 
 -- ---- the rounds of entries
@@ -226,15 +226,15 @@ module _ (number meant : List Entry → ℕ) where
       w.5 ∙ (λ i. one i ∷ others i)
 
 pub numbers_close : (c : Config) (p : PassView) (hs : List History) (rounds : List (List ScriptView)) (results : List Results)
-    (last : Names) (place : ℕ) (number meant : List Entry → ℕ) (numbers : List ℕ) → HasReplayed c p rounds results last
+    (last : Names) (index : ℕ) (number meant : List Entry → ℕ) (numbers : List ℕ) → HasReplayed c p rounds results last
     → length hs ≡ length p.turns
     → ((r : ℕ) (t : Known) (h : History) → r < length p.turns
     → IsWhole (slice_index_or hs r h).entries (slice_index_or p.turns r t).knows)
-    → IsWatched number 1 rounds [] (seen_of p.turns place) numbers
-    → ((front later : List Entry) → entries_at hs place ≡ front ++ later → number front ≡ meant front)
-    → numbers ≡ numbers_upto meant 1 rounds (entries_at hs place)
-numbers_close c p hs rounds results last place number meant numbers h long whole w is =
-    numbers_are number meant 1 1 rounds [] (entries_at hs place) numbers tt of is
+    → IsWatched number 1 rounds [] (seen_of p.turns index) numbers
+    → ((front later : List Entry) → entries_at hs index ≡ front ++ later → number front ≡ meant front)
+    → numbers ≡ numbers_upto meant 1 rounds (entries_at hs index)
+numbers_close c p hs rounds results last index number meant numbers h long whole w is =
+    numbers_are number meant 1 1 rounds [] (entries_at hs index) numbers tt of is
     (subst (λ (es : List Entry). IsWatched number 1 rounds [] es numbers) seen_is w)
   where
     entries : History → List Entry
@@ -243,29 +243,29 @@ numbers_close c p hs rounds results last place number meant numbers h long whole
     seen : Known → List Entry
     seen t = t.knows.seen
 
-    seen_is : seen_of p.turns place ≡ entries_at hs place
-    seen_is = elim (cases_lt place (length p.turns)) [
+    seen_is : seen_of p.turns index ≡ entries_at hs index
+    seen_is = elim (cases_lt index (length p.turns)) [
       | inl b ↦
-          let t : Known = some_of p.turns place b in
-          let b' : place < length hs = omega (arith, b, long) in
-          let x : History = some_of hs place b' in
-          get_or-map seen p.turns place t [] b
-          ∙ sym (all_seen (slice_index_or hs place x).entries (slice_index_or p.turns place t).knows
-          (h.gathered.first place t b) (whole place t x b) (h.gathered.knows place t b)
-          (λ k e. h.gathered.joined place k t b e))
-          ∙ sym (get_or-map entries hs place x [] b')
+          let t : Known = some_of p.turns index b in
+          let b' : index < length hs = omega (arith, b, long) in
+          let x : History = some_of hs index b' in
+          get_or-map seen p.turns index t [] b
+          ∙ sym (all_seen (slice_index_or hs index x).entries (slice_index_or p.turns index t).knows
+          (h.gathered.first index t b) (whole index t x b) (h.gathered.knows index t b)
+          (λ k e. h.gathered.joined index k t b e))
+          ∙ sym (get_or-map entries hs index x [] b')
       | inr b ↦
-          get_or_past (map seen p.turns) place [] (omega (arith, b, length-map p.turns seen))
-          ∙ sym (get_or_past (map entries hs) place [] (omega (arith, b, long, length-map hs entries)))
+          get_or_past (map seen p.turns) index [] (omega (arith, b, length-map p.turns seen))
+          ∙ sym (get_or_past (map entries hs) index [] (omega (arith, b, long, length-map hs entries)))
     ]
 
-    of : EachIs (IsOfTrace 1 1 rounds) (entries_at hs place)
-    of = elim (cases_lt place (length hs)) [
+    of : EachIs (IsOfTrace 1 1 rounds) (entries_at hs index)
+    of = elim (cases_lt index (length hs)) [
       | inl b ↦
-          let x : History = some_of hs place b in
-          subst (λ (es : List Entry). EachIs (IsOfTrace 1 1 rounds) es) (sym (get_or-map entries hs place x [] b))
-          (all_of_trace c hs rounds results last (replays_close c p hs rounds results last h long whole) place x b)
+          let x : History = some_of hs index b in
+          subst (λ (es : List Entry). EachIs (IsOfTrace 1 1 rounds) es) (sym (get_or-map entries hs index x [] b))
+          (all_of_trace c hs rounds results last (replays_close c p hs rounds results last h long whole) index x b)
       | inr b ↦
           subst (λ (es : List Entry). EachIs (IsOfTrace 1 1 rounds) es)
-          (sym (get_or_past (map entries hs) place [] (omega (arith, b, length-map hs entries)))) tt
+          (sym (get_or_past (map entries hs) index [] (omega (arith, b, length-map hs entries)))) tt
     ]

@@ -20,15 +20,15 @@ use Rattle.hm_replay.specs.Uses.{Own}
 abbrev pub terms_of : HeapView → PassView → Terms
 terms_of h p = record { config = h.config; caller = p.caller; round = p.round; thread = p.thread }
 
--- the own entries of the turn at each place
+-- the own entries of the turn at each index
 abbrev pub mine_of : List Known → Own
-mine_of ts place = slice_index_or (map (λ (t : Known). t.knows.mine) ts) place []
+mine_of ts index = slice_index_or (map (λ (t : Known). t.knows.mine) ts) index []
 
 -- the own entries grew by what this uses up
 pub record Gains (ts us : List Known) (Is : Own → Own → Type 0) : Type 0 where
   pub own : Own
-  pub mine : (place : ℕ) → mine_of us place ≡ mine_of ts place ++ own place
-  pub is : (left : Own) → Is (λ place. own place ++ left place) left
+  pub mine : (index : ℕ) → mine_of us index ≡ mine_of ts index ++ own index
+  pub is : (left : Own) → Is (λ index. own index ++ left index) left
 
 -- a call of this step by one of these plans had this answer
 abbrev pub GainsAnswer : (Plan → Type 0) → PassView → PassView → ℕ → Answer → Type 0
@@ -63,7 +63,7 @@ pub record Grew (t u : Known) : Type 0 where
 
 pub record AllGrew (ts us : List Known) : Type 0 where
   pub as_many : length us ≡ length ts
-  pub each : (place : ℕ) (t : Known) → Grew (slice_index_or ts place t) (slice_index_or us place t)
+  pub each : (index : ℕ) (t : Known) → Grew (slice_index_or ts index t) (slice_index_or us index t)
 
 -- pass p is pass q some calls later: only its turns are others, they are of these locks, and what they know has grown
 pub record WentOn (locks : List Lock) (p q : PassView) : Type 0 where

@@ -23,7 +23,7 @@ pub record HasReplayed (c : Config) (p : PassView) (rounds : List (List ScriptVi
     (last : Names) : Type 0 where
   pub splits : p.splits ≡ script_count rounds
   pub gathered : IsGathered p
-  pub own : (place : ℕ) → mine_of p.turns place ≡ []
+  pub own : (index : ℕ) → mine_of p.turns index ≡ []
   pub ran : RunsRounds c (ended_in p.turns) 1 1 no_names rounds results last
   pub seen : (r : ℕ) (t : Known) → r < length p.turns → InRounds 1 rounds (slice_index_or p.turns r t).knows.seen
 

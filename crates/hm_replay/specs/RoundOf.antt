@@ -16,9 +16,9 @@ abbrev pub calls_in : Option (List Entry) → List Entry
 calls_in None = []
 calls_in (Some calls) = calls
 
--- the entries that a joined caller has made, of the region at each place
+-- the entries that a joined caller has made, of the region at each index
 abbrev pub ended_in : List Known → ℕ → Own
-ended_in ts caller place = slice_index_or (map (λ (t : Known). calls_in (ended_of caller t.knows.ended)) ts) place []
+ended_in ts caller index = slice_index_or (map (λ (t : Known). calls_in (ended_of caller t.knows.ended)) ts) index []
 
 -- of the first pass: each turn is caller 0's, and knows what all callers did; all that were split off are joined
 pub record IsGathered (p : PassView) : Type 0 where
@@ -31,9 +31,9 @@ pub record IsGathered (p : PassView) : Type 0 where
 -- what the first pass made itself stays, and so do the entries of callers but these
 pub record Stays (first count : ℕ) (ts us : List Known) : Type 0 where
   pub as_many : length us ≡ length ts
-  pub mine : (place : ℕ) → mine_of us place ≡ mine_of ts place
+  pub mine : (index : ℕ) → mine_of us index ≡ mine_of ts index
   pub others : (caller : ℕ) → (caller < first) ⊎ (first + count ≤ caller)
-      → (place : ℕ) → ended_in us caller place ≡ ended_in ts caller place
+      → (index : ℕ) → ended_in us caller index ≡ ended_in ts caller index
 
 -- what was seen has grown by entries of these callers alone
 pub record SeesMore (first count : ℕ) (before after : List Entry) : Type 0 where

@@ -66,7 +66,7 @@ script_count (scripts ∷ rounds) = length scripts + script_count rounds
 -- ---- the histories
 -- the entries of a caller over all histories
 abbrev pub own_in : List History → ℕ → Own
-own_in hs caller place = calls_of (slice_index_or (map (λ (h : History). h.entries) hs) place []) caller
+own_in hs caller index = calls_of (slice_index_or (map (λ (h : History). h.entries) hs) index []) caller
 
 -- each entry is of one of so many callers, from the first on
 abbrev pub AreOfCallers : ℕ → ℕ → List Entry → Type 0

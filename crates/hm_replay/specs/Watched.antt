@@ -17,13 +17,13 @@ use Rattle.hm_replay.specs.Rounds.{AreOfCallers}
 use Rattle.hm_replay.specs.Replays.{HasReplayed}
 
 -- ---- entries
--- those that the turn at a place has seen
+-- those that the turn at an index has seen
 abbrev pub seen_of : List Known → ℕ → List Entry
-seen_of ts place = slice_index_or (map (λ (t : Known). t.knows.seen) ts) place []
+seen_of ts index = slice_index_or (map (λ (t : Known). t.knows.seen) ts) index []
 
--- those of the history at a place
+-- those of the history at an index
 abbrev pub entries_at : List History → ℕ → List Entry
-entries_at hs place = slice_index_or (map (λ (h : History). h.entries) hs) place []
+entries_at hs index = slice_index_or (map (λ (h : History). h.entries) hs) index []
 
 -- those of the rounds up to this one
 abbrev pub upto : ℕ → List Entry → List Entry
@@ -51,31 +51,31 @@ module _ (number : List Entry → ℕ) where
 -- of a look at a region's entries: what the rounds have left of the first pass stays, and so does what it has seen
 abbrev pub LooksKeep : Type 0
 LooksKeep = (c : Config) (p q : PassView) (rounds : List (List ScriptView)) (results : List Results) (last : Names)
-    (place from : ℕ) (result : Result Changes NoMemory)
+    (index from : ℕ) (result : Result Changes NoMemory)
     → HasReplayed c p rounds results last
     → q ≡ record p { turns = q.turns }
-    → HasLooked p q place from result
+    → HasLooked p q index from result
     → HasReplayed c q rounds results last × ((other : ℕ) → seen_of q.turns other ≡ seen_of p.turns other)
 
 -- of one more round: the numbers go on with that of all that was seen
 abbrev pub NumbersGoOn : Type 0
 NumbersGoOn = (c : Config) (p q : PassView) (rounds : List (List ScriptView)) (scripts : List ScriptView)
-    (results : List Results) (names : Names) (place : ℕ) (number : List Entry → ℕ) (numbers : List ℕ)
+    (results : List Results) (names : Names) (index : ℕ) (number : List Entry → ℕ) (numbers : List ℕ)
     → HasReplayed c p rounds results names
     → LeavesRoot (length scripts) p q
-    → IsWatched number 1 rounds [] (seen_of p.turns place) numbers
-    → IsWatched number 1 (rounds ++ scripts ∷ []) [] (seen_of q.turns place)
-    (numbers ++ number (seen_of q.turns place) ∷ [])
+    → IsWatched number 1 rounds [] (seen_of p.turns index) numbers
+    → IsWatched number 1 (rounds ++ scripts ∷ []) [] (seen_of q.turns index)
+    (numbers ++ number (seen_of q.turns index) ∷ [])
 
 -- of the histories: where the number of what a history begins with is another one, the numbers are these, of the entries
 -- of the rounds up to each one
 abbrev pub NumbersClose : Type 0
 NumbersClose = (c : Config) (p : PassView) (hs : List History) (rounds : List (List ScriptView))
-    (results : List Results) (last : Names) (place : ℕ) (number meant : List Entry → ℕ) (numbers : List ℕ)
+    (results : List Results) (last : Names) (index : ℕ) (number meant : List Entry → ℕ) (numbers : List ℕ)
     → HasReplayed c p rounds results last
     → length hs ≡ length p.turns
     → ((r : ℕ) (t : Known) (h : History) → r < length p.turns
     → IsWhole (slice_index_or hs r h).entries (slice_index_or p.turns r t).knows)
-    → IsWatched number 1 rounds [] (seen_of p.turns place) numbers
-    → ((front later : List Entry) → entries_at hs place ≡ front ++ later → number front ≡ meant front)
-    → numbers ≡ numbers_upto meant 1 rounds (entries_at hs place)
+    → IsWatched number 1 rounds [] (seen_of p.turns index) numbers
+    → ((front later : List Entry) → entries_at hs index ≡ front ++ later → number front ≡ meant front)
+    → numbers ≡ numbers_upto meant 1 rounds (entries_at hs index)

@@ -94,7 +94,7 @@ pub(crate) fn run_with<R: Wait, P: Pages, G: Gate, E: Addresses>(
 ) -> Result<Results, NoMemory>
     requires of { AreOf heap.now.locks pass.old.turns }
     requires thread { pass.old.thread ≡ script.now.thread }
-    requires fresh { (place : ℕ) → mine_of pass.old.turns place ≡ [] }
+    requires fresh { (index : ℕ) → mine_of pass.old.turns index ≡ [] }
     ensures run { WentOn heap.now.locks pass.old pass.new }
     ensures results { IfOk result (λ rs. (rs.round ≡ pass.old.round) × (rs.thread ≡ script.now.thread)) }
     ensures ran { IfOk result (λ rs. RunsAllSteps (terms_of heap.now pass.old) (E.names env.old) script.now.steps
@@ -125,7 +125,7 @@ pub fn run_script<R: Wait, P: Pages, G: Gate>(
 ) -> Result<Results, NoMemory>
     requires of { AreOf heap.now.locks pass.old.turns }
     requires thread { pass.old.thread ≡ script.now.thread }
-    requires fresh { (place : ℕ) → mine_of pass.old.turns place ≡ [] }
+    requires fresh { (index : ℕ) → mine_of pass.old.turns index ≡ [] }
     ensures run { WentOn heap.now.locks pass.old pass.new }
     ensures results { IfOk result (λ rs. (rs.round ≡ pass.old.round) × (rs.thread ≡ script.now.thread)) }
     ensures ran { IfOk result (λ rs. RunsAllSteps (terms_of heap.now pass.old) (held env.old) script.now.steps rs.items

@@ -62,19 +62,19 @@ module _ {P : Type 0} (meaning : pages.Ghosts P) where
       }
 
   -- ---- what the histories begin with
-  module _ (o : Options) (closed : Closed P) (place : ℕ) (p : P) (entries : List Entry) (begins : Begins meaning o closed place p entries) where
-    end : IsEnd meaning (origin_at meaning o place p) begins.history p
-    end = begins.ends.each place begins.history p begins.history_is begins.pages_are
+  module _ (o : Options) (closed : Closed P) (index : ℕ) (p : P) (entries : List Entry) (begins : Begins meaning o closed index p entries) where
+    end : IsEnd meaning (origin_at meaning o index p) begins.history p
+    end = begins.ends.each index begins.history p begins.history_is begins.pages_are
 
-    pub is_region : IsRegionOf (origin_at meaning o place p)
+    pub is_region : IsRegionOf (origin_at meaning o index p)
     is_region = end.sound.is_region
 
-    pub lawful : IsLawful (origin_at meaning o place p) entries
-    lawful = lawful_front (origin_at meaning o place p) entries begins.later
-        (subst (λ (es : List Entry). IsLawful (origin_at meaning o place p) es) begins.is end.sound.lawful)
+    pub lawful : IsLawful (origin_at meaning o index p) entries
+    lawful = lawful_front (origin_at meaning o index p) entries begins.later
+        (subst (λ (es : List Entry). IsLawful (origin_at meaning o index p) es) begins.is end.sound.lawful)
 
-    pub place_below : place < region_count (config_of o) + 1
-    place_below = omega (arith, slice_get_within closed.histories place begins.history begins.history_is, begins.ends.histories)
+    pub place_below : index < region_count (config_of o) + 1
+    place_below = omega (arith, slice_get_within closed.histories index begins.history begins.history_is, begins.ends.histories)
 
   -- two places of one region are one
   one_place : (count r s : ℕ) → count ≤ 196 → r < count + 1 → s < count + 1 → cond (nat_lt r count) r 196 ≡ cond (nat_lt s count) s 196 → r ≡ s
@@ -84,9 +84,9 @@ module _ {P : Type 0} (meaning : pages.Ghosts P) where
   few_regions c most = omega (arith, most)
 
   pub regions_apart : heap_laws.RegionsApart → (o : Options) (closed : Closed P) → RegionsApart meaning o closed
-  regions_apart apart o closed place other p their_p entries theirs begins their_begins a b q one two =
-      let of = is_region o closed place p entries begins in
-      one_place (region_count (config_of o)) place other (few_regions (config_of o) of.valid.arenas_most)
-      (place_below o closed place p entries begins) (place_below o closed other their_p theirs their_begins)
-      (apart (origin_at meaning o place p) (origin_at meaning o other their_p) entries theirs a b q refl
-      of (is_region o closed other their_p theirs their_begins) (lawful o closed place p entries begins) (lawful o closed other their_p theirs their_begins) one two)
+  regions_apart apart o closed index other p their_p entries theirs begins their_begins a b q one two =
+      let of = is_region o closed index p entries begins in
+      one_place (region_count (config_of o)) index other (few_regions (config_of o) of.valid.arenas_most)
+      (place_below o closed index p entries begins) (place_below o closed other their_p theirs their_begins)
+      (apart (origin_at meaning o index p) (origin_at meaning o other their_p) entries theirs a b q refl
+      of (is_region o closed other their_p theirs their_begins) (lawful o closed index p entries begins) (lawful o closed other their_p theirs their_begins) one two)

@@ -49,22 +49,22 @@ module _ {P : Type 0} (meaning : pages.Ghosts P) (o : Options) (closed : Closed 
       → entries_at closed.histories (large_index (config_of o)) ≡ front ++ later
       → size_sum front ≡ live_sum (config_of o) front
   sums_alike law ends front later is =
-      let place : ℕ = large_index (config_of o) in
-      let b : place < length closed.histories = omega (arith, ends.histories) in
-      let b' : place < length closed.pages = omega (arith, b, ends.pages) in
-      let h : History = some_of closed.histories place b in
-      let p : P = slice_index_or closed.pages place (some_of closed.pages place b') in
-      let begins : Begins meaning o closed place p front =
+      let index : ℕ = large_index (config_of o) in
+      let b : index < length closed.histories = omega (arith, ends.histories) in
+      let b' : index < length closed.pages = omega (arith, b, ends.pages) in
+      let h : History = some_of closed.histories index b in
+      let p : P = slice_index_or closed.pages index (some_of closed.pages index b') in
+      let begins : Begins meaning o closed index p front =
       record {
         ends = ends;
-        pages_are = slice_get-get_or closed.pages place (some_of closed.pages place b') b';
-        history = slice_index_or closed.histories place h;
-        history_is = slice_get-get_or closed.histories place h b;
+        pages_are = slice_get-get_or closed.pages index (some_of closed.pages index b') b';
+        history = slice_index_or closed.histories index h;
+        history_is = slice_get-get_or closed.histories index h b;
         later = later;
-        is = sym (get_or-map (λ (h : History). h.entries) closed.histories place h [] b) ∙ is;
+        is = sym (get_or-map (λ (h : History). h.entries) closed.histories index h [] b) ∙ is;
       } in
-      let terms : Terms = large_terms (origin_at meaning o place p) in
-      let legal = ((lawful meaning o closed place p front begins).large (large_there (config_of o))).legal in
+      let terms : Terms = large_terms (origin_at meaning o index p) in
+      let legal = ((lawful meaning o closed index p front begins).large (large_there (config_of o))).legal in
       (law terms front legal).total
       ∙ ap (λ (s : State). sum_by (λ (b : ℕ × Block). b.1.size) s.live)
       (same_state terms (record { config = config_of o; told = true }) start front)

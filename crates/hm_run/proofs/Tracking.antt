@@ -33,26 +33,26 @@ use Rattle.hm_run.specs.Watches.{large_seen, size_sum, Follows, Tracks, TracksFr
 abbrev seen : Known → List Entry
 seen t = t.knows.seen
 
-pub seen_before : (p : PassView) (place : ℕ) (t : Known) → place < length p.turns
-    → seen_of p.turns place ≡ (slice_index_or p.turns place t).knows.seen
-seen_before p place t b = get_or-map seen p.turns place t [] b
+pub seen_before : (p : PassView) (index : ℕ) (t : Known) → index < length p.turns
+    → seen_of p.turns index ≡ (slice_index_or p.turns index t).knows.seen
+seen_before p index t b = get_or-map seen p.turns index t [] b
 
-seen_after : (p q : PassView) (place from : ℕ) (found : Result Changes NoMemory) (l : HasLooked p q place from found)
-    → seen_of q.turns place ≡ l.turn.knows.seen
-seen_after p q place from found l =
-    ap (λ (ts : List Known). seen_of ts place) l.turns_are
-    ∙ get_or-map seen (slice_set p.turns place l.turn) place l.turn []
-    (omega (arith, l.inside, length-set p.turns place l.turn))
-    ∙ ap seen (get_or-set_same p.turns place l.turn l.turn l.inside)
+seen_after : (p q : PassView) (index from : ℕ) (found : Result Changes NoMemory) (l : HasLooked p q index from found)
+    → seen_of q.turns index ≡ l.turn.knows.seen
+seen_after p q index from found l =
+    ap (λ (ts : List Known). seen_of ts index) l.turns_are
+    ∙ get_or-map seen (slice_set p.turns index l.turn) index l.turn []
+    (omega (arith, l.inside, length-set p.turns index l.turn))
+    ∙ ap seen (get_or-set_same p.turns index l.turn l.turn l.inside)
 
 -- the changes go on from those of what was followed
-pub looked_more : (p q : PassView) (place from : ℕ) (changes : Changes) (front : List Entry)
-    → HasLooked p q place from (Ok changes) → StartsWith (seen_of p.turns place) front → from ≡ length front
-    → (changes.upto ≡ length (seen_of q.turns place))
-    × (changes_of (seen_of q.turns place) ≡ changes_of front ++ changes.list.items)
-looked_more p q place from changes front l begins is =
-    let now = seen_after p q place from (Ok changes) l in
-    let old = seen_before p place l.turn l.inside in
+pub looked_more : (p q : PassView) (index from : ℕ) (changes : Changes) (front : List Entry)
+    → HasLooked p q index from (Ok changes) → StartsWith (seen_of p.turns index) front → from ≡ length front
+    → (changes.upto ≡ length (seen_of q.turns index))
+    × (changes_of (seen_of q.turns index) ≡ changes_of front ++ changes.list.items)
+looked_more p q index from changes front l begins is =
+    let now = seen_after p q index from (Ok changes) l in
+    let old = seen_before p index l.turn l.inside in
     let looked = (l.looked l.turn).1 in
     let more : List Entry = begins.0 ++ looked.begins.0 in
     let whole : l.turn.knows.seen ≡ front ++ more =

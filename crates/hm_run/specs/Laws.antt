@@ -25,18 +25,18 @@ use Rattle.hm_run.specs.Replayed.{origin_at, AreEnds}
 use Rattle.hm_run.specs.Streams.{Stream, HasFailed}
 use Rattle.hm_run.specs.Words.{AsksJournal, config_of}
 
--- of the history at a place of a closed heap, and the pages there
-module _ {P : Type 0} (meaning : pages.Ghosts P) (o : Options) (closed : Closed P) (place : ℕ) (p : P) where
+-- of the history at a index of a closed heap, and the pages there
+module _ {P : Type 0} (meaning : pages.Ghosts P) (o : Options) (closed : Closed P) (index : ℕ) (p : P) where
   -- which region it is
   abbrev pub origin : Origin
-  origin = origin_at meaning o place p
+  origin = origin_at meaning o index p
 
   -- these are its pages, and its history begins with these entries
   pub record Begins (entries : List Entry) : Type 0 where
     pub ends : AreEnds meaning o closed
-    pub pages_are : slice_get closed.pages place ≡ Some p
+    pub pages_are : slice_get closed.pages index ≡ Some p
     pub history : History
-    pub history_is : slice_get closed.histories place ≡ Some history
+    pub history_is : slice_get closed.histories index ≡ Some history
     pub later : List Entry
     pub is : history.entries ≡ entries ++ later
 
@@ -118,10 +118,10 @@ module _ {P : Type 0} (meaning : pages.Ghosts P) (o : Options) (closed : Closed 
 
 -- live blocks of two regions share no address, after any number of entries of each
 abbrev pub RegionsApart : {P : Type 0} → pages.Ghosts P → Options → Closed P → Type 0
-RegionsApart {P} meaning o closed = (place other : ℕ) (p their_p : P) (entries theirs : List Entry)
-    → Begins meaning o closed place p entries → Begins meaning o closed other their_p theirs
-    → (a b q : ℕ) → IsOfBlock (origin_at meaning o place p) entries a q
-    → IsOfBlock (origin_at meaning o other their_p) theirs b q → place ≡ other
+RegionsApart {P} meaning o closed = (index other : ℕ) (p their_p : P) (entries theirs : List Entry)
+    → Begins meaning o closed index p entries → Begins meaning o closed other their_p theirs
+    → (a b q : ℕ) → IsOfBlock (origin_at meaning o index p) entries a q
+    → IsOfBlock (origin_at meaning o other their_p) theirs b q → index ≡ other
 
 -- ---- what a journal tells
 -- a run wrote the journal of this heap, with these options, to a sink that was empty, and now tells that it holds this text

@@ -40,13 +40,13 @@ module _ (t : class.Terms) (s : class_state.State) where
   abbrev pub found_in : Choices → ℕ → Option (ℕ × ℕ)
   found_in c a = class.reuse_finds t.config t.shape (opened t.shape c.opened c.canary s) a
 
-  -- the place that was picked, which is given or told as overwritten
+  -- the index that was picked, which is given or told as overwritten
   abbrev pub picked : Reply → Option ℕ
   picked (Given a size) = Some a
   picked (Overwritten a offset byte) = Some a
   picked reply = None
 
-  -- a place that was picked is told as overwritten exactly where one of its usable bytes is not zero; a page fails only
+  -- a index that was picked is told as overwritten exactly where one of its usable bytes is not zero; a page fails only
   -- where a slab with bytes was to be opened and the count of faults rose
   pub record RefusesAllot (c : Choices) (before now : ℕ) (reply : Reply) : Type 0 where
     pub exhausted : (reply ≡ Exhausted)

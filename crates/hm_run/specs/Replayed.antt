@@ -17,12 +17,12 @@ use Rattle.hm_run.specs.declared.words.Options.{Options}
 use Rattle.hm_run.specs.Words.{config_of}
 
 module _ {P : Type 0} (meaning : pages.Ghosts P) (o : Options) where
-  -- the region at a place: its configuration and number are those of the words, and these are its pages
+  -- the region at a index: its configuration and number are those of the words, and these are its pages
   abbrev pub origin_at : ℕ → P → Origin
-  origin_at place kept = record {
+  origin_at index kept = record {
     config = config_of o;
     number = o.seed;
-    region = region_at (config_of o) place;
+    region = region_at (config_of o) index;
     told = meaning.told kept;
   }
 
@@ -32,9 +32,9 @@ module _ {P : Type 0} (meaning : pages.Ghosts P) (o : Options) where
   pub record AreEnds (closed : Closed P) : Type 0 where
     pub histories : length closed.histories ≡ region_count (config_of o) + 1
     pub pages : length closed.pages ≡ length closed.histories
-    pub each : (place : ℕ) (h : History) (p : P)
-        → slice_get closed.histories place ≡ Some h → slice_get closed.pages place ≡ Some p
-        → IsEnd meaning (origin_at place p) h p
+    pub each : (index : ℕ) (h : History) (p : P)
+        → slice_get closed.histories index ≡ Some h → slice_get closed.pages index ≡ Some p
+        → IsEnd meaning (origin_at index p) h p
 
   -- beside that: the histories hold each script's calls once, in order and round by round, with these results; and each
   -- entry is of a step of a script
@@ -42,5 +42,5 @@ module _ {P : Type 0} (meaning : pages.Ghosts P) (o : Options) where
     pub ends : AreEnds closed
     pub names : Names
     pub rounds : AreReplayed (config_of o) closed.histories (scripts_of trace) results names
-    pub entries : (place : ℕ) (h : History) → slice_get closed.histories place ≡ Some h
+    pub entries : (index : ℕ) (h : History) → slice_get closed.histories index ≡ Some h
         → EachIs (IsOfTrace 1 1 (scripts_of trace)) h.entries

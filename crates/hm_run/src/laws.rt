@@ -140,8 +140,8 @@ pub fn journals_tell<P: Pages>()
 
 /// After any number of entries of each history, live blocks never overlap, in one region or across regions.
 pub fn live_blocks_apart<P: Pages>()
-    ensures one_region { (o : Options) (closed : Closed P) (place : ℕ) (p : P)
-        → LiveBlocksApart P.Pages o closed place p }
+    ensures one_region { (o : Options) (closed : Closed P) (index : ℕ) (p : P)
+        → LiveBlocksApart P.Pages o closed index p }
     ensures two_regions { (o : Options) (closed : Closed P) → RegionsApart P.Pages o closed }
 {
     apart_blocks();
@@ -150,8 +150,8 @@ pub fn live_blocks_apart<P: Pages>()
 /// A freed slot, or the range of a freed block below 32 MiB, is given again only after the stated number of further
 /// frees.
 pub fn freed_blocks_come_late<P: Pages>()
-    ensures slots { (o : Options) (closed : Closed P) (place : ℕ) (p : P) → SlotsComeLate P.Pages o closed place p }
-    ensures blocks { (o : Options) (closed : Closed P) (place : ℕ) (p : P) → BlocksComeLate P.Pages o closed place p }
+    ensures slots { (o : Options) (closed : Closed P) (index : ℕ) (p : P) → SlotsComeLate P.Pages o closed index p }
+    ensures blocks { (o : Options) (closed : Closed P) (index : ℕ) (p : P) → BlocksComeLate P.Pages o closed index p }
 {
     delayed_blocks();
 }
@@ -160,11 +160,11 @@ pub fn freed_blocks_come_late<P: Pages>()
 /// given slot that is not zero was written by a fill, after the slot's latest free and its slab's latest opening. A slot
 /// that was found overwritten is never given again.
 pub fn given_blocks_are_zero<P: Pages>()
-    ensures slots { (o : Options) (closed : Closed P) (place : ℕ) (p : P) → SlotsAreZero P.Pages o closed place p }
-    ensures written { (o : Options) (closed : Closed P) (place : ℕ) (p : P) → SlotsAreWritten P.Pages o closed place p }
-    ensures blocks { (o : Options) (closed : Closed P) (place : ℕ) (p : P) → BlocksAreZero P.Pages o closed place p }
-    ensures overwritten { (o : Options) (closed : Closed P) (place : ℕ) (p : P)
-        → OverwrittenStay P.Pages o closed place p }
+    ensures slots { (o : Options) (closed : Closed P) (index : ℕ) (p : P) → SlotsAreZero P.Pages o closed index p }
+    ensures written { (o : Options) (closed : Closed P) (index : ℕ) (p : P) → SlotsAreWritten P.Pages o closed index p }
+    ensures blocks { (o : Options) (closed : Closed P) (index : ℕ) (p : P) → BlocksAreZero P.Pages o closed index p }
+    ensures overwritten { (o : Options) (closed : Closed P) (index : ℕ) (p : P)
+        → OverwrittenStay P.Pages o closed index p }
 {
     zeroed_blocks();
     condemned_slots();
@@ -173,6 +173,6 @@ pub fn given_blocks_are_zero<P: Pages>()
 /// Each refusal comes exactly where its cause holds, a canary, an overwrite and a trap where the pages tell; a page fails
 /// only where one was asked for, or had to go, and the count of faults rose.
 pub fn refusals_have_causes<P: Pages>()
-    ensures class { (o : Options) (closed : Closed P) (place : ℕ) (p : P) → ClassRefusals P.Pages o closed place p }
-    ensures large { (o : Options) (closed : Closed P) (place : ℕ) (p : P) → LargeRefusals P.Pages o closed place p }
+    ensures class { (o : Options) (closed : Closed P) (index : ℕ) (p : P) → ClassRefusals P.Pages o closed index p }
+    ensures large { (o : Options) (closed : Closed P) (index : ℕ) (p : P) → LargeRefusals P.Pages o closed index p }
 {}

@@ -64,7 +64,7 @@ fn run_rounds<R: Threads + Wait + Sync, P: Pages, G: Gate>(
     watcher: &mut Watcher,
 ) -> Result<Vec<Results>, NoMemory>
     requires of { AreOf heap.now.locks root.old.turns }
-    requires place { large_index heap.now.config < length heap.now.locks }
+    requires index { large_index heap.now.config < length heap.now.locks }
     requires first { root.old ≡ first_pass root.old.turns }
     requires founds { Founds heap.now.locks root.old.turns }
     requires valid { list_all (λ r. is_round r.scripts) rounds.now ≡ true }
@@ -101,7 +101,7 @@ fn watch_rounds<R: Threads + Wait + Sync, P: Pages, G: Gate>(
     watched: bool,
 ) -> Result<(Vec<Results>, Vec<u128>), NoMemory>
     requires of { AreOf heap.now.locks root.old.turns }
-    requires place { large_index heap.now.config < length heap.now.locks }
+    requires index { large_index heap.now.config < length heap.now.locks }
     requires first { root.old ≡ first_pass root.old.turns }
     requires founds { Founds heap.now.locks root.old.turns }
     requires valid { list_all (λ r. is_round r.scripts) rounds.now ≡ true }

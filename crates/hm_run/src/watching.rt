@@ -66,7 +66,7 @@ impl Watch {
     ) -> Result<(), NoMemory>
         requires of { AreOf heap.now.locks root.old.turns }
         requires root { root.old.caller ≡ 0 }
-        requires place { large_index heap.now.config < length root.old.turns }
+        requires index { large_index heap.now.config < length root.old.turns }
         requires front { FollowsFront self.old (large_seen heap.now.config root.old) }
         ensures of { AreOf heap.now.locks root.new.turns }
         ensures looked { MayHaveLooked heap.now.config root.old root.new }
@@ -126,7 +126,7 @@ impl Watcher {
     ) -> Result<(), NoMemory>
         requires of { AreOf heap.now.locks root.old.turns }
         requires root { root.old.caller ≡ 0 }
-        requires place { large_index heap.now.config < length root.old.turns }
+        requires index { large_index heap.now.config < length root.old.turns }
         requires front { TracksFront self.old (large_seen heap.now.config root.old) }
         ensures of { AreOf heap.now.locks root.new.turns }
         ensures looked { MayHaveLooked heap.now.config root.old root.new }

@@ -195,7 +195,7 @@ table_parked chains parking limit g slots p park n kept within at =
     named i m e is =
         same_Some n m (same_Some (Some n) (Some m) (sym (get-set_same parking park (Some n) within) ∙ ap (slice_get (set parking park (Some n))) (sym e) ∙ is))
 
--- what stood at the parking place is no longer parked
+-- what stood at the parking index is no longer parked
 pub unparked_then : (chains : Chained) (parking : List (Option ℕ)) (limit g slots p park n m : ℕ) → IsTable chains parking limit g slots → park < length parking
     → Stands chains g n p → slice_get parking park ≡ Some (Some m) → IsUnparked (set parking park (Some n)) m
 unparked_then chains parking limit g slots p park n m kept within at was i is =
@@ -386,7 +386,7 @@ shown_retired chains parking limit g slots n p park o lists now some few number 
     ∙ ap (unparked (slice_index_or parking park None)) (numbered-gone g some few p chains.lists ∙ ap (λ (m : ℕ). gone m (numbered g chains.lists)) number))
     ∙ ap (retired n park) view
 
--- what stood at the parking place, once another slab stands there
+-- what stood at the parking index, once another slab stands there
 pub record Waits (chains : Chained) (g p m q : ℕ) : Type 0 where
   pub below : q < length chains.metas
   pub number : nth_slab g q ≡ m

@@ -100,12 +100,12 @@ settled_by (Some meta) n t = record t { lists = placed (list_named meta) n t.lis
 abbrev pub settled : ℕ → Table → Table
 settled n t = settled_by (finite.get t.metas n) n t
 
--- what stood at a parking place, if anything did, ends the retired list
+-- what stood at a parking index, if anything did, ends the retired list
 abbrev pub unparked : Option ℕ → Lists → Lists
 unparked None lists = lists
 unparked (Some m) lists = ended Retired m lists
 
--- slab n leaves its list and goes to a parking place
+-- slab n leaves its list and goes to a parking index
 abbrev pub retired : ℕ → ℕ → Table → Table
 retired n park t = record t {
   lists = unparked (slice_index_or t.parking park None) (gone n t.lists);

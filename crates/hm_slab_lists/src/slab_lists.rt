@@ -189,7 +189,7 @@ impl SlabLists {
         self.chains.put_first(ListName::Empty, index);
     }
 
-    /// Opens the first slab of the retired list, which is the one that left its parking place first.
+    /// Opens the first slab of the retired list, which is the one that left its parking index first.
     pub fn open_retired(&mut self, n: u64)
         requires { front self.old.lists.retired ≡ Some n }
         ensures { self.new ≡ opened_retired n self.old }
@@ -229,7 +229,7 @@ impl SlabLists {
         self.settle(n);
     }
 
-    /// Retires an open slab to a parking place. It answers the slab that stood there, if one did, which is then the
+    /// Retires an open slab to a parking index. It answers the slab that stood there, if one did, which is then the
     /// last of the retired list.
     pub fn retire(&mut self, n: u64, park: u32) -> Option<u64>
         requires open { is_open n self.old ≡ true }

@@ -9,13 +9,13 @@ use Rattle.hm_run.proofs.Outcomes.{lawful}
 use Rattle.hm_run.proofs.laws.refusals_have_causes.Goals as goal
 
 pub returns-clause-class : goal.returns-clause-class
-returns-clause-class g c = λ o closed place p before e begins.
-    let t = class_rules g.P.Pages o closed place p in
+returns-clause-class g c = λ o closed index p before e begins.
+    let t = class_rules g.P.Pages o closed index p in
     refuses_class t (class.state t before) e
-    (class_legal.one_less t before e ((lawful g.P.Pages o closed place p (before ++ e ∷ []) begins.begins).class begins.class).legal).1
+    (class_legal.one_less t before e ((lawful g.P.Pages o closed index p (before ++ e ∷ []) begins.begins).class begins.class).legal).1
 
 pub returns-clause-large : goal.returns-clause-large
-returns-clause-large g c = λ o closed place p before e begins.
-    let t = large_rules g.P.Pages o closed place p in
+returns-clause-large g c = λ o closed index p before e begins.
+    let t = large_rules g.P.Pages o closed index p in
     refuses_large t (large.state t before) e
-    (large_legal.one_less t before e ((lawful g.P.Pages o closed place p (before ++ e ∷ []) begins.begins).large begins.large).legal).1
+    (large_legal.one_less t before e ((lawful g.P.Pages o closed index p (before ++ e ∷ []) begins.begins).large begins.large).legal).1

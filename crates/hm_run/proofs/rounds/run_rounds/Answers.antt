@@ -23,10 +23,10 @@ loop-index-init g c =
     let heap = c.args.heap.now in
     let root : PassView = c.args.root.now in
     let new = c.replayed_rounds.ensures.first heap.config heap.locks root c.requires.of.same c.requires.founds (ap (λ (p : PassView). p.splits) c.requires.first) in
-    let place : ℕ = large_index heap.config in
-    let below : place < length root.turns = omega (arith, c.requires.place, c.requires.of.same) in
-    let t : Known = some_of root.turns place below in
-    let none : large_seen heap.config root ≡ [] = seen_before root place t below ∙ new.seen place t below in
+    let index : ℕ = large_index heap.config in
+    let below : index < length root.turns = omega (arith, c.requires.index, c.requires.of.same) in
+    let t : Known = some_of root.turns index below in
+    let none : large_seen heap.config root ≡ [] = seen_before root index t below ∙ new.seen index t below in
     record {
       of = c.requires.of;
       caller = ap (λ (p : PassView). p.caller) c.requires.first;
@@ -47,8 +47,8 @@ pub after_round-requires-clause-root : goal.after_round-requires-clause-root
 after_round-requires-clause-root g c κs within =
     ap (λ (v : PassView). v.caller) c.in_ok-results.ensures.root.same ∙ c.loop-index.invariant.caller
 
-pub after_round-requires-clause-place : goal.after_round-requires-clause-place
-after_round-requires-clause-place g c κs within = omega (arith, c.requires.place, c.in_ok-results.ensures.of.same)
+pub after_round-requires-clause-index : goal.after_round-requires-clause-index
+after_round-requires-clause-index g c κs within = omega (arith, c.requires.index, c.in_ok-results.ensures.of.same)
 
 pub after_round-requires-clause-front : goal.after_round-requires-clause-front
 after_round-requires-clause-front g c κs within =

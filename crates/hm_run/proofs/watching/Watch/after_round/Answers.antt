@@ -8,9 +8,9 @@ use Rattle.hm_run.proofs.watching.Watch.after_round.Goals as goal
 
 pub large_changes-requires-clause-from : goal.large_changes-requires-clause-from
 large_changes-requires-clause-from g c κs within t =
-    let place : ℕ = large_index c.args.heap.now.config in
+    let index : ℕ = large_index c.args.heap.now.config in
     let front = c.requires.front in
-    let known = ap (λ es. length es) (seen_before c.args.root.now place t c.requires.place) in
+    let known = ap (λ es. length es) (seen_before c.args.root.now index t c.requires.index) in
     let all = ap (λ es. length es) front.begins.1 in
     omega (arith, known, all, length-append front.front front.begins.0, front.follows.upto)
 
