@@ -235,12 +235,8 @@ piece_here p s q next end shape b lt ends =
       some = omega (arith, stop, ends);
     }
 
-pub piece_at : (p : Shape) (s : State) (runs : PageRuns) (a len q next end : ℕ) → IsShape p → HoldsSlabs p s.opens runs → first_trap p s a len ≡ None → end ≡ a + len → a ≤ q → q < end → next ≡ min end (slab_at p (slab_of p q) + p.slab) → IsPiece p s q (next - q)
-piece_at p s runs a len q next end shape h none is later lt ends =
-    piece_here p s q next end shape (have_bytes p s runs a len h none q later (omega (arith, lt, is))) lt ends
-
 pub piece_held : (p : Shape) (s s' : State) (runs : PageRuns) (q k : ℕ) → IsPiece p s q k → is_open s' (slab_of p q) ≡ true → HoldsSlabs p s'.opens runs → IsHeld runs q k
-piece_held p s s' runs q k piece on h = held_in p s' (slab_of p q) piece.offset q k runs piece.byte.own on piece.place piece.fits piece.some h
+piece_held p s s' runs q k piece on h = held_in s' (slab_of p q) piece.offset k piece.byte.own on piece.place piece.fits piece.some h
 
 -- ---- reading
 pub read_append : (p : Shape) (s : State) (a j k : ℕ) → bytes_read p s a (j + k) ≡ bytes_read p s a j ++ bytes_read p s (a + j) k
@@ -257,13 +253,13 @@ drop_next (b ∷ bs) zero x e = ap (λ (y : ℕ). y ∷ bs) (same_Some b x e)
 drop_next (b ∷ bs) (suc r) x e = drop_next bs r x e
 
 -- within a slab the bytes read are those that stand there
-read_within : (p : Shape) (s : State) (n r a k : ℕ) (b : Slab) → a ≡ slab_at p n + r → r + k ≤ p.slab → length b.bytes ≡ p.slab → at n s.opens ≡ Some b → bytes_read p s a k ≡ take k (drop r b.bytes)
-read_within p s n r a zero b is fits len on = refl
-read_within p s n r a (suc k) b is fits len on =
+read_within : (p : Shape) (s : State) (n r a k : ℕ) {b : Slab} → a ≡ slab_at p n + r → r + k ≤ p.slab → length b.bytes ≡ p.slab → at n s.opens ≡ Some b → bytes_read p s a k ≡ take k (drop r b.bytes)
+read_within p s n r a zero {b = b} is fits len on = refl
+read_within p s n r a (suc k) {b = b} is fits len on =
     let lt : r < p.slab = omega arith in
     let g = got b.bytes r (omega (arith, len)) in
     ap (λ (o : Option ℕ). unwrap_or o 0 ∷ bytes_read p s (a + 1) k) (byte_in p s n r a b is lt on ∙ g.1)
-    ∙ ap (λ (l : List ℕ). g.0 ∷ l) (read_within p s n (suc r) (a + 1) k b (omega arith) (omega arith) len on)
+    ∙ ap (λ (l : List ℕ). g.0 ∷ l) (read_within p s n (suc r) (a + 1) k (omega arith) (omega arith) len on)
     ∙ ap (λ (l : List ℕ). take (suc k) l) (sym (drop_next b.bytes r g.0 g.1))
   where
     got : (bs : List ℕ) (i : ℕ) → i < length bs → (x : ℕ) × (slice_get bs i ≡ Some x)
@@ -272,14 +268,14 @@ read_within p s n r a (suc k) b is fits len on =
     got (b ∷ bs) (suc i) lt = got bs i (omega arith)
 
 -- one piece more was read
-pub piece_read : (p : Shape) (s : State) (runs : PageRuns) (a q next : ℕ) (old slice : List ℕ) → HoldsSlabs p s.opens runs → a ≤ q → q ≤ next → IsPiece p s q (next - q) → Reads runs q (next - q) slice → old ≡ bytes_read p s a (q - a) → old ++ slice ≡ bytes_read p s a (next - a)
-piece_read p s runs a q next old slice h later le piece reads is =
+pub piece_read : {p : Shape} {s : State} {runs : PageRuns} (a : ℕ) {q : ℕ} (next : ℕ) {old slice : List ℕ} → HoldsSlabs p s.opens runs → a ≤ q → q ≤ next → IsPiece p s q (next - q) → Reads runs q (next - q) slice → old ≡ bytes_read p s a (q - a) → old ++ slice ≡ bytes_read p s a (next - a)
+piece_read {p = p} {s = s} {runs = runs} a {q = q} next {slice = slice} h later le piece reads is =
     let b = opens_some s.opens (slab_of p q) piece.byte.open_slab in
     let len : length b.0.bytes ≡ p.slab = all_bytes p s.opens runs h piece.byte.own (slab_of p q) b.0 b.1 in
     let read : slice ≡ bytes_read p s q (next - q) =
     reads_bytes p s q (next - q) runs slice h reads
     ∙ bytes_in p s (slab_of p q) piece.offset q (next - q) b.0 piece.place (omega (arith, piece.fits, piece.some)) b.1
-    ∙ sym (read_within p s (slab_of p q) piece.offset q (next - q) b.0 piece.place piece.fits len b.1) in
+    ∙ sym (read_within p s (slab_of p q) piece.offset q (next - q) piece.place piece.fits len b.1) in
     let e : a + (q - a) ≡ q = omega arith in
     let e' : (q - a) + (next - q) ≡ next - a = omega arith in
     ap (λ (l : List ℕ). l ++ slice) is ∙ ap (λ (l : List ℕ). bytes_read p s a (q - a) ++ l) (read ∙ ap (λ (n : ℕ). bytes_read p s n (next - q)) (sym e))
@@ -312,23 +308,23 @@ pub holds_nothing : (p : Shape) (a : ℕ) (s : State) (runs : PageRuns) → Hold
 holds_nothing p a s runs h = subst (λ (m : List (ℕ × Slab)). HoldsSlabs p m runs) (sym (slabs_nil p a s.opens)) h
 
 -- bytes are written behind those that were written
-pub written_behind : (p : Shape) (s : State) (runs : PageRuns) (a q : ℕ) (w v all : List ℕ) → a + length w ≡ q → w ++ v ≡ all
+pub written_behind : {p : Shape} (s : State) {runs : PageRuns} (a q : ℕ) (w v all : List ℕ) → a + length w ≡ q → w ++ v ≡ all
     → HoldsSlabs p (write p q v (write p a w s)).opens runs → HoldsSlabs p (write p a all s).opens runs
-written_behind p s runs a q w v all at_q is h =
+written_behind {p = p} s {runs = runs} a q w v all at_q is h =
     subst (λ (l : List ℕ). HoldsSlabs p (overlaid_slabs p a l s.opens) runs) is
     (subst (λ (m : List (ℕ × Slab)). HoldsSlabs p m runs) (slabs_two p a w v s.opens)
     (subst (λ (x : ℕ). HoldsSlabs p (overlaid_slabs p x v (overlaid_slabs p a w s.opens)) runs) (sym at_q) h))
 
 -- one piece more was written
-pub piece_written : (p : Shape) (s : State) (runs runs' : PageRuns) (a q next byte : ℕ) → IsShape p → a ≤ q → q ≤ next → IsPiece p s q (next - q)
+pub piece_written : {p : Shape} {s : State} {runs : PageRuns} (runs' : PageRuns) (a : ℕ) {q : ℕ} (next byte : ℕ) → IsShape p → a ≤ q → q ≤ next → IsPiece p s q (next - q)
     → HoldsSlabs p (write p a (replicate (q - a) byte) s).opens runs
     → (IsHeld runs q (next - q) → Writes runs q (next - q) (replicate (next - q) byte) runs')
     → HoldsSlabs p (write p a (replicate (next - a) byte) s).opens runs'
-piece_written p s runs runs' a q next byte shape later le piece h wrote =
+piece_written {p = p} {s = s} {runs = runs} runs' a {q = q} next byte shape later le piece h wrote =
     let w : List ℕ = replicate (q - a) byte in
     let v : List ℕ = replicate (next - q) byte in
     let front : length w ≡ q - a = length-replicate (q - a) byte in
     let on : is_open (write p a w s) (slab_of p q) ≡ true = has_overlaid p a w (slab_of p q) s.opens ∙ piece.byte.open_slab in
     let all : w ++ v ≡ replicate (next - a) byte = replicate-append-replicate (q - a) (next - q) byte ∙ ap (λ (n : ℕ). replicate n byte) (omega (arith, later, le)) in
-    written_behind p s runs' a q w v (replicate (next - a) byte) (omega (arith, front, later)) all
-    (holds_write p (overlaid_slabs p a w s.opens) q (next - q) v runs runs' shape (length-replicate (next - q) byte) h (wrote (piece_held p s (write p a w s) runs q (next - q) piece on h)))
+    written_behind s a q w v (replicate (next - a) byte) (omega (arith, front, later)) all
+    (holds_write q (next - q) v runs' shape (length-replicate (next - q) byte) h (wrote (piece_held p s (write p a w s) runs q (next - q) piece on h)))

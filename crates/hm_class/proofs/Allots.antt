@@ -88,11 +88,19 @@ opened_beside q l all n canary m is there ne =
 first_is_shut : (limit next n : ℕ) (l : List ℕ) → unopened_below limit l next ≡ Some n → (m : ℕ) (ms : List ℕ) → l ≡ m ∷ ms → m ≡ n
 first_is_shut limit next n l is m ms e = same_Some m n (ap (λ (l : List ℕ). unopened_below limit l next) (sym e) ∙ is)
 
+-- the pages as an allotment begins, once a slab was found, and as it ends
+pub record IsAllotment {P : Type 0} (meaning : pages.Ghosts P) (told : Bool) (runs : PageRuns) (faults : ℕ) (region : Identity) (begun mid now : P) (asked : ℕ) : Type 0 where
+  pub told_begun : meaning.told begun ≡ told
+  pub told_mid : meaning.told mid ≡ meaning.told begun
+  pub runs_begun : meaning.runs begun ≡ runs
+  pub count : meaning.faults begun ≡ faults
+  pub same : meaning.faults now ≡ meaning.faults mid
+  pub asks : raised asked ≤ class_size_of region.shape
+
 module _ {told : Bool} {runs : PageRuns} {faults : ℕ} {region : Identity} {es : List Entry} {store : Store}
     (kept : IsKept told runs faults region es store)
-    {P : Type 0} (meaning : pages.Ghosts P) (begun mid now : P) (store₁ store' : Store) (who : Who) (asked : ℕ)
-    (told_begun : meaning.told begun ≡ told) (told_mid : meaning.told mid ≡ meaning.told begun) (runs_begun : meaning.runs begun ≡ runs) (is : meaning.faults begun ≡ faults) (same : meaning.faults now ≡ meaning.faults mid)
-    (asks : raised asked ≤ class_size_of region.shape) where
+    {P : Type 0} {meaning : pages.Ghosts P} {begun mid now : P} {asked : ℕ} (allotment : IsAllotment meaning told runs faults region begun mid now asked)
+    (store₁ store' : Store) (who : Who) where
   abbrev first : State
   first = state (terms_in told region) es
 
@@ -100,7 +108,7 @@ module _ {told : Bool} {runs : PageRuns} {faults : ℕ} {region : Identity} {es 
   Ends e = IsKept told (meaning.runs now) (meaning.faults now) region (es ++ entry_of who (Allot asked 1) e.reply e.choices e.draws (meaning.faults begun) (meaning.faults now) ∷ []) store'
 
   tell : IsTrue told → IsTrue (meaning.told mid)
-  tell y = told_mid ∙ told_begun ∙ y
+  tell y = allotment.told_mid ∙ allotment.told_begun ∙ y
 
   -- no slab was found: an entry that draws nothing
   unserved : (answer : Reply) → event_of (Allot asked 1) answer ≡ Undrawn → Allows (terms_in told region) first (meaning.faults begun) (meaning.faults now) no_choices (Allot asked 1) answer → meaning.faults begun ≤ meaning.faults now
@@ -114,8 +122,8 @@ module _ {told : Bool} {runs : PageRuns} {faults : ℕ} {region : Identity} {es 
       let e : Entry = entry_of who (Allot asked 1) answer no_choices no_words (meaning.faults begun) (meaning.faults now) in
       let s' : State = record first { faults = meaning.faults now } in
       let shows' : Shows region.shape store.slabs.slabs (step region.shape first e) = subst (λ (s : State). Shows region.shape store.slabs.slabs s) (sym after) (shows_count region.shape store.slabs.slabs first (meaning.faults now) kept.follows.shows) in
-      pushed kept (meaning.runs now) (meaning.faults now) store' e
-      (allowed_of t first who (Allot asked 1) answer no_choices no_words (meaning.faults begun) (meaning.faults now) no_draws_are (asks, refl) (is ∙ kept.count) later allows)
+      pushed kept store' e
+      (allowed_of (Allot asked 1) answer no_choices no_words no_draws_are (allotment.asks, refl) (allotment.count ∙ kept.count) later allows)
       (stepped_undrawn t (cells_of first store) e undrawn refl refl) refl
       (record {
         shows = subst (λ (u : Uses). Shows region.shape u (step region.shape first e)) (sym items) shows';
@@ -126,7 +134,7 @@ module _ {told : Bool} {runs : PageRuns} {faults : ℕ} {region : Identity} {es 
       })
       (λ y. subst (λ (s : State). HoldsSlabs region.shape s.opens (meaning.runs now)) (sym after) (subst (λ (r : PageRuns). HoldsSlabs region.shape first.opens r) (sym (page_runs_same y)) (kept.slabs y)))
       (next_undrawn t first store e region.served.shape undrawn refl kept.follows.shows shows'
-      ∙ same_cells (step region.shape first e) _ _ _ _ _ _ _ _ _ _ (sym (w.stream_same ∙ q.stream_same)) (ap (λ (l : Lists). l.partial) (sym lists)) (ap (λ (l : Lists). l.empty) (sym lists))
+      ∙ same_cells (step region.shape first e) (sym (w.stream_same ∙ q.stream_same)) (ap (λ (l : Lists). l.partial) (sym lists)) (ap (λ (l : Lists). l.empty) (sym lists))
       (sym (w.quarantine_same ∙ q.quarantine_same)) (sym (w.lists.parking ∙ q.lists.parking)))
 
   none_serves : front_of store.slabs ≡ None → NoneServes region.shape first
@@ -136,20 +144,20 @@ module _ {told : Bool} {runs : PageRuns} {faults : ℕ} {region : Identity} {es 
   next_new o e = ap (λ (l : List ℕ). unopened region.shape l first.next) (sym kept.follows.shut) ∙ ap (λ (m : ℕ). unopened region.shape store.slabs.lists.retired m) kept.follows.shows.next ∙ unopened_is region.shape store.slabs o kept.follows.numbers e
 
   runs_as : (x : P) → (IsTrue (meaning.told begun) → meaning.runs x ≡ meaning.runs begun) → IsTrue told → meaning.runs x ≡ runs
-  runs_as x e y = e (told_begun ∙ y) ∙ runs_begun
+  runs_as x e y = e (allotment.told_begun ∙ y) ∙ allotment.runs_begun
 
   pub kept_allotted : (n : NextSlab) (e : Event) → Finds meaning store store₁ begun mid region.shape n → GivesFrom meaning store₁ store' mid now region n e → Ends e
   kept_allotted next.Exhausted e f v =
       let q = f.1.0 in
       let w = v.1.0 in
       subst (λ (x : Event). Ends x) (sym v.0)
-      (unserved reply.Exhausted refl (none_serves f.0.0, next_new None f.0.1, refl) (omega (arith, same, f.1.1)) refl
+      (unserved reply.Exhausted refl (none_serves f.0.0, next_new None f.0.1, refl) (omega (arith, allotment.same, f.1.1)) refl
       (λ y. w.page_runs_same (tell y) ∙ runs_as mid q.page_runs_same y) q w)
   kept_allotted next.PagesFailed e f v =
       let q = f.2 in
       let w = v.1.0 in
       subst (λ (x : Event). Ends x) (sym v.0)
-      (unserved reply.PagesFailed refl (none_serves f.1.0, ap (λ (o : Option ℕ). is_some o) (next_new (Some f.0) f.1.1), f.3, omega (arith, same, f.4), refl) (omega (arith, same, f.4)) refl
+      (unserved reply.PagesFailed refl (none_serves f.1.0, ap (λ (o : Option ℕ). is_some o) (next_new (Some f.0) f.1.1), f.3, omega (arith, allotment.same, f.4), refl) (omega (arith, allotment.same, f.4)) refl
       (λ y. w.page_runs_same (tell y) ∙ runs_as mid q.page_runs_same y) q w)
   kept_allotted (next.Open n) e f v =
       let t : Terms = terms_in told region in
@@ -160,9 +168,9 @@ module _ {told : Bool} {runs : PageRuns} {faults : ℕ} {region : Identity} {es 
       (subst (λ (x : Draws). Ends (record { reply = e.reply; choices = no_choices; draws = x })) (sym v.2)
       (let ready : IsToServe meaning told faults region es store mid now store₁ store' n (kind_at store₁.slabs.slabs n) no_choices (start_draws None (start_word region.config store₁.stream)) who asked (meaning.faults begun) (meaning.faults now) (kind_at store₁.slabs.slabs n) = record {
         tell = tell;
-        asks = asks;
-        is = is;
-        later = (omega (arith, same, f.1.1));
+        asks = allotment.asks;
+        is = allotment.count;
+        later = (omega (arith, allotment.same, f.1.1));
         serves = (subst (λ (u : Uses). IsServing u n) (sym q.slabs) (serving kept n f.0));
         below = at.below;
         no_guard = at.no_guard;
@@ -186,7 +194,7 @@ module _ {told : Bool} {runs : PageRuns} {faults : ℕ} {region : Identity} {es 
         has_canary = (no_canary (has_bytes region.shape));
         chosen = refl;
         stepped = (λ a slab here answer picks. subst (λ (x : Words). IsSteppedEntry t (cells_of first store) (entry_of who (Allot asked 1) answer no_choices (start_draws None (start_word region.config x)) (meaning.faults begun) (meaning.faults now))) (sym q.stream_same)
-            (stepped_open t (cells_of first store) first who asked a n (meaning.faults begun) (meaning.faults now) answer refl picks slab
+            (stepped_open t (cells_of first store) who asked answer refl picks slab
             (subst (λ (x : Words). first_free region.shape first n (start_from region.config region.shape x) ≡ Some a) q.stream_same here) f.0));
       } in
       kept_serve kept ready e.reply v.0))
@@ -200,21 +208,21 @@ module _ {told : Bool} {runs : PageRuns} {faults : ℕ} {region : Identity} {es 
       let items : store₁.slabs.slabs ≡ uses₁ = then_items kept n cv f.0.1 store₁.slabs q.opened.slabs in
       let shut : List ℕ = store.slabs.lists.retired in
       let loose = loose_now kept n fresh.off in
-      let there : is_some (slab_in (taken_uses store.slabs.numbers shut store.slabs.slabs) n) ≡ true = (can_open kept meaning begun told_begun runs_begun n f.0.1).there in
+      let there : is_some (slab_in (taken_uses store.slabs.numbers shut store.slabs.slabs) n) ≡ true = (can_open kept meaning begun allotment.told_begun allotment.runs_begun n f.0.1).there in
       let shows₁ : Shows region.shape uses₁ s₁ = opened_shows kept n cv f.0.1 in
       subst (λ (x : Choices). Ends (record { reply = e.reply; choices = x; draws = e.draws })) (sym v.1)
       (subst (λ (x : Draws). Ends (record { reply = e.reply; choices = chose_opened n canary; draws = x })) (sym v.2)
       (let ready : IsToServe meaning told faults region es store mid now store₁ store' n Neither (chose_opened n canary) (start_draws canary (start_word region.config store₁.stream)) who asked (meaning.faults begun) (meaning.faults now) Empty = record {
         tell = tell;
-        asks = asks;
-        is = is;
-        later = (omega (arith, same, q.later));
+        asks = allotment.asks;
+        is = allotment.count;
+        later = (omega (arith, allotment.same, q.later));
         serves = (subst (λ (u : Uses). IsServing u n) (sym items) (opened_serves kept n cv f.0.1));
         below = fresh.below;
         no_guard = fresh.no_guard;
         on = (opened_open kept n cv f.0.1);
         shows = (subst (λ (u : Uses). Shows region.shape u s₁) (sym items) shows₁);
-        slabs = (λ y. subst (λ (r : PageRuns). HoldsSlabs region.shape s₁.opens r) (sym (q.made (told_begun ∙ y) ∙ ap (λ (r : PageRuns). made_page_runs region.shape n r) runs_begun)) (holds_made region.shape first.opens n (unwrap_or cv 0) runs region.served.shape (kept.slabs y)));
+        slabs = (λ y. subst (λ (r : PageRuns). HoldsSlabs region.shape s₁.opens r) (sym (q.made (allotment.told_begun ∙ y) ∙ ap (λ (r : PageRuns). made_page_runs region.shape n r) allotment.runs_begun)) (holds_made region.shape first.opens n (unwrap_or cv 0) runs region.served.shape (kept.slabs y)));
         live_all = (omega (arith, kept.follows.live_all, ap live_count items, live_opened (numbers_of region.shape) first.shut store.slabs.slabs n (unwrap_or cv 0) fresh.there, ap (λ (l : List (ℕ × ℕ)). length l) (opened_live region.shape (Some n) cv first)));
         shut = (ap (λ (l : Lists). l.retired) q.opened.lists ∙ opened_shut store.slabs.lists n loose shut refl (first_is_shut store.slabs.numbers.limit (length store.slabs.slabs) n shut f.0.1)
             ∙ ap (λ (l : List ℕ). still_shut l) kept.follows.shut ∙ shut_after region.shape first);
@@ -238,7 +246,7 @@ module _ {told : Bool} {runs : PageRuns} {faults : ℕ} {region : Identity} {es 
         stepped = (λ a slab here answer picks.
             subst (λ (x : Words). IsSteppedEntry t (cells_of first store) (entry_of who (Allot asked 1) answer (chose_opened n canary) (start_draws canary (start_word region.config x)) (meaning.faults begun) (meaning.faults now))) (sym q.stream_is)
             (subst (λ (x : Option Canary). IsSteppedEntry t (cells_of first store) (entry_of who (Allot asked 1) answer (chose_opened n x) (start_draws x (start_word region.config (canary_stream region.shape store.stream))) (meaning.faults begun) (meaning.faults now))) (sym q.canary_is)
-            (stepped_new t (cells_of first store) first who asked a n (meaning.faults begun) (meaning.faults now) answer refl picks slab
+            (stepped_new t (cells_of first store) who asked answer refl picks slab
             (subst (λ (x : Option Canary). first_free region.shape (opened region.shape (Some n) (canary_value x) first) n (start_from region.config region.shape (canary_stream region.shape store.stream)) ≡ Some a) q.canary_is
             (subst (λ (x : Words). first_free region.shape s₁ n (start_from region.config region.shape x) ≡ Some a) q.stream_is here)))));
       } in

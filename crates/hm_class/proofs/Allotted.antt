@@ -32,7 +32,7 @@ use Rattle.hm_slab_lists.specs.Lists.{Lists}
 use Rattle.hm_class.proofs.Drawn.{start_below}
 use Rattle.hm_class.proofs.Filing.{Stands, placed_relisted, placed_full}
 use Rattle.hm_class.proofs.Permitted.{IsServing}
-use Rattle.hm_class.proofs.Serving.{given_open, given_beside}
+use Rattle.hm_class.proofs.Serving.{gives_slot, given_open, given_beside}
 use Rattle.hm_class.proofs.Picked.{picked, is_first, not_occupied}
 use Rattle.hm_class.proofs.Places.{place_test, slab_of_place}
 use Rattle.hm_class.proofs.Shown.{taken_is}
@@ -91,8 +91,9 @@ module _ {told : Bool} {runs : PageRuns} {faults : ℕ} {region : Identity} {es 
       let was : use_at store₁.slabs.slabs n i ≡ Some u = ap (λ (o : Option SlabUse). option_and_then (λ (b : SlabUse). slice_get b.slots i) o) ready.serves.is_slab ∙ slice_get-get_or b.slots i Never r.within in
       let free : occupied u ≡ false = not_occupied u r.available in
       let slab : slab_of region.shape (place region.shape n i) ≡ n = slab_of_place region.shape n i region.served.shape lt in
-      let here : first_free region.shape then n start ≡ Some (place region.shape n i) = picked region.shape store₁.slabs.slabs then n start i b ready.shows ready.serves.is_slab ready.serves.on start_lt v.first in
+      let here : first_free region.shape then n start ≡ Some (place region.shape n i) = picked n start i ready.shows ready.serves.is_slab ready.serves.on start_lt v.first in
       let untaken : is_taken then (place region.shape n i) ≡ false = taken_is region.shape store₁.slabs.slabs then n i ready.shows lt ∙ ap (λ (o : Option SlotUse). option_map_or occupied o false) was ∙ free in
+      let slot = gives_slot meaning region n i store₁.slabs store'.slabs mid now o v.gives in
       let facts : IsPicked meaning told faults region es store mid now store₁ store' n i kind₀ b choices draws who asked f f' u = record {
         tell = ready.tell;
         asks = ready.asks;
@@ -109,8 +110,8 @@ module _ {told : Bool} {runs : PageRuns} {faults : ℕ} {region : Identity} {es 
         shut = (ap (λ (l : Lists). l.retired) v.lists ∙ m.retired ∙ ready.shut);
         partial = (ap (λ (l : Lists). l.partial) v.lists ∙ m.partial ∙ ready.partial after);
         empty = (ap (λ (l : Lists). l.empty) v.lists ∙ m.empty ∙ ready.empty after);
-        full = (subst (λ (l : Lists). AreFull store'.slabs.slabs l.full) (sym v.lists) (placed_full store₁.slabs.slabs store'.slabs.slabs store₁.slabs.lists n before after ready.stands ready.full
-            (given_open meaning region n i store₁.slabs store'.slabs mid now o v.gives on₁) refl (given_beside meaning region n i store₁.slabs store'.slabs mid now o v.gives on₁)));
+        full = (subst (λ (l : Lists). AreFull store'.slabs.slabs l.full) (sym v.lists) (placed_full store₁.slabs.slabs store'.slabs.slabs after ready.stands ready.full
+            (given_open slot on₁) refl (given_beside slot on₁)));
         numbers = (v.numbers ∙ ready.numbers);
         was_kind = ready.was_kind;
         are = ready.are;

@@ -16,10 +16,10 @@ use Rattle.hm_class.specs.Kept.{IsKept}
 use Rattle.hm_class.proofs.Listed.{same_cells}
 use Rattle.hm_class.proofs.Paged.{holds_nothing}
 
-pub kept_built : (told : Bool) (runs : PageRuns) (faults : ℕ) (region : Identity) (es : List Entry) (store : Store) → (IsTrue told → runs ≡ map.empty) → faults ≡ 0 → es ≡ []
+pub kept_built : {told : Bool} (runs : PageRuns) {faults : ℕ} (region : Identity) {es : List Entry} (store : Store) → (IsTrue told → runs ≡ map.empty) → faults ≡ 0 → es ≡ []
     → store.slabs ≡ no_slabs (numbers_of region.shape) region.config.park_length → store.stream ≡ after_word (stream_of region.number region.arena region.shape.class)
     → store.quarantine ≡ nothing_kept region.shape.array region.shape.ring → IsKept told runs faults region es store
-kept_built told runs faults region es store nothing count no_entries none taken empty =
+kept_built {told = told} runs {faults = faults} region store nothing count no_entries none taken empty =
     subst (λ (l : List Entry). IsKept told runs faults region l store) (sym no_entries)
     (subst (λ (k : Slabs). IsKept told runs faults region [] (record store { slabs = k })) (sym none) (record {
       legal = tt;
@@ -44,5 +44,5 @@ kept_built told runs faults region es store nothing count no_entries none taken 
         live_all = omega arith;
       };
       slabs = λ y. holds_nothing region.shape runs (nothing y);
-      lists = same_cells start _ _ _ _ _ _ _ _ _ _ (sym taken) refl refl (sym empty) refl;
+      lists = same_cells start (sym taken) refl refl (sym empty) refl;
     }))

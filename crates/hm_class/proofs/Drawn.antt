@@ -94,10 +94,10 @@ new_canary stream true false = refl
 new_canary stream false random = tt
 
 -- ---- the entry
-stepped_picked : (t : Terms) (c : Cells) (s : State) (e : Entry) (a n start : ℕ) → c.state ≡ s → event e ≡ Picked a → slab_of t.shape a ≡ n → e.draws.used ≡ canary_words t.shape e.choices + start_words t.config
+stepped_picked : {t : Terms} {c : Cells} {s : State} (e : Entry) {a n start : ℕ} → c.state ≡ s → event e ≡ Picked a → slab_of t.shape a ≡ n → e.draws.used ≡ canary_words t.shape e.choices + start_words t.config
     → start_slot t e.choices e.draws ≡ start → words_of e.draws ≡ words_from c.stream e.draws.used → IfSome e.choices.canary (λ k. k ≡ canary_of e.draws.w0 e.draws.w1)
     → first_free t.shape (opened t.shape e.choices.opened e.choices.canary s) n start ≡ Some a → (e.choices.opened ≡ None → front c.partial c.empty ≡ Some n) → IsSteppedEntry t c e
-stepped_picked t c s e a n start same is slab used starts all canary place source = record {
+stepped_picked {t = t} {c = c} {s = s} e {a = a} {n = n} same is slab used starts all canary place source = record {
   count = used ∙ ap (λ (ev : Event). word_count t e.choices ev) (sym is);
   words = all;
   choices = subst (λ (ev : Event). IsSteppedEvent t c e ev) (sym is) (record {
@@ -115,20 +115,20 @@ stepped_picked t c s e a n start same is slab used starts all canary place sourc
 some_none : (n : ℕ) → Some n ≡ None → ⊥
 some_none n e = cc
 
-module _ (t : Terms) (c : Cells) (s : State) (who : Who) (asked a n f f' : ℕ) (r : Reply) (same : c.state ≡ s) (is : event_of (Allot asked 1) r ≡ Picked a) (slab : slab_of t.shape a ≡ n) where
+module _ (t : Terms) (c : Cells) {s : State} (who : Who) (asked : ℕ) {a n f f' : ℕ} (r : Reply) (same : c.state ≡ s) (is : event_of (Allot asked 1) r ≡ Picked a) (slab : slab_of t.shape a ≡ n) where
   -- of an open slab
   pub stepped_open : first_free t.shape s n (start_from t.config t.shape c.stream) ≡ Some a → front c.partial c.empty ≡ Some n
       → IsSteppedEntry t c (entry_of who (Allot asked 1) r no_choices (start_draws None (start_word t.config c.stream)) f f')
   stepped_open place source =
-      stepped_picked t c s (entry_of who (Allot asked 1) r no_choices (start_draws None (start_word t.config c.stream)) f f') a n (start_from t.config t.shape c.stream) same is slab
+      stepped_picked (entry_of who (Allot asked 1) r no_choices (start_draws None (start_word t.config c.stream)) f f') same is slab
       (open_count c.stream (has_bytes t.shape) t.config.random_slots) (open_start t.shape.slots c.stream (has_bytes t.shape) t.config.random_slots) (words_by c.stream false t.config.random_slots) tt place (λ none. source)
 
   -- of a slab that was opened
   pub stepped_new : first_free t.shape (opened t.shape (Some n) (canary_value (drawn_canary t.shape c.stream)) s) n (start_from t.config t.shape (canary_stream t.shape c.stream)) ≡ Some a
       → IsSteppedEntry t c (entry_of who (Allot asked 1) r (chose_opened n (drawn_canary t.shape c.stream)) (start_draws (drawn_canary t.shape c.stream) (start_word t.config (canary_stream t.shape c.stream))) f f')
   stepped_new place =
-      stepped_picked t c s (entry_of who (Allot asked 1) r (chose_opened n (drawn_canary t.shape c.stream)) (start_draws (drawn_canary t.shape c.stream) (start_word t.config (canary_stream t.shape c.stream))) f f') a n
-      (start_from t.config t.shape (canary_stream t.shape c.stream)) same is slab
+      stepped_picked (entry_of who (Allot asked 1) r (chose_opened n (drawn_canary t.shape c.stream)) (start_draws (drawn_canary t.shape c.stream) (start_word t.config (canary_stream t.shape c.stream))) f f')
+      same is slab
       (new_count c.stream (has_bytes t.shape) t.config.random_slots) (new_start t.shape.slots c.stream (has_bytes t.shape) t.config.random_slots) (words_by c.stream (has_bytes t.shape) t.config.random_slots)
       (new_canary c.stream (has_bytes t.shape) t.config.random_slots) place (λ none. absurd (some_none n none))
 

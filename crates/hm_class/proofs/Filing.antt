@@ -210,9 +210,9 @@ full_beside uses uses' m same is = (
   ap (λ (o : Option SlabUse). option_map_or kind_of o Neither) same ∙ is.1,
 )
 
-pub placed_full : (uses uses' : Uses) (lists : Lists) (n : ℕ) (before after : Kind) → Stands lists n before → AreFull uses lists.full → open_at uses' n ≡ true → kind_at uses' n ≡ after
+pub placed_full : (uses uses' : Uses) {lists : Lists} {n : ℕ} {before : Kind} (after : Kind) → Stands lists n before → AreFull uses lists.full → open_at uses' n ≡ true → kind_at uses' n ≡ after
     → ((m : ℕ) → m ≢ n → slab_in uses' m ≡ slab_in uses m) → AreFull uses' (placed (list_of after) n lists).full
-placed_full uses uses' lists n before after s full on is beside m at =
+placed_full uses uses' {lists = lists} {n = n} {before = before} after s full on is beside m at =
     ⊎_elim
     (λ (e : m ≡ n). subst (λ (k : ℕ). IsFull uses' k) (sym e) (on, is ∙ here after before s (ap (λ (k : ℕ). among k (placed (list_of after) n lists).full) (sym e) ∙ at)))
     (λ (ne : m ≢ n). full_beside uses uses' m (beside m ne) (full m (sym (placed_stays (list_of after) n lists name.Full m ne) ∙ at)))

@@ -63,17 +63,43 @@ module _ (uses : Uses) (n : ℕ) (f : SlabUse → SlabUse) (b : SlabUse) (is : s
       (ap (λ (l : List SlotUse). slice_get l j) same ∙ ap (λ (o : Option SlabUse). option_and_then (λ (b : SlabUse). slice_get b.slots j) o) (sym is)) (λ m ne. refl) m
 
 -- ---- one slot changes
--- a place is that slot, or another that is used as before
-changes : (p : Shape) (uses : Uses) (n i : ℕ) (u : SlotUse) (b : SlabUse) → IsShape p → slab_in uses n ≡ Some b → i < p.slots → (m j : ℕ) → j < p.slots
-    → ((m ≡ n) × (j ≡ i)) ⊎ ((place p n i ≢ place p m j) × (use_at (with_use uses n i u) m j ≡ use_at uses m j))
-changes p uses n i u b shape is lt m j lt' =
-    ⊎_elim
-    (λ same. ⊎_elim
-    (λ same'. inl (same, same'))
-    (λ ne. inr ((λ e. ne (sym (place_same p n i m j shape lt lt' e).1)), subst (λ (k : ℕ). use_at (with_use uses n i u) k j ≡ use_at uses k j) (sym same) (use_beside uses n i u b is j ne)))
-    (cases_eq j i))
-    (λ ne. inr ((λ e. ne (sym (place_same p n i m j shape lt lt' e).0)), use_there uses n i u b is m j ne))
-    (cases_eq m n)
+-- slab n is there, with as many slots as the shape says, and i is one of them
+pub record HasSlot (p : Shape) (uses : Uses) (n i : ℕ) (b : SlabUse) : Type 0 where
+  pub shape : IsShape p
+  pub is_slab : slab_in uses n ≡ Some b
+  pub long : length b.slots ≡ p.slots
+  pub within : i < p.slots
+
+pub slot_shown : {p : Shape} {uses : Uses} {s : State} {n i : ℕ} {b : SlabUse} → IsShape p → Shows p uses s → slab_in uses n ≡ Some b → i < p.slots → HasSlot p uses n i b
+slot_shown {n = n} {b = b} shape h is lt = record { shape = shape; is_slab = is; long = h.slots n b is; within = lt }
+
+module _ {p : Shape} {uses : Uses} {n i : ℕ} {b : SlabUse} (slot : HasSlot p uses n i b) (u : SlotUse) where
+  -- a place is that slot, or another that is used as before
+  changes : (m j : ℕ) → j < p.slots → ((m ≡ n) × (j ≡ i)) ⊎ ((place p n i ≢ place p m j) × (use_at (with_use uses n i u) m j ≡ use_at uses m j))
+  changes m j lt =
+      ⊎_elim
+      (λ same. ⊎_elim
+      (λ same'. inl (same, same'))
+      (λ ne. inr (
+        (λ e. ne (sym (place_same p n i m j slot.shape slot.within lt e).1)),
+        subst (λ (k : ℕ). use_at (with_use uses n i u) k j ≡ use_at uses k j) (sym same) (use_beside uses n i u b slot.is_slab j ne),
+      ))
+      (cases_eq j i))
+      (λ ne. inr ((λ e. ne (sym (place_same p n i m j slot.shape slot.within lt e).0)), use_there uses n i u b slot.is_slab m j ne))
+      (cases_eq m n)
+
+  -- what is said of places, where it is said of the one that changed and of the others
+  each_place : (test : SlotUse → Bool) (says said : ℕ → Bool) → says (place p n i) ≡ test u → ((q : ℕ) → place p n i ≢ q → says q ≡ said q)
+      → ((m j : ℕ) → j < p.slots → said (place p m j) ≡ passes_at test uses m j) → (m j : ℕ) → j < p.slots → says (place p m j) ≡ passes_at test (with_use uses n i u) m j
+  each_place test says said here there old m j lt =
+      let uses' : Uses = with_use uses n i u in
+      let now : use_at uses' n i ≡ Some u = use_here uses n i u b slot.is_slab (omega (arith, slot.within, slot.long)) in
+      ⊎_elim
+      (λ same. ap (λ (q : ℕ). says (place p q j)) same.0 ∙ ap (λ (q : ℕ). says (place p n q)) same.1 ∙ here
+      ∙ ap (λ (o : Option SlotUse). option_map_or test o false) (sym now)
+      ∙ ap (λ (q : ℕ). passes_at test uses' n q) (sym same.1) ∙ ap (λ (q : ℕ). passes_at test uses' q j) (sym same.0))
+      (λ other. there (place p m j) other.0 ∙ old m j lt ∙ ap (λ (o : Option SlotUse). option_map_or test o false) (sym other.1))
+      (changes m j lt)
 
 -- what changes where the slot at address a is used so
 pub record IsChanged (a : ℕ) (u : SlotUse) (s s' : State) : Type 0 where
@@ -91,32 +117,18 @@ pub record IsChanged (a : ℕ) (u : SlotUse) (s s' : State) : Type 0 where
   pub parked : s'.parked ≡ s.parked
   pub shut : s'.shut ≡ s.shut
 
--- what is said of places, where it is said of the one that changed and of the others
-each_place : (p : Shape) (uses : Uses) (n i : ℕ) (u : SlotUse) (b : SlabUse) (test : SlotUse → Bool) (says : ℕ → Bool) (said : ℕ → Bool) → IsShape p → slab_in uses n ≡ Some b → i < p.slots → length b.slots ≡ p.slots
-    → says (place p n i) ≡ test u → ((q : ℕ) → place p n i ≢ q → says q ≡ said q) → ((m j : ℕ) → j < p.slots → said (place p m j) ≡ passes_at test uses m j)
-    → (m j : ℕ) → j < p.slots → says (place p m j) ≡ passes_at test (with_use uses n i u) m j
-each_place p uses n i u b test says said shape is lt whole here there old m j lt' =
-    let uses' : Uses = with_use uses n i u in
-    let now : use_at uses' n i ≡ Some u = use_here uses n i u b is (omega (arith, lt, whole)) in
-    ⊎_elim
-    (λ same. ap (λ (q : ℕ). says (place p q j)) same.0 ∙ ap (λ (q : ℕ). says (place p n q)) same.1 ∙ here
-    ∙ ap (λ (o : Option SlotUse). option_map_or test o false) (sym now)
-    ∙ ap (λ (q : ℕ). passes_at test uses' n q) (sym same.1) ∙ ap (λ (q : ℕ). passes_at test uses' q j) (sym same.0))
-    (λ other. there (place p m j) other.0 ∙ old m j lt' ∙ ap (λ (o : Option SlotUse). option_map_or test o false) (sym other.1))
-    (changes p uses n i u b shape is lt m j lt')
-
-pub shows_changed : (p : Shape) (uses : Uses) (s s' : State) (n i : ℕ) (u : SlotUse) (b : SlabUse) → IsShape p → slab_in uses n ≡ Some b → i < p.slots → Shows p uses s → IsChanged (place p n i) u s s' → Shows p (with_use uses n i u) s'
-shows_changed p uses s s' n i u b shape is lt h c =
-    let whole = h.slots n b is in
+pub shows_changed : {p : Shape} {uses : Uses} {s s' : State} {n i : ℕ} {u : SlotUse} {b : SlabUse} → HasSlot p uses n i b → Shows p uses s → IsChanged (place p n i) u s s' → Shows p (with_use uses n i u) s'
+shows_changed {p = p} {uses = uses} {s = s} {s' = s'} {n = n} {i = i} {u = u} {b = b} slot h c =
+    let is = slot.is_slab in
     let f : SlabUse → SlabUse = with_slot i u in
     record {
       opens = λ m. c.opens m ∙ h.opens m ∙ sym (told_changed uses n f b is (λ (b : SlabUse). b.opened) false refl m);
       slots = whole_changed uses n f b is p.slots (length-set b.slots i u) h.slots;
       canary = λ m. c.canary m ∙ h.canary m ∙ sym (told_changed uses n f b is (λ (b : SlabUse). b.canary) 0 refl m);
-      live = each_place p uses n i u b lives (λ q. is_live s' q) (λ q. is_live s q) shape is lt whole c.live_here c.live_there h.live;
-      held = each_place p uses n i u b is_held (λ q. among q s'.held) (λ q. among q s.held) shape is lt whole c.held_here c.held_there h.held;
-      condemned = each_place p uses n i u b is_condemned (λ q. among q s'.condemned) (λ q. among q s.condemned) shape is lt whole c.condemned_here c.condemned_there h.condemned;
-      given = each_place p uses n i u b was_given (λ q. among q s'.given) (λ q. among q s.given) shape is lt whole c.given_here c.given_there h.given;
+      live = each_place slot u lives (λ q. is_live s' q) (λ q. is_live s q) c.live_here c.live_there h.live;
+      held = each_place slot u is_held (λ q. among q s'.held) (λ q. among q s.held) c.held_here c.held_there h.held;
+      condemned = each_place slot u is_condemned (λ q. among q s'.condemned) (λ q. among q s.condemned) c.condemned_here c.condemned_there h.condemned;
+      given = each_place slot u was_given (λ q. among q s'.given) (λ q. among q s.given) c.given_here c.given_there h.given;
       parked = λ m e. some_changed uses n f b is m ∙ h.parked m (ap (λ (l : List ℕ). among m l) (sym c.parked) ∙ e);
       shut = λ m e. some_changed uses n f b is m ∙ h.shut m (ap (λ (l : List ℕ). among m l) (sym c.shut) ∙ e);
       next = c.next ∙ h.next ∙ sym (length_changed uses n f b is);
@@ -202,27 +214,30 @@ released_changed s b live condemned given = record {
   shut = refl;
 }
 
-module _ (p : Shape) (uses : Uses) (s : State) (n i : ℕ) (b : SlabUse) (v : SlotUse) (shape : IsShape p) (lt : i < p.slots) (is : slab_in uses n ≡ Some b) (was : use_at uses n i ≡ Some v) (h : Shows p uses s) where
+module _ {p : Shape} {uses : Uses} {s : State} {n i : ℕ} {b : SlabUse} {v : SlotUse} (slot : HasSlot p uses n i b) (was : use_at uses n i ≡ Some v) (h : Shows p uses s) where
+  lt : i < p.slots
+  lt = slot.within
+
   pub shows_given : (asked : ℕ) → occupied v ≡ false → Shows p (with_use uses n i Live) (gives p (place p n i) asked s)
   shows_given asked free =
       let off = available_is v free in
-      shows_changed p uses s (gives p (place p n i) asked s) n i Live b shape is lt h
+      shows_changed slot h
       (gives_changed p s (place p n i) asked (at_place uses n i v is_held _ was (h.held n i lt) ∙ off.1) (at_place uses n i v is_condemned _ was (h.condemned n i lt) ∙ off.2))
 
   pub shows_condemned : occupied v ≡ false → Shows p (with_use uses n i (Condemned (was_given v))) (condemns (place p n i) s)
   shows_condemned free =
       let off = available_is v free in
-      shows_changed p uses s (condemns (place p n i) s) n i (Condemned (was_given v)) b shape is lt h
+      shows_changed slot h
       (condemns_changed s (place p n i) (was_given v) (at_place uses n i v lives _ was (h.live n i lt) ∙ off.0) (at_place uses n i v is_held _ was (h.held n i lt) ∙ off.1) (at_place uses n i v was_given _ was (h.given n i lt)))
 
   pub shows_held : v ≡ Live → Shows p (with_use uses n i Held) (takes_back p (place p n i) s)
   shows_held live =
-      shows_changed p uses s (takes_back p (place p n i) s) n i Held b shape is lt h
+      shows_changed slot h
       (holds_changed p s (place p n i) (at_place uses n i v is_condemned _ was (h.condemned n i lt) ∙ ap is_condemned live) (at_place uses n i v was_given _ was (h.given n i lt) ∙ ap was_given live))
 
   pub shows_released : v ≡ Held → Shows p (with_use uses n i Free) (releases (Some (place p n i)) s)
   shows_released held =
-      shows_changed p uses s (releases (Some (place p n i)) s) n i Free b shape is lt h
+      shows_changed slot h
       (released_changed s (place p n i) (at_place uses n i v lives _ was (h.live n i lt) ∙ ap lives held) (at_place uses n i v is_condemned _ was (h.condemned n i lt) ∙ ap is_condemned held)
       (at_place uses n i v was_given _ was (h.given n i lt) ∙ ap was_given held))
 
@@ -245,7 +260,7 @@ shows_written p uses s a w h = record {
 abbrev opens_with : State → List (ℕ × Slab) → State
 opens_with s opens = record s { opens = opens }
 
-module _ (p : Shape) (uses : Uses) (s : State) (n : ℕ) (f : SlabUse → SlabUse) (b : SlabUse) (is : slab_in uses n ≡ Some b) (same : (f b).slots ≡ b.slots) (h : Shows p uses s) where
+module _ {p : Shape} {uses : Uses} {s : State} (n : ℕ) (f : SlabUse → SlabUse) {b : SlabUse} (is : slab_in uses n ≡ Some b) (same : (f b).slots ≡ b.slots) (h : Shows p uses s) where
   kept_places : (test : SlotUse → Bool) (m j : ℕ) → passes_at test uses m j ≡ passes_at test (changed uses n f) m j
   kept_places test m j = ap (λ (o : Option SlotUse). option_map_or test o false) (sym (uses_kept uses n f b is same m j))
 
@@ -267,7 +282,7 @@ module _ (p : Shape) (uses : Uses) (s : State) (n : ℕ) (f : SlabUse → SlabUs
 
 pub shows_opened : (p : Shape) (uses : Uses) (s : State) (n : ℕ) (x : Slab) (b : SlabUse) → slab_in uses n ≡ Some b → Shows p uses s → Shows p (with_open uses n x.canary) (record s { opens = put n x s.opens })
 shows_opened p uses s n x b is h =
-    shows_opens p uses s n (opened_slab x.canary) b is refl h (put n x s.opens) (has_put_same n x s.opens)
+    shows_opens n (opened_slab x.canary) is refl h (put n x s.opens) (has_put_same n x s.opens)
     (ap (λ (o : Option Slab). option_map_or (λ (b : Slab). b.canary) o 0) (at_put_same n n x s.opens refl))
     (λ m ne. at_put_other n m x s.opens (λ e. ne (sym e)))
 
@@ -281,7 +296,7 @@ at_gone n m = none (at n (removed n m)) (has_removed_same n m)
 pub shows_retired : (p : Shape) (uses : Uses) (s : State) (n : ℕ) (b : SlabUse) → slab_in uses n ≡ Some b → Shows p uses s → Shows p (with_shut uses n) (retires (Some n) s)
 shows_retired p uses s n b is h =
     let h' : Shows p (with_shut uses n) (record s { opens = removed n s.opens }) =
-    shows_opens p uses s n shut_slab b is refl h (removed n s.opens) (has_removed_same n s.opens)
+    shows_opens n shut_slab is refl h (removed n s.opens) (has_removed_same n s.opens)
     (ap (λ (o : Option Slab). option_map_or (λ (b : Slab). b.canary) o 0) (at_gone n s.opens))
     (λ m ne. at_removed n m s.opens (λ e. ne (sym e))) in
     record {

@@ -127,9 +127,9 @@ released_is released emptied.Kept = refl
 released_is released (emptied.Retired d w u) = refl
 released_is released (emptied.Purged d) = refl
 
-pub stepped_freed : (t : Terms) (c : Cells) (who : Who) (a f f' : ℕ) (stated released : Option ℕ) (e : Emptied) → IsNextWord c.stream (t.shape.array == 0) e → IsUnparked t c e → released ≡ let_go c.quarantine a (index_of_word t.shape (next_word c.stream))
+pub stepped_freed : (t : Terms) (c : Cells) (who : Who) (a : ℕ) {f f' : ℕ} (stated released : Option ℕ) (e : Emptied) → IsNextWord c.stream (t.shape.array == 0) e → IsUnparked t c e → released ≡ let_go c.quarantine a (index_of_word t.shape (next_word c.stream))
     → IsSteppedEntry t c (entry_of who (GiveBack a stated) reply.Freed (freed_choices released e) (freed_draws (array_word t.shape (next_word c.stream)) e) f f')
-stepped_freed t c who a f f' stated released e next unparked is = record {
+stepped_freed t c who a stated released e next unparked is = record {
   count = count_by c.stream (t.shape.array == 0) released e;
   words = words_by c.stream (t.shape.array == 0) e next;
   choices = record {

@@ -26,10 +26,10 @@ listed_same wanted Neither n list = refl
 
 -- ---- cells
 -- cells that are equal part by part
-pub same_cells : (s : State) (stream stream' : Words) (partial partial' empty empty' : List ℕ) (q q' : Kept) (parking parking' : List (Option ℕ)) → stream ≡ stream' → partial ≡ partial' → empty ≡ empty' → q ≡ q' → parking ≡ parking'
+pub same_cells : (s : State) {stream stream' : Words} {partial partial' empty empty' : List ℕ} {q q' : Kept} {parking parking' : List (Option ℕ)} → stream ≡ stream' → partial ≡ partial' → empty ≡ empty' → q ≡ q' → parking ≡ parking'
     → (let x : Cells = record { state = s; stream = stream; partial = partial; empty = empty; quarantine = q; parking = parking } in
     let y : Cells = record { state = s; stream = stream'; partial = partial'; empty = empty'; quarantine = q'; parking = parking' } in x ≡ y)
-same_cells s stream stream' partial partial' empty empty' q q' parking parking' e f g h i = cc
+same_cells s e f g h i = cc
 
 -- the cells after an entry, by what it is and the state after it
 abbrev next_by : Terms → Cells → Entry → Event → State → Cells
@@ -46,9 +46,9 @@ next_is : (t : Terms) (c : Cells) (e : Entry) (ev : Event) → event e ≡ ev �
 next_is t c e ev is = ap (λ (x : Event). next_by t c e x (step t.shape c.state e)) is
 
 -- the lists, where slab n, which was `before`, is `after`
-pub listed_as : (wanted : Kind) (p : Shape) (s after : State) (m n : ℕ) (before then : Kind) (list list' : List ℕ) → m ≡ n → kind p s n ≡ before → kind p after n ≡ then → list' ≡ listed wanted n before then list
+pub listed_as : (wanted : Kind) (p : Shape) (s after : State) (m : ℕ) {n : ℕ} {before then : Kind} (list : List ℕ) {list' : List ℕ} → m ≡ n → kind p s n ≡ before → kind p after n ≡ then → list' ≡ listed wanted n before then list
     → listed wanted m (kind p s m) (kind p after m) list ≡ list'
-listed_as wanted p s after m n before then list list' same was is new =
+listed_as wanted p s after m {n = n} {before = before} list same was is new =
     ap (λ (k : ℕ). listed wanted k (kind p s k) (kind p after k) list) same
     ∙ ap (λ (k : Kind). listed wanted n k (kind p after n) list) was
     ∙ ap (λ (k : Kind). listed wanted n before k list) is
@@ -62,7 +62,7 @@ next_undrawn t s store e shape is none h h' =
     let at0 : (wanted : Kind) (list : List ℕ) → listed wanted 0 (kind t.shape s 0) (kind t.shape (step t.shape s e) 0) list ≡ list =
     λ wanted list. ap (λ (x : Kind). listed wanted 0 (kind t.shape s 0) x list) same ∙ listed_same wanted (kind t.shape s 0) 0 list in
     next_is t (cells_of s store) e Undrawn is
-    ∙ same_cells (step t.shape s e) _ _ _ _ _ _ _ _ _ _ (ap (λ (n : ℕ). after_words store.stream n) none) (at0 Partial store.slabs.lists.partial) (at0 Empty store.slabs.lists.empty) refl refl
+    ∙ same_cells (step t.shape s e) (ap (λ (n : ℕ). after_words store.stream n) none) (at0 Partial store.slabs.lists.partial) (at0 Empty store.slabs.lists.empty) refl refl
 
 pub stepped_undrawn : (t : Terms) (c : Cells) (e : Entry) → event e ≡ Undrawn → e.draws.used ≡ 0 → words_of e.draws ≡ [] → IsSteppedEntry t c e
 stepped_undrawn t c e is none no_words = record {
@@ -72,32 +72,46 @@ stepped_undrawn t c e is none no_words = record {
 }
 
 -- ---- a slot was picked
-pub next_picked : (t : Terms) (s : State) (store store' : Store) (e : Entry) (a n : ℕ) (before : Kind) → IsShape t.shape → event e ≡ Picked a → slab_of t.shape a ≡ n
-    → kind t.shape s n ≡ before → Shows t.shape store'.slabs.slabs (step t.shape s e) → after_words store.stream e.draws.used ≡ store'.stream
-    → store'.slabs.lists.partial ≡ listed Partial n before (kind_at store'.slabs.slabs n) store.slabs.lists.partial
-    → store'.slabs.lists.empty ≡ listed Empty n before (kind_at store'.slabs.slabs n) store.slabs.lists.empty
-    → store'.quarantine ≡ store.quarantine → store'.slabs.parking ≡ store.slabs.parking
-    → next t (cells_of s store) e ≡ cells_of (step t.shape s e) store'
-next_picked t s store store' e a n before shape is slab was h' taken partial empty quarantine parking =
+-- what is kept after an entry that picked a slot of slab n, which was `before`: its words are taken, and the slab stands
+-- in the list of its kind
+pub record KeepsPicked (t : Terms) (s : State) (e : Entry) (n : ℕ) (before : Kind) (store store' : Store) : Type 0 where
+  pub was : kind t.shape s n ≡ before
+  pub taken : after_words store.stream e.draws.used ≡ store'.stream
+  pub partial : store'.slabs.lists.partial ≡ listed Partial n before (kind_at store'.slabs.slabs n) store.slabs.lists.partial
+  pub empty : store'.slabs.lists.empty ≡ listed Empty n before (kind_at store'.slabs.slabs n) store.slabs.lists.empty
+  pub quarantine : store'.quarantine ≡ store.quarantine
+  pub parking : store'.slabs.parking ≡ store.slabs.parking
+
+pub next_picked : (t : Terms) (s : State) (e : Entry) (store store' : Store) {a n : ℕ} {before : Kind} → IsShape t.shape → event e ≡ Picked a → slab_of t.shape a ≡ n → Shows t.shape store'.slabs.slabs (step t.shape s e)
+    → KeepsPicked t s e n before store store' → next t (cells_of s store) e ≡ cells_of (step t.shape s e) store'
+next_picked t s e store store' {a = a} {n = n} shape is slab h' keeps =
     let now : kind t.shape (step t.shape s e) n ≡ kind_at store'.slabs.slabs n = kind_is t.shape store'.slabs.slabs (step t.shape s e) n shape h' in
     next_is t (cells_of s store) e (Picked a) is
-    ∙ same_cells (step t.shape s e) _ _ _ _ _ _ _ _ _ _ taken
-    (listed_as Partial t.shape s (step t.shape s e) (slab_of t.shape a) n before (kind_at store'.slabs.slabs n) store.slabs.lists.partial store'.slabs.lists.partial slab was now partial)
-    (listed_as Empty t.shape s (step t.shape s e) (slab_of t.shape a) n before (kind_at store'.slabs.slabs n) store.slabs.lists.empty store'.slabs.lists.empty slab was now empty)
-    (sym quarantine) (sym parking)
+    ∙ same_cells (step t.shape s e) keeps.taken
+    (listed_as Partial t.shape s (step t.shape s e) (slab_of t.shape a) store.slabs.lists.partial slab keeps.was now keeps.partial)
+    (listed_as Empty t.shape s (step t.shape s e) (slab_of t.shape a) store.slabs.lists.empty slab keeps.was now keeps.empty)
+    (sym keeps.quarantine) (sym keeps.parking)
 
 -- ---- a slot was freed
-pub next_freed : (t : Terms) (s : State) (store store' : Store) (e : Entry) (a n : ℕ) (before then : Kind) → event e ≡ Returned a → touched t.shape e.choices.released (Returned a) ≡ n
-    → kind t.shape s n ≡ before → kind t.shape (step t.shape s e) n ≡ then → after_words store.stream e.draws.used ≡ store'.stream
-    → store'.slabs.lists.partial ≡ listed Partial n before then store.slabs.lists.partial → store'.slabs.lists.empty ≡ listed Empty n before then store.slabs.lists.empty
-    → store'.quarantine ≡ kept_with store.quarantine a (array_index t.shape e.draws) → store'.slabs.parking ≡ parking_with (parking_index t e.draws) e.choices.retired store.slabs.parking
+-- what is kept after an entry that took the slot at a back, where slab n, which was `before`, is `then`
+pub record KeepsFreed (t : Terms) (s : State) (e : Entry) (a n : ℕ) (before then : Kind) (store store' : Store) : Type 0 where
+  pub slab : touched t.shape e.choices.released (Returned a) ≡ n
+  pub was : kind t.shape s n ≡ before
+  pub now : kind t.shape (step t.shape s e) n ≡ then
+  pub taken : after_words store.stream e.draws.used ≡ store'.stream
+  pub partial : store'.slabs.lists.partial ≡ listed Partial n before then store.slabs.lists.partial
+  pub empty : store'.slabs.lists.empty ≡ listed Empty n before then store.slabs.lists.empty
+  pub quarantine : store'.quarantine ≡ kept_with store.quarantine a (array_index t.shape e.draws)
+  pub parking : store'.slabs.parking ≡ parking_with (parking_index t e.draws) e.choices.retired store.slabs.parking
+
+pub next_freed : (t : Terms) (s : State) (e : Entry) (store store' : Store) {a n : ℕ} {before then : Kind} → event e ≡ Returned a → KeepsFreed t s e a n before then store store'
     → next t (cells_of s store) e ≡ cells_of (step t.shape s e) store'
-next_freed t s store store' e a n before then is slab was now taken partial empty kept parking =
+next_freed t s e store store' {a = a} is keeps =
     next_is t (cells_of s store) e (Returned a) is
-    ∙ same_cells (step t.shape s e) _ _ _ _ _ _ _ _ _ _ taken
-    (listed_as Partial t.shape s (step t.shape s e) (touched t.shape e.choices.released (Returned a)) n before then store.slabs.lists.partial store'.slabs.lists.partial slab was now partial)
-    (listed_as Empty t.shape s (step t.shape s e) (touched t.shape e.choices.released (Returned a)) n before then store.slabs.lists.empty store'.slabs.lists.empty slab was now empty)
-    (sym kept) (sym parking)
+    ∙ same_cells (step t.shape s e) keeps.taken
+    (listed_as Partial t.shape s (step t.shape s e) (touched t.shape e.choices.released (Returned a)) store.slabs.lists.partial keeps.slab keeps.was keeps.now keeps.partial)
+    (listed_as Empty t.shape s (step t.shape s e) (touched t.shape e.choices.released (Returned a)) store.slabs.lists.empty keeps.slab keeps.was keeps.now keeps.empty)
+    (sym keeps.quarantine) (sym keeps.parking)
 
 -- a slab is partial where its kind is that
 pub partial_kind : (p : Shape) (s : State) (n : ℕ) → same_kind (kind p s n) Partial ≡ is_partial p s n

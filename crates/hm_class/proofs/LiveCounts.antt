@@ -22,7 +22,7 @@ use Rattle.hm_class.proofs.Drawn.{start_below}
 use Rattle.hm_class.proofs.Serving.{gives_pages}
 use Rattle.hm_class.proofs.Used.{counted, live_opened}
 
-module _ {P : Type 0} (meaning : pages.Ghosts P) (region : Identity) (store store₁ store' : Store) (begun mid now : P) where
+module _ {P : Type 0} (meaning : pages.Ghosts P) (region : Identity) (store store₁ : Store) (begun mid : P) where
   pub found_live : ((n : ℕ) → new_of store.slabs ≡ Some n → CanOpen meaning region.shape store.slabs begun n) → (n : NextSlab) → Finds meaning store store₁ begun mid region.shape n
       → live_count store₁.slabs.slabs ≡ live_count store.slabs.slabs
   found_live opens (next.Open n) f = ap live_count f.1.0.slabs
@@ -31,6 +31,7 @@ module _ {P : Type 0} (meaning : pages.Ghosts P) (region : Identity) (store stor
   found_live opens next.Exhausted f = ap live_count f.1.0.slabs
   found_live opens next.PagesFailed f = ap live_count f.2.slabs
 
+module _ {P : Type 0} (meaning : pages.Ghosts P) (region : Identity) (store₁ store' : Store) (mid now : P) where
   given_more : (o : Reply) (n i : ℕ) (u : SlotUse) → use_at store₁.slabs.slabs n i ≡ Some u → Gives meaning region store₁.slabs store'.slabs mid now (slot_in n i) o → live_count store'.slabs.slabs ≤ live_count store₁.slabs.slabs + 1
   given_more (reply.Given a size) n i u was g = omega (arith, ap live_count g.slabs, counted lives store₁.slabs.slabs n i Live u was)
   given_more (reply.Overwritten a at found) n i u was g = omega (arith, ap live_count g.slabs, counted lives store₁.slabs.slabs n i (Condemned (passes_at was_given store₁.slabs.slabs n i)) u was)
@@ -51,38 +52,15 @@ module _ {P : Type 0} (meaning : pages.Ghosts P) (region : Identity) (store stor
   served_live next.Exhausted e can v = omega (arith, ap live_count v.1.0.slabs)
   served_live next.PagesFailed e can v = omega (arith, ap live_count v.1.0.slabs)
 
--- what stays: the parking parking, the quarantine, and whether the pages tell
-module _ {P : Type 0} (meaning : pages.Ghosts P) (region : Identity) (store store₁ store' : Store) (begun mid now : P) where
-  pub found_parking : (n : NextSlab) → Finds meaning store store₁ begun mid region.shape n → store₁.slabs.parking ≡ store.slabs.parking
-  found_parking (next.Open n) f = f.1.0.lists.parking
-  found_parking (next.New n canary) f = f.1.opened.parking
-  found_parking next.Exhausted f = f.1.0.lists.parking
-  found_parking next.PagesFailed f = f.2.lists.parking
-
-  pub served_parking : (n : NextSlab) (e : Event) → GivesFrom meaning store₁ store' mid now region n e → store'.slabs.parking ≡ store₁.slabs.parking
-  served_parking (next.Open n) e v = v.0.parking
-  served_parking (next.New n canary) e v = v.0.parking
-  served_parking next.Exhausted e v = v.1.0.lists.parking
-  served_parking next.PagesFailed e v = v.1.0.lists.parking
-
-  pub found_quarantine : (n : NextSlab) → Finds meaning store store₁ begun mid region.shape n → store₁.quarantine ≡ store.quarantine
-  found_quarantine (next.Open n) f = f.1.0.quarantine_same
-  found_quarantine (next.New n canary) f = f.1.quarantine_same
-  found_quarantine next.Exhausted f = f.1.0.quarantine_same
-  found_quarantine next.PagesFailed f = f.2.quarantine_same
-
-  pub served_quarantine : (n : NextSlab) (e : Event) → GivesFrom meaning store₁ store' mid now region n e → store'.quarantine ≡ store₁.quarantine
-  served_quarantine (next.Open n) e v = v.0.quarantine_same
-  served_quarantine (next.New n canary) e v = v.0.quarantine_same
-  served_quarantine next.Exhausted e v = v.1.0.quarantine_same
-  served_quarantine next.PagesFailed e v = v.1.0.quarantine_same
-
+-- whether the pages tell stays, and none fails as a slot is given
+module _ {P : Type 0} (meaning : pages.Ghosts P) (region : Identity) (store store₁ : Store) (begun mid : P) where
   pub found_told : (n : NextSlab) → Finds meaning store store₁ begun mid region.shape n → meaning.told mid ≡ meaning.told begun
   found_told (next.Open n) f = f.1.0.told_same
   found_told (next.New n canary) f = f.1.told_same
   found_told next.Exhausted f = f.1.0.told_same
   found_told next.PagesFailed f = f.2.told_same
 
+module _ {P : Type 0} (meaning : pages.Ghosts P) (region : Identity) (store₁ store' : Store) (mid now : P) where
   pub served_pages : (n : NextSlab) (e : Event) → GivesFrom meaning store₁ store' mid now region n e → KeepsPages meaning mid now
   served_pages (next.Open n) e v = gives_pages meaning region n v.0.index store₁.slabs store'.slabs mid now e.reply v.0.gives
   served_pages (next.New n canary) e v = gives_pages meaning region n v.0.index store₁.slabs store'.slabs mid now e.reply v.0.gives

@@ -114,8 +114,8 @@ holds_opened p opens n k runs shape own h =
     }
 
 -- ---- bytes are written
-pub holds_write : (p : Shape) (opens : List (ℕ × Slab)) (a len : ℕ) (w : List ℕ) (runs after : PageRuns) → IsShape p → length w ≡ len → HoldsSlabs p opens runs → Writes runs a len w after → HoldsSlabs p (overlaid_slabs p a w opens) after
-holds_write p opens a len w runs after shape long h wrote =
+pub holds_write : {p : Shape} {opens : List (ℕ × Slab)} (a len : ℕ) (w : List ℕ) {runs : PageRuns} (after : PageRuns) → IsShape p → length w ≡ len → HoldsSlabs p opens runs → Writes runs a len w after → HoldsSlabs p (overlaid_slabs p a w opens) after
+holds_write {p = p} {opens = opens} a len w {runs = runs} after shape long h wrote =
     let some : 1 ≤ p.slab = omega (arith, slab_some p shape) in
     let r = h.only wrote.first wrote.bytes wrote.is_run in
     let k : ℕ = r.number in
@@ -164,8 +164,8 @@ holds_write p opens a len w runs after shape long h wrote =
 
 -- ---- bytes are read
 -- a range within an open slab can be read and written
-pub held_in : (p : Shape) (s : State) (n r a len : ℕ) (runs : PageRuns) → has_bytes p ≡ true → is_open s n ≡ true → a ≡ slab_at p n + r → r + len ≤ p.slab → 0 < len → HoldsSlabs p s.opens runs → IsHeld runs a len
-held_in p s n r a len runs own on is fits some h =
+pub held_in : {p : Shape} (s : State) (n r : ℕ) {a : ℕ} (len : ℕ) {runs : PageRuns} → has_bytes p ≡ true → is_open s n ≡ true → a ≡ slab_at p n + r → r + len ≤ p.slab → 0 < len → HoldsSlabs p s.opens runs → IsHeld runs a len
+held_in {p = p} s n r len {runs = runs} own on is fits some h =
     let b = opens_some s.opens n on in
     let l : length b.0.bytes ≡ p.slab = all_bytes p s.opens runs h own n b.0 b.1 in
     (slab_at p n, b.0.bytes, h.each own n b.0 b.1, record { some = some; from = omega arith; to = omega arith })
@@ -277,7 +277,7 @@ holds_purged p opens n runs shape own on h =
     let z : length (zeros p.slab) ≡ p.slab = length-replicate {A = ℕ} p.slab 0 in
     let len : length b.0.bytes ≡ p.slab = all_bytes p opens runs h own n b.0 b.1 in
     let some : 1 ≤ p.slab = omega (arith, slab_some p shape) in
-    holds_write p opens (slab_at p n) p.slab (zeros p.slab) runs (map.insert runs (slab_at p n) (zeros p.slab)) shape z h (record {
+    holds_write (slab_at p n) p.slab (zeros p.slab) (map.insert runs (slab_at p n) (zeros p.slab)) shape z h (record {
       first = slab_at p n;
       bytes = b.0.bytes;
       is_run = h.each own n b.0 b.1;

@@ -41,9 +41,9 @@ use Rattle.hm_class.proofs.Used.{found, slab_new}
 use Rattle.hm_class.proofs.Shown.{kind_is, by_false, available_test}
 
 -- an entry is allowed where its call asks and is answered as the rules say
-pub allowed_of : (t : Terms) (s : State) (who : Who) (call : Call) (answer : Reply) (choices : Choices) (draws : Draws) (before now : ℕ) → AreDraws draws → Asks t.shape call → before ≡ s.faults → before ≤ now → Allows t s before now choices call answer
+pub allowed_of : {t : Terms} {s : State} {who : Who} (call : Call) (answer : Reply) (choices : Choices) (draws : Draws) {before now : ℕ} → AreDraws draws → Asks t.shape call → before ≡ s.faults → before ≤ now → Allows t s before now choices call answer
     → Allowed t s (entry_of who call answer choices draws before now)
-allowed_of t s who call answer choices draws before now are asks is later allows = record { draws = are; asks = asks; follows = is; later = later; allows = allows }
+allowed_of call answer choices draws are asks is later allows = record { draws = are; asks = asks; follows = is; later = later; allows = allows }
 
 -- ---- places
 -- the slots of open slabs are places
@@ -163,17 +163,17 @@ has_one (u ∷ us) some e = ap (λ (b : Bool). b || has_available us) (sym (avai
 pub usable_held : (p : Shape) (s : State) (n i : ℕ) (runs : PageRuns) → IsShape p → has_bytes p ≡ true → is_open s n ≡ true → i < p.slots → HoldsSlabs p s.opens runs → IsHeld runs (place p n i) (usable p)
 usable_held p s n i runs shape own on lt h =
     let u = usable_within p shape own in
-    held_in p s n (i * p.slot) (place p n i) (usable p) runs own on refl (omega (arith, place_within p i shape lt, u.0)) u.1 h
+    held_in s n (i * p.slot) (usable p) own on refl (omega (arith, place_within p i shape lt, u.0)) u.1 h
 
 pub canary_held : (p : Shape) (s : State) (n i : ℕ) (runs : PageRuns) → IsShape p → has_bytes p ≡ true → is_open s n ≡ true → i < p.slots → HoldsSlabs p s.opens runs → IsHeld runs (place p n i + usable p) 8
 canary_held p s n i runs shape own on lt h =
     let u = usable_within p shape own in
-    held_in p s n (i * p.slot + usable p) (place p n i + usable p) 8 runs own on (omega arith) (omega (arith, place_within p i shape lt, u.0)) (omega arith) h
+    held_in s n (i * p.slot + usable p) 8 own on (omega arith) (omega (arith, place_within p i shape lt, u.0)) (omega arith) h
 
 -- what is found among the usable bytes
-pub first_found : (p : Shape) (s : State) (n i : ℕ) (runs : PageRuns) (found : Option (ℕ × ℕ)) → IsShape p → has_bytes p ≡ true → is_open s n ≡ true → i < p.slots → HoldsSlabs p s.opens runs
+pub first_found : {p : Shape} (s : State) (n i : ℕ) {runs : PageRuns} (found : Option (ℕ × ℕ)) → IsShape p → has_bytes p ≡ true → is_open s n ≡ true → i < p.slots → HoldsSlabs p s.opens runs
     → (IsHeld runs (place p n i) (usable p) → (slice : List ℕ) × Reads runs (place p n i) (usable p) slice × (found ≡ first_nonzero slice)) → first_nonzero (usable_bytes p s (place p n i)) ≡ found
-first_found p s n i runs found shape own on lt h finds =
+first_found {p = p} s n i {runs = runs} found shape own on lt h finds =
     let r = finds (usable_held p s n i runs shape own on lt h) in
     sym (r.2 ∙ ap (λ (l : List ℕ). first_nonzero l) (reads_bytes p s (place p n i) (usable p) runs r.0 h r.1))
 
@@ -228,10 +228,10 @@ number_is last canary true e = of (from_le_bytes w64 last == canary)
 number_is last canary false e = absurd (true≢false (sym e))
 
 -- what is found where a slot's canary stands
-pub canary_found : (p : Shape) (uses : Uses) (s : State) (n i a : ℕ) (runs : PageRuns) (found : Option ℕ) → IsShape p → has_bytes p ≡ true → IsPlaceOf p a n i → is_open s n ≡ true → Shows p uses s → HoldsSlabs p s.opens runs
+pub canary_found : {p : Shape} {uses : Uses} {s : State} {n i a : ℕ} {runs : PageRuns} (found : Option ℕ) → IsShape p → has_bytes p ≡ true → IsPlaceOf p a n i → is_open s n ≡ true → Shows p uses s → HoldsSlabs p s.opens runs
     → (IsHeld runs (a + usable p) 8 → (last : List ℕ) × Reads runs (a + usable p) 8 last × (found ≡ other_number last (canary_at uses n)))
     → wrong_canary p s a ≡ option_map (pair_with (canary_at uses n)) found
-canary_found p uses s n i a runs found shape own at on h holds finds =
+canary_found {p = p} {uses = uses} {s = s} {n = n} {i = i} {a = a} {runs = runs} found shape own at on h holds finds =
     let held : IsHeld runs (a + usable p) 8 = subst (λ (q : ℕ). IsHeld runs (q + usable p) 8) (sym at.is) (canary_held p s n i runs shape own on at.slot holds) in
     let r = finds held in
     let kept : kept_canary p s a ≡ canary_at uses n = ap (λ (q : ℕ). kept_canary p s q) at.is ∙ kept_is p uses s n i shape at.slot h in

@@ -105,12 +105,12 @@ has_first p uses n i b is whole lt has =
     }
 
 -- and it is the one that the rules pick
-pub picked : (p : Shape) (uses : Uses) (s : State) (n i j : ℕ) (b : SlabUse) → Shows p uses s → slab_in uses n ≡ Some b → b.opened ≡ true → i < p.slots → first_at uses n i ≡ Some j → first_free p s n i ≡ Some (place p n j)
-picked p uses s n i j b h is on lt e =
+pub picked : {p : Shape} {uses : Uses} {s : State} (n i j : ℕ) {b : SlabUse} → Shows p uses s → slab_in uses n ≡ Some b → b.opened ≡ true → i < p.slots → first_at uses n i ≡ Some j → first_free p s n i ≡ Some (place p n j)
+picked {p = p} {uses = uses} {s = s} n i j {b = b} h is on lt e =
     let whole = h.slots n b is in
     let e' : first_from i b.slots ≡ Some j = sym (ap (λ (o : Option SlabUse). option_and_then (λ (b : SlabUse). first_from i b.slots) o) is) ∙ e in
     let f = is_first b.slots i j (omega (arith, lt, whole)) e' in
-    let free : (k : ℕ) → k < p.slots → is_free p s n k ≡ is_available (get_or b.slots k Never) = λ k less. free_is p uses s n k b (get_or b.slots k Never) h is on less (slice_get-get_or b.slots k Never (omega (arith, less, whole))) in
+    let free : (k : ℕ) → k < p.slots → is_free p s n k ≡ is_available (get_or b.slots k Never) = λ k less. free_is n k h is on less (slice_get-get_or b.slots k Never (omega (arith, less, whole))) in
     let within : j < p.slots = omega (arith, f.within, whole) in
     finds_first p s n i j lt (record {
       slot = within;

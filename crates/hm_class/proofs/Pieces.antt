@@ -25,9 +25,9 @@ pub each_zero : (bs : List ℕ) → position (λ b. not (b == 0)) bs ≡ None �
 each_zero bs e k lt = by_false _ (λ yes. position_none (λ b. not (b == 0)) bs e k (get_or bs k 0) (slice_get-get_or bs k 0 lt) yes)
 
 -- zero bytes, and a piece of zero bytes after them
-pub zero_on : (b : List ℕ) (start len from : ℕ) (slice : List ℕ) → slice ≡ take (length slice) (drop (start + from) b) → from + length slice ≤ len → position (λ b. not (b == 0)) slice ≡ None
+pub zero_on : (b : List ℕ) (start len from : ℕ) {slice : List ℕ} → slice ≡ take (length slice) (drop (start + from) b) → from + length slice ≤ len → position (λ b. not (b == 0)) slice ≡ None
     → ((k : ℕ) → k < from → not (get_or (take len (drop start b)) k 0 == 0) ≡ false) → (k : ℕ) → k < from + length slice → not (get_or (take len (drop start b)) k 0 == 0) ≡ false
-zero_on b start len from slice is within none before k lt =
+zero_on b start len from {slice = slice} is within none before k lt =
     ⊎_elim (λ below. before k below)
     (λ above. ap (λ (i : ℕ). not (get_or (take len (drop start b)) i 0 == 0)) (omega (arith, above))
     ∙ ap (λ (x : ℕ). not (x == 0)) (sym (piece_byte b start len from slice is within (k - from) (omega (arith, above, lt))))
@@ -35,10 +35,10 @@ zero_on b start len from slice is within none before k lt =
     (cases_lt k from)
 
 -- a byte that is found in a piece, where those before it are zero
-pub found_in : (b : List ℕ) (start len from : ℕ) (slice : List ℕ) (at : ℕ) → slice ≡ take (length slice) (drop (start + from) b) → from + length slice ≤ len → start + len ≤ length b
+pub found_in : (b : List ℕ) (start len from : ℕ) {slice : List ℕ} {at : ℕ} → slice ≡ take (length slice) (drop (start + from) b) → from + length slice ≤ len → start + len ≤ length b
     → position (λ b. not (b == 0)) slice ≡ Some at → ((k : ℕ) → k < from → not (get_or (take len (drop start b)) k 0 == 0) ≡ false)
     → first_nonzero (take len (drop start b)) ≡ Some (from + at, get_or slice at 0)
-found_in b start len from slice at is within fits found before =
+found_in b start len from {slice = slice} {at = at} is within fits found before =
     let r = position-Some (λ (b : ℕ). not (b == 0)) slice at 0 found in
     let all = take len (drop start b) in
     let long : length all ≡ len = omega (arith, fits, length-take len (drop start b), length-drop start b) in

@@ -29,7 +29,7 @@ use Rattle.hm_class.specs.Region.{HoldsSlabs}
 use Rattle.hm_class.specs.declared.identity.Identity.{Identity}
 use Rattle.hm_class.specs.declared.store.Store.{Store}
 use Rattle.hm_class.specs.Kept.{Shows, IsKept, terms_in}
-use Rattle.hm_class.proofs.Followed.{shows_held}
+use Rattle.hm_class.proofs.Followed.{slot_shown, shows_held}
 use Rattle.hm_class.proofs.Freed.{index_fits}
 use Rattle.hm_class.proofs.Paged.{holds_write, holds_without, slab_page_run}
 use Rattle.hm_class.proofs.Permitted.{usable_held, live_open}
@@ -78,7 +78,7 @@ module _ {told : Bool} {runs : PageRuns} {faults : ℕ} {region : Identity} {es 
   held_shows =
       let f = found store.slabs.slabs live.slab live.index Live at_live.1 in
       subst (λ (q : ℕ). Shows region.shape store₁.slabs.slabs (takes_back region.shape q first)) (sym at_live.0.is)
-      (subst (λ (u : Uses). Shows region.shape u (takes_back region.shape (place region.shape live.slab live.index) first)) (sym holds.slabs) (shows_held region.shape store.slabs.slabs first live.slab live.index f.slab Live region.served.shape at_live.0.slot f.is_slab at_live.1 kept.follows.shows refl))
+      (subst (λ (u : Uses). Shows region.shape u (takes_back region.shape (place region.shape live.slab live.index) first)) (sym holds.slabs) (shows_held (slot_shown region.served.shape kept.follows.shows f.is_slab at_live.0.slot) at_live.1 kept.follows.shows refl))
 
   was_open : is_open first live.slab ≡ true
   was_open = live_open region.shape first live.slab live.index region.served.shape (sound_now kept) at_live.0.slot (ap (λ (q : ℕ). is_live first q) (sym at_live.0.is) ∙ was_live)
@@ -93,7 +93,7 @@ module _ {told : Bool} {runs : PageRuns} {faults : ℕ} {region : Identity} {es 
       before = subst (λ (r : PageRuns). HoldsSlabs region.shape first.opens r) (sym runs_is) (kept.slabs y)
 
       of : (own : Bool) → has_bytes region.shape ≡ own → HoldsSlabs region.shape taken.opens (meaning.runs half)
-      of true own = holds_write region.shape first.opens a (usable region.shape) w (meaning.runs begun) (meaning.runs half) region.served.shape (length-replicate (usable region.shape) 0) before
+      of true own = holds_write a (usable region.shape) w (meaning.runs half) region.served.shape (length-replicate (usable region.shape) 0) before
           (holds.cleared.some own (told_is ∙ y) (subst (λ (q : ℕ). IsHeld (meaning.runs begun) q (usable region.shape)) (sym at_live.0.is) (usable_held region.shape first live.slab live.index (meaning.runs begun) region.served.shape own was_open at_live.0.slot before)))
       of false off = subst (λ (r : PageRuns). HoldsSlabs region.shape taken.opens r) (sym (holds.cleared.none off (told_is ∙ y)))
           (holds_without region.shape first.opens taken.opens (meaning.runs begun) off (whole_write (bytes_of_slab region.shape) region.shape a w first.opens before.whole) before)

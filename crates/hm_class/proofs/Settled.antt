@@ -45,7 +45,7 @@ use Rattle.hm_class.specs.declared.identity.Identity.{Identity}
 use Rattle.hm_class.specs.declared.store.Store.{Store}
 use Rattle.hm_class.specs.Kept.{Shows, AreFull, IsKept, terms_in, cells_of}
 use Rattle.hm_class.proofs.Entered.{length_taken, has_removed_same, has_overlaid}
-use Rattle.hm_class.proofs.Followed.{shows_count, shows_released, shows_retired, shows_unparked, shows_written}
+use Rattle.hm_class.proofs.Followed.{shows_count, slot_shown, shows_released, shows_retired, shows_unparked, shows_written}
 use Rattle.hm_class.proofs.Freed.{released_is, draws_are, stepped_freed, after_freed, stream_after, IsNextWord, IsUnparked, index_drawn, parking_drawn}
 use Rattle.hm_class.proofs.Listed.{next_freed, listed_same, empty_kind}
 use Rattle.hm_class.proofs.Paged.{holds_retired, holds_purged}
@@ -95,10 +95,17 @@ chosen_is released (emptied.Purged d) = refl
 clean_without : (p : Shape) (s : State) (a : ℕ) → has_bytes p ≡ false → wrong_canary p s a ≡ None
 clean_without p s a off = ap (λ (b : Bool). cond (b && not (found_canary p s a == kept_canary p s a)) (told_pair (kept_canary p s a) (found_canary p s a)) None) off
 
-module _ {P : Type 0} {meaning : pages.Ghosts P} {begun half : P} {region : Identity} {es : List Entry} {store store₁ : Store} {a : ℕ} {slot : Slot} {stated : Option ℕ} {result : Option ℕ × Option ℕ}
-    (kept : IsKept (meaning.told begun) (meaning.runs begun) (meaning.faults begun) region es store) (now : P) (store' : Store) (who : Who) (f f' : ℕ)
-    (accepts : Accepts meaning region.shape store.slabs begun a stated slot) (holds : Holds meaning store store₁ begun half region.shape a slot result)
-    (is : f ≡ meaning.faults begun) (later : f ≤ f') where
+-- the free of the live slot at a: its block is accepted, the slot went into quarantine, and faults are counted f before
+-- and f' after it
+pub record IsFree {P : Type 0} (meaning : pages.Ghosts P) (region : Identity) (store store₁ : Store) (begun half : P) (a : ℕ) (slot : Slot) (stated : Option ℕ) (result : Option ℕ × Option ℕ) (f f' : ℕ) : Type 0 where
+  pub accepts : Accepts meaning region.shape store.slabs begun a stated slot
+  pub holds : Holds meaning store store₁ begun half region.shape a slot result
+  pub count : f ≡ meaning.faults begun
+  pub later : f ≤ f'
+
+module _ {P : Type 0} {meaning : pages.Ghosts P} {begun half : P} {region : Identity} {es : List Entry} {store store₁ : Store} {a : ℕ} {slot : Slot} {stated : Option ℕ} {result : Option ℕ × Option ℕ} {f f' : ℕ}
+    (kept : IsKept (meaning.told begun) (meaning.runs begun) (meaning.faults begun) region es store) (free : IsFree meaning region store store₁ begun half a slot stated result f f')
+    (now : P) (store' : Store) (who : Who) where
   abbrev t : Terms
   t = terms_in (meaning.told begun) region
 
@@ -115,66 +122,88 @@ module _ {P : Type 0} {meaning : pages.Ghosts P} {begun half : P} {region : Iden
       slabs = kept.slabs y
 
       on : is_open first slot.slab ≡ true
-      on = live_open region.shape first slot.slab slot.index region.served.shape (sound_now kept) accepts.judged.0.slot
-          (ap (λ (q : ℕ). is_live first q) (sym accepts.judged.0.is) ∙ (live_block region.shape store.slabs.slabs first a region.served.shape kept.follows.shows slot accepts.judged).live)
+      on = live_open region.shape first slot.slab slot.index region.served.shape (sound_now kept) free.accepts.judged.0.slot
+          (ap (λ (q : ℕ). is_live first q) (sym free.accepts.judged.0.is) ∙ (live_block region.shape store.slabs.slabs first a region.served.shape kept.follows.shows slot free.accepts.judged).live)
 
       of : (own : Bool) → has_bytes region.shape ≡ own → wrong_canary region.shape first a ≡ None
-      of true own = canary_found region.shape store.slabs.slabs first slot.slab slot.index a (meaning.runs begun) None region.served.shape own accepts.judged.0 on kept.follows.shows slabs (accepts.canary own y)
+      of true own = canary_found None region.served.shape own free.accepts.judged.0 on kept.follows.shows slabs (free.accepts.canary own y)
       of false off = clean_without region.shape first a off
 
-  -- once the slabs, the pages and the lists follow
-  finish : (released : Option ℕ) (m : ℕ) (e : Emptied) (final : State) (kb ka : Kind) → released ≡ let_go store.quarantine a (index_of_word region.shape (next_word store.stream))
-      → step region.shape first (entry_freed region.shape store.stream who a stated released e f f') ≡ record final { faults = f' }
-      → Empties t (releases released taken) f f' (freed_choices released e) (surplus region.shape (releases released taken) released)
-      → IsNextWord store.stream (region.shape.array == 0) e → IsUnparked t (cells_of first store) e
-      → Shows region.shape store'.slabs.slabs final → store'.slabs.lists.retired ≡ final.shut → AreFull store'.slabs.slabs store'.slabs.lists.full → store'.slabs.numbers ≡ numbers_of region.shape → length final.live ≤ live_count store'.slabs.slabs → (IsTrue (meaning.told begun) → HoldsSlabs region.shape final.opens (meaning.runs now))
-      → touched region.shape released (Returned a) ≡ m → kind region.shape first m ≡ kb → kind region.shape final m ≡ ka
-      → store'.slabs.lists.partial ≡ listed Partial m kb ka store.slabs.lists.partial → store'.slabs.lists.empty ≡ listed Empty m kb ka store.slabs.lists.empty
-      → store'.stream ≡ stream_after (array_stream region.shape store.stream) e → store'.slabs.parking ≡ parking_with (parking_index t (freed_draws (array_word region.shape (next_word store.stream)) e)) (freed_choices released e).retired store.slabs.parking
-      → store'.quarantine ≡ kept_with store.quarantine a (index_of_word region.shape (next_word store.stream))
-      → IsKept (meaning.told begun) (meaning.runs now) f' region (es ++ entry_freed region.shape store.stream who a stated released e f f' ∷ []) store'
-  finish released m e final kb ka let_is after empties next unparked shows shut full numbers live slabs at was now_is partial empty taken_words parking quarantine =
+  abbrev Ends : Option ℕ → Emptied → Type 0
+  Ends released e = IsKept (meaning.told begun) (meaning.runs now) f' region (es ++ entry_freed region.shape store.stream who a stated released e f f' ∷ []) store'
+
+  -- the slabs, the pages and the lists follow: slab m, which was `before`, is `then`, and the state is the last one
+  record Settled (released : Option ℕ) (e : Emptied) (last : State) (m : ℕ) (before then : Kind) : Type 0 where
+    let_is : released ≡ let_go store.quarantine a (index_of_word region.shape (next_word store.stream))
+    after : step region.shape first (entry_freed region.shape store.stream who a stated released e f f') ≡ record last { faults = f' }
+    empties : Empties t (releases released taken) f f' (freed_choices released e) (surplus region.shape (releases released taken) released)
+    word : IsNextWord store.stream (region.shape.array == 0) e
+    unparked : IsUnparked t (cells_of first store) e
+    shows : Shows region.shape store'.slabs.slabs last
+    shut : store'.slabs.lists.retired ≡ last.shut
+    full : AreFull store'.slabs.slabs store'.slabs.lists.full
+    numbers : store'.slabs.numbers ≡ numbers_of region.shape
+    live : length last.live ≤ live_count store'.slabs.slabs
+    slabs : IsTrue (meaning.told begun) → HoldsSlabs region.shape last.opens (meaning.runs now)
+    slab : touched region.shape released (Returned a) ≡ m
+    was : kind region.shape first m ≡ before
+    is : kind region.shape last m ≡ then
+    partial : store'.slabs.lists.partial ≡ listed Partial m before then store.slabs.lists.partial
+    empty : store'.slabs.lists.empty ≡ listed Empty m before then store.slabs.lists.empty
+    stream : store'.stream ≡ stream_after (array_stream region.shape store.stream) e
+    parking : store'.slabs.parking ≡ parking_with (parking_index t (freed_draws (array_word region.shape (next_word store.stream)) e)) (freed_choices released e).retired store.slabs.parking
+    quarantine : store'.quarantine ≡ kept_with store.quarantine a (index_of_word region.shape (next_word store.stream))
+
+  finish : {released : Option ℕ} {e : Emptied} {last : State} {m : ℕ} {before then : Kind} → Settled released e last m before then → Ends released e
+  finish {released = released} {e = e} {last = last} {m = m} s =
       let x : Entry = entry_freed region.shape store.stream who a stated released e f f' in
       let same : (freed_choices released e).released ≡ released = released_is released e in
-      let release : Releases region.shape taken released = subst (λ (o : Option ℕ). Releases region.shape taken o) (sym let_is)
-      (release_now kept refl refl accepts.judged holds) in
-      pushed kept (meaning.runs now) f' store' x
-      (allowed_of t first who (GiveBack a stated) reply.Freed (freed_choices released e) (freed_draws (array_word region.shape (next_word store.stream)) e) f f' (draws_are region.shape store.stream e) tt (is ∙ kept.count) later (record {
-        block = live_block region.shape store.slabs.slabs first a region.served.shape kept.follows.shows slot accepts.judged;
-        size = accepts.size;
+      let release : Releases region.shape taken released = subst (λ (o : Option ℕ). Releases region.shape taken o) (sym s.let_is)
+      (release_now kept refl refl free.accepts.judged free.holds) in
+      pushed kept store' x
+      (allowed_of (GiveBack a stated) reply.Freed (freed_choices released e) (freed_draws (array_word region.shape (next_word store.stream)) e) (draws_are region.shape store.stream e) tt (free.count ∙ kept.count) free.later (record {
+        block = live_block region.shape store.slabs.slabs first a region.served.shape kept.follows.shows slot free.accepts.judged;
+        size = free.accepts.size;
         canary = clean;
         release = subst (λ (o : Option ℕ). Releases region.shape taken o) (sym same) release;
-        emptied = subst (λ (o : Option ℕ). Empties t (releases o taken) f f' (freed_choices released e) (surplus region.shape (releases o taken) o)) (sym same) empties;
+        emptied = subst (λ (o : Option ℕ). Empties t (releases o taken) f f' (freed_choices released e) (surplus region.shape (releases o taken) o)) (sym same) s.empties;
         choices = chosen_is released e;
       }))
-      (stepped_freed t (cells_of first store) who a f f' stated released e next unparked let_is) refl
+      (stepped_freed t (cells_of first store) who a stated released e s.word s.unparked s.let_is) refl
       (record {
-        shows = subst (λ (s : State). Shows region.shape store'.slabs.slabs s) (sym after) (shows_count region.shape store'.slabs.slabs final f' shows);
-        shut = shut ∙ ap (λ (s : State). s.shut) (sym after);
-        full = full;
-        numbers = numbers;
-        live_all = omega (arith, live, ap (λ (s : State). length s.live) after);
+        shows = subst (λ (z : State). Shows region.shape store'.slabs.slabs z) (sym s.after) (shows_count region.shape store'.slabs.slabs last f' s.shows);
+        shut = s.shut ∙ ap (λ (z : State). z.shut) (sym s.after);
+        full = s.full;
+        numbers = s.numbers;
+        live_all = omega (arith, s.live, ap (λ (z : State). length z.live) s.after);
       })
-      (λ y. subst (λ (s : State). HoldsSlabs region.shape s.opens (meaning.runs now)) (sym after) (slabs y))
-      (next_freed t first store store' x a m kb ka refl (ap (λ (o : Option ℕ). touched region.shape o (Returned a)) same ∙ at) was
-      (ap (λ (s : State). kind region.shape s m) after ∙ now_is) (after_freed region.shape store.stream e ∙ sym taken_words) partial empty
-      (quarantine ∙ ap (λ (i : ℕ). kept_with store.quarantine a i) (sym (index_drawn region.shape store.stream e))) parking)
+      (λ y. subst (λ (z : State). HoldsSlabs region.shape z.opens (meaning.runs now)) (sym s.after) (s.slabs y))
+      (next_freed t first x store store' refl (record {
+        slab = ap (λ (o : Option ℕ). touched region.shape o (Returned a)) same ∙ s.slab;
+        was = s.was;
+        now = ap (λ (z : State). kind region.shape z m) s.after ∙ s.is;
+        taken = after_freed region.shape store.stream e ∙ sym s.stream;
+        partial = s.partial;
+        empty = s.empty;
+        quarantine = s.quarantine ∙ ap (λ (i : ℕ). kept_with store.quarantine a i) (sym (index_drawn region.shape store.stream e));
+        parking = s.parking;
+      }))
 
   -- the slots with the freed one held
   shows₁ : Shows region.shape store₁.slabs.slabs taken
-  shows₁ = held_shows kept refl refl accepts.judged holds
+  shows₁ = held_shows kept refl refl free.accepts.judged free.holds
 
   slabs₁ : IsTrue (meaning.told begun) → HoldsSlabs region.shape taken.opens (meaning.runs half)
-  slabs₁ = held_slabs kept refl refl accepts.judged holds
+  slabs₁ = held_slabs kept refl refl free.accepts.judged free.holds
 
   kind₁ : (m : ℕ) → kind region.shape first m ≡ kind_at store₁.slabs.slabs m
-  kind₁ = kind_then kept refl refl accepts.judged holds
+  kind₁ = kind_then kept refl refl free.accepts.judged free.holds
 
   live : is_live first a ≡ true
-  live = was_live kept refl refl accepts.judged holds
+  live = was_live kept refl refl free.accepts.judged free.holds
 
   live_taken : length taken.live ≤ live_count store₁.slabs.slabs
-  live_taken = omega (arith, kept.follows.live_all, ap live_count holds.slabs, counted lives store.slabs.slabs slot.slab slot.index Held Live accepts.judged.1, length_taken a first.live live)
+  live_taken = omega (arith, kept.follows.live_all, ap live_count free.holds.slabs, counted lives store.slabs.slabs slot.slab slot.index Held Live free.accepts.judged.1, length_taken a first.live live)
 
   -- what was open is open, and slabs are what they were
   open₁ : (m : ℕ) → is_open taken m ≡ is_open first m
@@ -188,26 +217,35 @@ module _ {P : Type 0} {meaning : pages.Ghosts P} {begun half : P} {region : Iden
       let is = kept.follows.full m at in
       (sym (shows₁.opens m) ∙ open₁ m ∙ kept.follows.shows.opens m ∙ is.0, sym (same_kind₁ m) ∙ is.1)
 
-  abbrev Ends : Option ℕ → Emptied → Type 0
-  Ends released e = IsKept (meaning.told begun) (meaning.runs now) f' region (es ++ entry_freed region.shape store.stream who a stated released e f f' ∷ []) store'
-
   -- nothing left the quarantine
   pub kept_held : (e : Emptied) → None ≡ let_go store.quarantine a (index_of_word region.shape (next_word store.stream)) → e ≡ emptied.Kept → store'.slabs.slabs ≡ store₁.slabs.slabs → SameLists store₁.slabs store'.slabs → (IsTrue (meaning.told begun) → meaning.runs now ≡ meaning.runs half) → store'.stream ≡ array_stream region.shape store.stream → store'.slabs.parking ≡ store.slabs.parking
       → store'.quarantine ≡ store₁.quarantine → Ends None e
   kept_held e none e_is same same_lists same_runs words parking quarantine =
       let m : ℕ = slab_of region.shape a in
       let ka : Kind = kind region.shape first m in
-      let all_lists : store'.slabs.lists ≡ store.slabs.lists = same_lists.lists ∙ holds.lists.lists in
+      let all_lists : store'.slabs.lists ≡ store.slabs.lists = same_lists.lists ∙ free.holds.lists.lists in
       subst (λ (x : Emptied). Ends None x) (sym e_is)
-      (finish None m emptied.Kept taken ka ka none refl (refl, refl, refl) tt tt
-      (subst (λ (u : Uses). Shows region.shape u taken) (sym same) shows₁) (ap (λ (l : Lists). l.retired) all_lists ∙ kept.follows.shut)
-      (same_full store₁.slabs.slabs store'.slabs.slabs store.slabs.lists.full store'.slabs.lists.full same (ap (λ (l : Lists). l.full) all_lists) full₁) (same_lists.numbers ∙ holds.lists.numbers ∙ kept.follows.numbers)
-      (omega (arith, live_taken, ap live_count same))
-      (λ y. subst (λ (r : PageRuns). HoldsSlabs region.shape taken.opens r) (sym (same_runs y)) (slabs₁ y))
-      refl refl (kind_is region.shape store₁.slabs.slabs taken m region.served.shape shows₁ ∙ sym (kind₁ m))
-      (ap (λ (l : Lists). l.partial) all_lists ∙ sym (listed_same Partial ka m store.slabs.lists.partial))
-      (ap (λ (l : Lists). l.empty) all_lists ∙ sym (listed_same Empty ka m store.slabs.lists.empty))
-      words parking (quarantine ∙ holds.quarantine_is))
+      (finish {e = emptied.Kept} {last = taken} {m = m} (record {
+        let_is = none;
+        after = refl;
+        empties = (refl, refl, refl);
+        word = tt;
+        unparked = tt;
+        shows = subst (λ (u : Uses). Shows region.shape u taken) (sym same) shows₁;
+        shut = ap (λ (l : Lists). l.retired) all_lists ∙ kept.follows.shut;
+        full = same_full store₁.slabs.slabs store'.slabs.slabs store.slabs.lists.full store'.slabs.lists.full same (ap (λ (l : Lists). l.full) all_lists) full₁;
+        numbers = same_lists.numbers ∙ free.holds.lists.numbers ∙ kept.follows.numbers;
+        live = omega (arith, live_taken, ap live_count same);
+        slabs = λ y. subst (λ (r : PageRuns). HoldsSlabs region.shape taken.opens r) (sym (same_runs y)) (slabs₁ y);
+        slab = refl;
+        was = refl;
+        is = kind_is region.shape store₁.slabs.slabs taken m region.served.shape shows₁ ∙ sym (kind₁ m);
+        partial = ap (λ (l : Lists). l.partial) all_lists ∙ sym (listed_same Partial ka m store.slabs.lists.partial);
+        empty = ap (λ (l : Lists). l.empty) all_lists ∙ sym (listed_same Empty ka m store.slabs.lists.empty);
+        stream = words;
+        parking = parking;
+        quarantine = quarantine ∙ free.holds.quarantine_is;
+      }))
 
   -- ---- slot b left the quarantine
   module _ (b : ℕ) (let_is : Some b ≡ let_go store.quarantine a (index_of_word region.shape (next_word store.stream))) where
@@ -222,16 +260,16 @@ module _ {P : Type 0} {meaning : pages.Ghosts P} {begun half : P} {region : Iden
 
     release : Releases region.shape taken (Some b)
     release = subst (λ (o : Option ℕ). Releases region.shape taken o) (sym let_is)
-        (release_now kept refl refl accepts.judged holds)
+        (release_now kept refl refl free.accepts.judged free.holds)
 
-    place_b : IsReleased kept refl refl accepts.judged holds b
-    place_b = is_released kept refl refl accepts.judged holds b release.0
+    place_b : IsReleased kept refl refl free.accepts.judged free.holds b
+    place_b = is_released kept refl refl free.accepts.judged free.holds b release.0
 
     shows₂ : Shows region.shape uses₂ freed
     shows₂ =
         let r = place_b in
         let g = found store₁.slabs.slabs m (slot_of region.shape b) Held r.used in
-        subst (λ (q : ℕ). Shows region.shape uses₂ (releases (Some q) taken)) (sym r.is_place) (shows_released region.shape store₁.slabs.slabs taken m (slot_of region.shape b) g.slab Held region.served.shape r.slot g.is_slab r.used shows₁ refl)
+        subst (λ (q : ℕ). Shows region.shape uses₂ (releases (Some q) taken)) (sym r.is_place) (shows_released (slot_shown region.served.shape shows₁ g.is_slab r.slot) r.used shows₁ refl)
 
     -- whether the slab is one too many
     surplus_is : is_surplus region.shape uses₂ (length store₁.slabs.lists.empty) m ≡ (is_empty region.shape freed m && nat_lt 131072 (length (empty_slabs region.shape freed) * region.shape.slab))
@@ -244,7 +282,7 @@ module _ {P : Type 0} {meaning : pages.Ghosts P} {begun half : P} {region : Iden
 
         of : (x : Bool) → is_empty region.shape freed m ≡ x → (x && nat_lt 131072 ((length store₁.slabs.lists.empty + 1) * region.shape.slab)) ≡ (x && nat_lt 131072 (length (empty_slabs region.shape freed) * region.shape.slab))
         of true e = ap (λ (n : ℕ). nat_lt 131072 (n * region.shape.slab))
-            (omega (arith, one_more_empty region.shape first a b region.served.shape (sound_now kept) live release e, now_kept.empty_count, ap (λ (l : Lists). length l.empty) holds.lists.lists))
+            (omega (arith, one_more_empty region.shape first a b region.served.shape (sound_now kept) live release e, now_kept.empty_count, ap (λ (l : Lists). length l.empty) free.holds.lists.lists))
         of false e = refl
 
     surplus_when : (x : Bool) → is_surplus region.shape uses₂ (length store₁.slabs.lists.empty) m ≡ x → surplus region.shape freed (Some b) ≡ cond x (Some m) None
@@ -260,7 +298,7 @@ module _ {P : Type 0} {meaning : pages.Ghosts P} {begun half : P} {region : Iden
     -- the slabs before the lists follow
     module _ (mid : Slabs) (mid_slabs : mid.slabs ≡ uses₂) (mid_lists : SameLists store₁.slabs mid) where
       all_mid : mid.lists ≡ store.slabs.lists
-      all_mid = mid_lists.lists ∙ holds.lists.lists
+      all_mid = mid_lists.lists ∙ free.holds.lists.lists
 
       beside₂ : (n : ℕ) → n ≢ m → slab_in uses₂ n ≡ slab_in store₁.slabs.slabs n
       beside₂ n ne =
@@ -286,7 +324,7 @@ module _ {P : Type 0} {meaning : pages.Ghosts P} {begun half : P} {region : Iden
 
         joined_full : AreFull store'.slabs.slabs store'.slabs.lists.full
         joined_full = subst (λ (u : Uses). AreFull u store'.slabs.lists.full) (sym slabs_are) (subst (λ (l : Lists). AreFull uses₂ l.full) (sym lists_are)
-            (placed_full store₁.slabs.slabs uses₂ store.slabs.lists m (kind_at store₁.slabs.slabs m) ka stands full₁ open₂ is_ka beside₂))
+            (placed_full store₁.slabs.slabs uses₂ ka stands full₁ open₂ is_ka beside₂))
 
         joined_shut : store'.slabs.lists.retired ≡ first.shut
         joined_shut = ap (λ (l : Lists). l.retired) lists_are ∙ relisted.retired ∙ kept.follows.shut
@@ -298,7 +336,7 @@ module _ {P : Type 0} {meaning : pages.Ghosts P} {begun half : P} {region : Iden
         joined_empty = ap (λ (l : Lists). l.empty) lists_are ∙ relisted.empty
 
         joined_numbers : store'.slabs.numbers ≡ numbers_of region.shape
-        joined_numbers = joins.numbers ∙ mid_lists.numbers ∙ holds.lists.numbers ∙ kept.follows.numbers
+        joined_numbers = joins.numbers ∙ mid_lists.numbers ∙ free.holds.lists.numbers ∙ kept.follows.numbers
 
       -- it is retired
       module _ (w : ℕ) (u : Option ℕ) (parks : Parks m (drawn (length mid.parking) w) mid store'.slabs) (was_there : u ≡ slice_index_or mid.parking (drawn (length mid.parking) w) None) where
@@ -321,7 +359,7 @@ module _ {P : Type 0} {meaning : pages.Ghosts P} {begun half : P} {region : Iden
             ∙ ap (λ (l : List ℕ). with_unparked l u) kept.follows.shut
 
         parked_numbers : store'.slabs.numbers ≡ numbers_of region.shape
-        parked_numbers = parks.numbers ∙ mid_lists.numbers ∙ holds.lists.numbers ∙ kept.follows.numbers
+        parked_numbers = parks.numbers ∙ mid_lists.numbers ∙ free.holds.lists.numbers ∙ kept.follows.numbers
 
     pub kept_released : (e : Emptied) → frees.Releases meaning store₁ store' half now region.shape b e → f' ≡ meaning.faults now → Ends (Some b) e
     kept_released e v now_is = by_end e v.empties
@@ -330,7 +368,7 @@ module _ {P : Type 0} {meaning : pages.Ghosts P} {begun half : P} {region : Iden
         mid = v.mid
 
         parking : mid.parking ≡ store.slabs.parking
-        parking = v.lists.parking ∙ holds.lists.parking
+        parking = v.lists.parking ∙ free.holds.lists.parking
 
         over : Bool → Type 0
         over x = is_surplus region.shape mid.slabs (length mid.lists.empty) m ≡ x
@@ -344,15 +382,27 @@ module _ {P : Type 0} {meaning : pages.Ghosts P} {begun half : P} {region : Iden
             let ka : Kind = kind_at uses₂ m in
             let j = w.1.joins in
             let q = w.1.keeps in
-            finish (Some b) m emptied.Kept freed (kind_at store₁.slabs.slabs m) ka let_is refl
-            (subst (λ (o : Option ℕ). Empties t freed f f' (freed_choices (Some b) emptied.Kept) o) (sym (surplus_when false (surplus_by false w.0))) (refl, refl, refl)) tt tt
-            (subst (λ (u : Uses). Shows region.shape u freed) (sym (slabs_are mid v.slabs v.lists ka j refl)) shows₂) (joined_shut mid v.slabs v.lists ka j refl)
-            (joined_full mid v.slabs v.lists ka j refl) (joined_numbers mid v.slabs v.lists ka j refl)
-            (omega (arith, live_taken, ap live_count (slabs_are mid v.slabs v.lists ka j refl), free_live))
-            (λ y. subst (λ (r : PageRuns). HoldsSlabs region.shape taken.opens r) (sym (q.page_runs_same (holds.cleared.pages.told ∙ y))) (slabs₁ y))
-            refl (kind₁ m) (kind_is region.shape uses₂ freed m region.served.shape shows₂)
-            (joined_partial mid v.slabs v.lists ka j refl) (joined_empty mid v.slabs v.lists ka j refl)
-            (q.stream_is ∙ holds.stream_is) (q.parking_is ∙ parking) (q.quarantine_same ∙ holds.quarantine_is)
+            finish {last = freed} {m = m} (record {
+              let_is = let_is;
+              after = refl;
+              empties = subst (λ (o : Option ℕ). Empties t freed f f' (freed_choices (Some b) emptied.Kept) o) (sym (surplus_when false (surplus_by false w.0))) (refl, refl, refl);
+              word = tt;
+              unparked = tt;
+              shows = subst (λ (u : Uses). Shows region.shape u freed) (sym (slabs_are mid v.slabs v.lists ka j refl)) shows₂;
+              shut = joined_shut mid v.slabs v.lists ka j refl;
+              full = joined_full mid v.slabs v.lists ka j refl;
+              numbers = joined_numbers mid v.slabs v.lists ka j refl;
+              live = omega (arith, live_taken, ap live_count (slabs_are mid v.slabs v.lists ka j refl), free_live);
+              slabs = λ y. subst (λ (r : PageRuns). HoldsSlabs region.shape taken.opens r) (sym (q.page_runs_same (free.holds.cleared.pages.told ∙ y))) (slabs₁ y);
+              slab = refl;
+              was = kind₁ m;
+              is = kind_is region.shape uses₂ freed m region.served.shape shows₂;
+              partial = joined_partial mid v.slabs v.lists ka j refl;
+              empty = joined_empty mid v.slabs v.lists ka j refl;
+              stream = q.stream_is ∙ free.holds.stream_is;
+              parking = q.parking_is ∙ parking;
+              quarantine = q.quarantine_same ∙ free.holds.quarantine_is;
+            })
         by_end (emptied.Retired d w u) x =
             let j = x.1 in
             let r = place_b in
@@ -370,51 +420,70 @@ module _ {P : Type 0} {meaning : pages.Ghosts P} {begun half : P} {region : Iden
             let slabs : store'.slabs.slabs ≡ with_shut uses₂ m = parked_slabs mid v.slabs v.lists w u j.parks j.unparked_is in
             let all : store'.slabs.lists ≡ unparked u (gone m store.slabs.lists) = parked_lists mid v.slabs v.lists w u j.parks j.unparked_is in
             subst (λ (d : ℕ). Ends (Some b) (emptied.Retired d w u)) (sym j.slab_is)
-            (finish (Some b) m (emptied.Retired m w u) (retires (Some m) s₃) (kind_at store₁.slabs.slabs m) Neither let_is refl
-            (subst (λ (o : Option ℕ). Empties t freed f f' (freed_choices (Some b) (emptied.Retired m w u)) o) (sym (surplus_when true (surplus_by true x.0))) (inl (refl, refl, allowed)))
-            (j.word_is ∙ ap next_word holds.stream_is) here
-            (subst (λ (x : Uses). Shows region.shape x (retires (Some m) s₃)) (sym slabs) (shows_retired region.shape uses₂ s₃ m g.slab g.is_slab shows₃))
-            (parked_shut mid v.slabs v.lists w u j.parks j.unparked_is ∙ shut_with u freed)
-            (parked_full mid v.slabs v.lists w u j.parks j.unparked_is) (parked_numbers mid v.slabs v.lists w u j.parks j.unparked_is)
-            (omega (arith, live_taken, ap live_count slabs, shut_live uses₂ m g.slab g.is_slab, free_live, ap (λ (l : List (ℕ × ℕ)). length l) (unparked_live u freed)))
-            (λ y. subst (λ (r : PageRuns). HoldsSlabs region.shape (retires (Some m) s₃).opens r) (sym (j.dropped.0 (holds.cleared.pages.told ∙ y)))
-            (subst (λ (l : List (ℕ × Slab)). HoldsSlabs region.shape (removed m l) (cond (has_bytes region.shape) (map.remove (meaning.runs half) (slab_at region.shape m)) (meaning.runs half))) (sym (unparked_opens u freed)) (holds_retired region.shape taken.opens m (meaning.runs half) region.served.shape (slabs₁ y))))
-            refl (kind₁ m) (kind_shut region.shape (retires (Some m) s₃) m region.served.shape (has_removed_same m s₃.opens))
-            (ap (λ (l : Lists). l.partial) all ∙ retired_partial store.slabs.lists m u (kind_at store₁.slabs.slabs m) stands)
-            (ap (λ (l : Lists). l.empty) all ∙ retired_empty store.slabs.lists m u (kind_at store₁.slabs.slabs m) stands)
-            (j.stream_is ∙ ap after_word holds.stream_is)
-            (j.parks.parking ∙ ap (λ (x : ℕ). slice_set mid.parking (drawn x w) (Some m)) length_is ∙ ap (λ (l : List (Option ℕ)). slice_set l (drawn region.config.park_length w) (Some m)) parking
-            ∙ ap (λ (i : ℕ). slice_set store.slabs.parking i (Some m)) (sym (parking_drawn t store.stream m w u)))
-            (j.quarantine_same ∙ holds.quarantine_is))
+            (finish {e = emptied.Retired m w u} {last = retires (Some m) s₃} {m = m} (record {
+              let_is = let_is;
+              after = refl;
+              empties = subst (λ (o : Option ℕ). Empties t freed f f' (freed_choices (Some b) (emptied.Retired m w u)) o) (sym (surplus_when true (surplus_by true x.0))) (inl (refl, refl, allowed));
+              word = j.word_is ∙ ap next_word free.holds.stream_is;
+              unparked = here;
+              shows = subst (λ (x : Uses). Shows region.shape x (retires (Some m) s₃)) (sym slabs) (shows_retired region.shape uses₂ s₃ m g.slab g.is_slab shows₃);
+              shut = parked_shut mid v.slabs v.lists w u j.parks j.unparked_is ∙ shut_with u freed;
+              full = parked_full mid v.slabs v.lists w u j.parks j.unparked_is;
+              numbers = parked_numbers mid v.slabs v.lists w u j.parks j.unparked_is;
+              live = omega (arith, live_taken, ap live_count slabs, shut_live uses₂ m g.slab g.is_slab, free_live, ap (λ (l : List (ℕ × ℕ)). length l) (unparked_live u freed));
+              slabs = λ y. subst (λ (r : PageRuns). HoldsSlabs region.shape (retires (Some m) s₃).opens r) (sym (j.dropped.0 (free.holds.cleared.pages.told ∙ y)))
+                  (subst (λ (l : List (ℕ × Slab)). HoldsSlabs region.shape (removed m l) (cond (has_bytes region.shape) (map.remove (meaning.runs half) (slab_at region.shape m)) (meaning.runs half))) (sym (unparked_opens u freed)) (holds_retired region.shape taken.opens m (meaning.runs half) region.served.shape (slabs₁ y)));
+              slab = refl;
+              was = kind₁ m;
+              is = kind_shut region.shape (retires (Some m) s₃) m region.served.shape (has_removed_same m s₃.opens);
+              partial = ap (λ (l : Lists). l.partial) all ∙ retired_partial store.slabs.lists m u (kind_at store₁.slabs.slabs m) stands;
+              empty = ap (λ (l : Lists). l.empty) all ∙ retired_empty store.slabs.lists m u (kind_at store₁.slabs.slabs m) stands;
+              stream = j.stream_is ∙ ap after_word free.holds.stream_is;
+              parking = j.parks.parking ∙ ap (λ (x : ℕ). slice_set mid.parking (drawn x w) (Some m)) length_is ∙ ap (λ (l : List (Option ℕ)). slice_set l (drawn region.config.park_length w) (Some m)) parking
+                  ∙ ap (λ (i : ℕ). slice_set store.slabs.parking i (Some m)) (sym (parking_drawn t store.stream m w u));
+              quarantine = j.quarantine_same ∙ free.holds.quarantine_is;
+            }))
         by_end (emptied.Purged d) w =
             let q = w.1 in
             let j = q.joins in
             let final : State = purges region.shape (Some m) freed in
-            let rose : f < f' = omega (arith, q.dropped.2, (is ∙ sym holds.cleared.pages.count), now_is) in
+            let rose : f < f' = omega (arith, q.dropped.2, (free.count ∙ sym free.holds.cleared.pages.count), now_is) in
             let shows₃ : Shows region.shape uses₂ final = shows_written region.shape uses₂ freed (slab_at region.shape m) (zeros region.shape.slab) shows₂ in
             let empty₂ : kind region.shape freed m ≡ Empty = kind_empty region.shape freed m (first_of _ _ (sym surplus_is ∙ surplus_by true w.0)) in
             let is : kind_at uses₂ m ≡ Empty = sym (kind_is region.shape uses₂ freed m region.served.shape shows₂) ∙ empty₂ in
             subst (λ (d : ℕ). Ends (Some b) (emptied.Purged d)) (sym q.slab_is)
-            (finish (Some b) m (emptied.Purged m) final (kind_at store₁.slabs.slabs m) Empty let_is refl
-            (subst (λ (o : Option ℕ). Empties t freed f f' (freed_choices (Some b) (emptied.Purged m)) o) (sym (surplus_when true (surplus_by true w.0))) (inr (refl, refl, refl, q.dropped.0, rose))) tt tt
-            (subst (λ (x : Uses). Shows region.shape x final) (sym (slabs_are mid v.slabs v.lists Empty j is)) shows₃) (joined_shut mid v.slabs v.lists Empty j is)
-            (joined_full mid v.slabs v.lists Empty j is) (joined_numbers mid v.slabs v.lists Empty j is)
-            (omega (arith, live_taken, ap live_count (slabs_are mid v.slabs v.lists Empty j is), free_live))
-            (λ y. subst (λ (r : PageRuns). HoldsSlabs region.shape final.opens r) (sym (q.dropped.1 (holds.cleared.pages.told ∙ y))) (holds_purged region.shape taken.opens m (meaning.runs half) region.served.shape q.dropped.0 place_b.open_slab (slabs₁ y)))
-            refl (kind₁ m) (kind_is region.shape uses₂ final m region.served.shape shows₃ ∙ is)
-            (joined_partial mid v.slabs v.lists Empty j is) (joined_empty mid v.slabs v.lists Empty j is)
-            (q.stream_is ∙ holds.stream_is) (q.parking_is ∙ parking) (q.quarantine_same ∙ holds.quarantine_is))
+            (finish {e = emptied.Purged m} {last = final} {m = m} (record {
+              let_is = let_is;
+              after = refl;
+              empties = subst (λ (o : Option ℕ). Empties t freed f f' (freed_choices (Some b) (emptied.Purged m)) o) (sym (surplus_when true (surplus_by true w.0))) (inr (refl, refl, refl, q.dropped.0, rose));
+              word = tt;
+              unparked = tt;
+              shows = subst (λ (x : Uses). Shows region.shape x final) (sym (slabs_are mid v.slabs v.lists Empty j is)) shows₃;
+              shut = joined_shut mid v.slabs v.lists Empty j is;
+              full = joined_full mid v.slabs v.lists Empty j is;
+              numbers = joined_numbers mid v.slabs v.lists Empty j is;
+              live = omega (arith, live_taken, ap live_count (slabs_are mid v.slabs v.lists Empty j is), free_live);
+              slabs = λ y. subst (λ (r : PageRuns). HoldsSlabs region.shape final.opens r) (sym (q.dropped.1 (free.holds.cleared.pages.told ∙ y))) (holds_purged region.shape taken.opens m (meaning.runs half) region.served.shape q.dropped.0 place_b.open_slab (slabs₁ y));
+              slab = refl;
+              was = kind₁ m;
+              is = kind_is region.shape uses₂ final m region.served.shape shows₃ ∙ is;
+              partial = joined_partial mid v.slabs v.lists Empty j is;
+              empty = joined_empty mid v.slabs v.lists Empty j is;
+              stream = q.stream_is ∙ free.holds.stream_is;
+              parking = q.parking_is ∙ parking;
+              quarantine = q.quarantine_same ∙ free.holds.quarantine_is;
+            }))
 
   -- what was released, if anything
   pub kept_ended : (released : Option ℕ) (e : Emptied) → released ≡ let_go store.quarantine a (index_of_word region.shape (next_word store.stream)) → Settles meaning store₁ store' half now region.shape released e
       → f' ≡ meaning.faults now → Ends released e
-  kept_ended None e let_is v now_is = kept_held e let_is v.0 v.1 v.2 (λ y. v.3.page_runs_same (holds.cleared.pages.told ∙ y)) (v.3.stream_is ∙ holds.stream_is) (v.3.parking_is ∙ holds.lists.parking) v.3.quarantine_same
+  kept_ended None e let_is v now_is = kept_held e let_is v.0 v.1 v.2 (λ y. v.3.page_runs_same (free.holds.cleared.pages.told ∙ y)) (v.3.stream_is ∙ free.holds.stream_is) (v.3.parking_is ∙ free.holds.lists.parking) v.3.quarantine_same
   kept_ended (Some b) e let_is v now_is = kept_released b let_is e v now_is
 
   -- what is released was not live, and no fault is taken back
   pub live_ended : (released : Option ℕ) (e : Emptied) → released ≡ let_go store.quarantine a (index_of_word region.shape (next_word store.stream)) → Settles meaning store₁ store' half now region.shape released e
       → live_count store'.slabs.slabs + 1 ≡ live_count store.slabs.slabs
-  live_ended released e let_is v = omega (arith, same released e let_is v, ap live_count holds.slabs, counted lives store.slabs.slabs slot.slab slot.index Held Live accepts.judged.1)
+  live_ended released e let_is v = omega (arith, same released e let_is v, ap live_count free.holds.slabs, counted lives store.slabs.slabs slot.slab slot.index Held Live free.accepts.judged.1)
     where
       same : (released : Option ℕ) (e : Emptied) → released ≡ let_go store.quarantine a (index_of_word region.shape (next_word store.stream)) → Settles meaning store₁ store' half now region.shape released e → live_count store'.slabs.slabs ≡ live_count store₁.slabs.slabs
       same None e let_is v = ap live_count v.1

@@ -45,8 +45,8 @@ open_is : (p : Shape) (uses : Uses) (s : State) (n : ℕ) (b : SlabUse) → Show
 open_is p uses s n b h is = h.opens n ∙ ap (λ (o : Option SlabUse). option_map_or (λ (b : SlabUse). b.opened) o false) is
 
 -- a place of an open slab is available where its slot is
-pub free_is : (p : Shape) (uses : Uses) (s : State) (n i : ℕ) (b : SlabUse) (u : SlotUse) → Shows p uses s → slab_in uses n ≡ Some b → b.opened ≡ true → i < p.slots → slice_get b.slots i ≡ Some u → is_free p s n i ≡ is_available u
-free_is p uses s n i b u h is on lt at =
+pub free_is : {p : Shape} {uses : Uses} {s : State} (n i : ℕ) {b : SlabUse} {u : SlotUse} → Shows p uses s → slab_in uses n ≡ Some b → b.opened ≡ true → i < p.slots → slice_get b.slots i ≡ Some u → is_free p s n i ≡ is_available u
+free_is {p = p} {uses = uses} {s = s} n i {b = b} {u = u} h is on lt at =
     ap (λ (x : Bool). x && not (is_taken s (place p n i))) (open_is p uses s n b h is ∙ on)
     ∙ ap (λ (x : Bool). not x) (taken_is p uses s n i h lt)
     ∙ ap (λ (o : Option SlabUse). not (option_map_or occupied (option_and_then (λ (b : SlabUse). slice_get b.slots i) o) false)) is
@@ -82,7 +82,7 @@ within (y ∷ xs) (suc i) x e = omega (arith, within xs i x e)
 module _ (p : Shape) (uses : Uses) (s : State) (n : ℕ) (b : SlabUse) (h : Shows p uses s) (is : slab_in uses n ≡ Some b) (on : b.opened ≡ true) where
   each : (i : ℕ) (u : SlotUse) → slice_get b.slots i ≡ Some u → is_free p s n (0 + i) ≡ is_available u
   each i u at =
-      ap (λ (j : ℕ). is_free p s n j) (zero-first i) ∙ free_is p uses s n i b u h is on (omega (arith, within b.slots i u at, h.slots n b is)) at
+      ap (λ (j : ℕ). is_free p s n j) (zero-first i) ∙ free_is n i h is on (omega (arith, within b.slots i u at, h.slots n b is)) at
     where
       zero-first : (i : ℕ) → 0 + i ≡ i
       zero-first i = omega arith

@@ -39,7 +39,7 @@ use Rattle.hm_class.specs.declared.store.Store.{Store}
 use Rattle.hm_class.specs.Kept.{Shows, AreFull, IsKept, terms_in, cells_of}
 use Rattle.hm_class.proofs.Counts.{weight}
 use Rattle.hm_class.proofs.Entered.{length_removed}
-use Rattle.hm_class.proofs.Followed.{shows_count, shows_given, shows_condemned, available_is}
+use Rattle.hm_class.proofs.Followed.{HasSlot, slot_shown, shows_count, shows_given, shows_condemned, available_is}
 use Rattle.hm_class.proofs.Listed.{next_picked}
 use Rattle.hm_class.proofs.Paged.{holds_write, holds_without}
 use Rattle.hm_class.proofs.Permitted.{allowed_of, first_found, kept_is, canary_held}
@@ -54,14 +54,22 @@ no_usable p s a off =
     ap (λ (n : ℕ). first_nonzero (bytes_from p s a n)) none
 
 -- ---- what is found, and what is written
-module _ {P : Type 0} (meaning : pages.Ghosts P) (p : Shape) (all : Uses) (s : State) (n i : ℕ) (mid now : P) (told : Bool) (tell : IsTrue told → IsTrue (meaning.told mid))
-    (shape : IsShape p) (on : is_open s n ≡ true) (lt : i < p.slots) (shows : Shows p all s) (slabs : IsTrue told → HoldsSlabs p s.opens (meaning.runs mid)) where
+-- slot i of open slab n, the slots and the state that shows them, and the pages that hold the slabs where they tell
+pub record IsToGive {P : Type 0} (meaning : pages.Ghosts P) (p : Shape) (all : Uses) (s : State) (n i : ℕ) (told : Bool) (mid : P) : Type 0 where
+  pub tell : IsTrue told → IsTrue (meaning.told mid)
+  pub shape : IsShape p
+  pub on : is_open s n ≡ true
+  pub within : i < p.slots
+  pub shows : Shows p all s
+  pub slabs : IsTrue told → HoldsSlabs p s.opens (meaning.runs mid)
+
+module _ {P : Type 0} {meaning : pages.Ghosts P} {p : Shape} {all : Uses} {s : State} {n i : ℕ} {told : Bool} {mid : P} (slot : IsToGive meaning p all s n i told mid) where
   pub found_told : (c : Config) (a : ℕ) (found : Option (ℕ × ℕ)) → a ≡ place p n i → Stains meaning c p mid a found → IsTrue told → reuse_finds c p s a ≡ found
   found_told c a found is stains t = checked c.check_reuse refl
     where
       of : (own : Bool) → c.check_reuse ≡ true → has_bytes p ≡ own → first_nonzero (usable_bytes p s a) ≡ found
-      of true checks own = ap (λ (x : ℕ). first_nonzero (usable_bytes p s x)) is ∙ first_found p s n i (meaning.runs mid) found shape own on lt (slabs t)
-          (subst (λ (x : ℕ). IsHeld (meaning.runs mid) x (usable p) → (slice : List ℕ) × Reads (meaning.runs mid) x (usable p) slice × (found ≡ first_nonzero slice)) is (stains.some checks own (tell t)))
+      of true checks own = ap (λ (x : ℕ). first_nonzero (usable_bytes p s x)) is ∙ first_found s n i found slot.shape own slot.on slot.within (slot.slabs t)
+          (subst (λ (x : ℕ). IsHeld (meaning.runs mid) x (usable p) → (slice : List ℕ) × Reads (meaning.runs mid) x (usable p) slice × (found ≡ first_nonzero slice)) is (stains.some checks own (slot.tell t)))
       of false checks off = no_usable p s a off ∙ sym (stains.none off)
 
       checked : (checks : Bool) → c.check_reuse ≡ checks → cond checks (first_nonzero (usable_bytes p s a)) None ≡ found
@@ -77,8 +85,8 @@ module _ {P : Type 0} (meaning : pages.Ghosts P) (p : Shape) (all : Uses) (s : S
       of false unchecked = absurd (none-some found (sym (stains.unchecked unchecked)))
 
   -- the pages with the slot's canary
-  pub given_slabs : (a asked : ℕ) → a ≡ place p n i → Seals meaning p mid now a (canary_at all n) → IsTrue told → HoldsSlabs p (gives p (place p n i) asked s).opens (meaning.runs now)
-  given_slabs a asked is seals t = of (has_bytes p) refl
+  pub given_slabs : (now : P) (a asked : ℕ) → a ≡ place p n i → Seals meaning p mid now a (canary_at all n) → IsTrue told → HoldsSlabs p (gives p (place p n i) asked s).opens (meaning.runs now)
+  given_slabs now a asked is seals t = of (has_bytes p) refl
     where
       q : ℕ
       q = place p n i
@@ -87,13 +95,13 @@ module _ {P : Type 0} (meaning : pages.Ghosts P) (p : Shape) (all : Uses) (s : S
       w = to_le_bytes w64 (canary_at all n)
 
       same : HoldsSlabs p (overlaid_slabs p (q + usable p) w s.opens) (meaning.runs now) → HoldsSlabs p (gives p q asked s).opens (meaning.runs now)
-      same h = subst (λ (k : ℕ). HoldsSlabs p (overlaid_slabs p (q + usable p) (to_le_bytes w64 k) s.opens) (meaning.runs now)) (sym (kept_is p all s n i shape lt shows)) h
+      same h = subst (λ (k : ℕ). HoldsSlabs p (overlaid_slabs p (q + usable p) (to_le_bytes w64 k) s.opens) (meaning.runs now)) (sym (kept_is p all s n i slot.shape slot.within slot.shows)) h
 
       of : (own : Bool) → has_bytes p ≡ own → HoldsSlabs p (gives p q asked s).opens (meaning.runs now)
-      of true own = same (holds_write p s.opens (q + usable p) 8 w (meaning.runs mid) (meaning.runs now) shape refl (slabs t)
-          (subst (λ (x : ℕ). Writes (meaning.runs mid) (x + usable p) 8 w (meaning.runs now)) is (seals.some own (tell t) (subst (λ (x : ℕ). IsHeld (meaning.runs mid) (x + usable p) 8) (sym is) (canary_held p s n i (meaning.runs mid) shape own on lt (slabs t))))))
-      of false off = same (subst (λ (r : PageRuns). HoldsSlabs p (overlaid_slabs p (q + usable p) w s.opens) r) (sym (seals.none off (tell t)))
-          (holds_without p s.opens (overlaid_slabs p (q + usable p) w s.opens) (meaning.runs mid) off (whole_write (bytes_of_slab p) p (q + usable p) w s.opens (slabs t).whole) (slabs t)))
+      of true own = same (holds_write (q + usable p) 8 w (meaning.runs now) slot.shape refl (slot.slabs t)
+          (subst (λ (x : ℕ). Writes (meaning.runs mid) (x + usable p) 8 w (meaning.runs now)) is (seals.some own (slot.tell t) (subst (λ (x : ℕ). IsHeld (meaning.runs mid) (x + usable p) 8) (sym is) (canary_held p s n i (meaning.runs mid) slot.shape own slot.on slot.within (slot.slabs t))))))
+      of false off = same (subst (λ (r : PageRuns). HoldsSlabs p (overlaid_slabs p (q + usable p) w s.opens) r) (sym (seals.none off (slot.tell t)))
+          (holds_without p s.opens (overlaid_slabs p (q + usable p) w s.opens) (meaning.runs mid) off (whole_write (bytes_of_slab p) p (q + usable p) w s.opens (slot.slabs t).whole) (slot.slabs t)))
 
 -- ---- how many are live
 more_live : (all all' : Uses) (n i : ℕ) (u v : SlotUse) → use_at all n i ≡ Some v → all' ≡ with_use all n i u → live_count all' + weight lives v ≡ live_count all + weight lives u
@@ -134,6 +142,12 @@ module _ {told : Bool} {runs : PageRuns} {faults : ℕ} {region : Identity} {es 
   abbrev then : State
   then = opened region.shape choices.opened choices.canary (state (terms_in told region) es)
 
+  to_give : IsToGive meaning region.shape store₁.slabs.slabs then n i told mid
+  to_give = record { tell = ready.tell; shape = region.served.shape; on = ready.on; within = ready.lt; shows = ready.shows; slabs = ready.slabs }
+
+  has_slot : HasSlot region.shape store₁.slabs.slabs n i b
+  has_slot = slot_shown region.served.shape ready.shows ready.is_slab ready.lt
+
   pub kept_gives : (o : Reply) → Gives meaning region store₁.slabs store'.slabs mid now (slot_in n i) o
       → IsKept told (meaning.runs now) f' region (es ++ entry_of who (Allot asked 1) o choices draws f f' ∷ []) store'
   kept_gives (reply.Given a size) g =
@@ -143,11 +157,11 @@ module _ {told : Bool} {runs : PageRuns} {faults : ℕ} {region : Identity} {es 
       let off = available_is v ready.free in
       let dead : weight lives v ≡ 0 = ap (λ (b : Bool). cond {A = ℕ} b 1 0) off.0 in
       let shows' : Shows region.shape store'.slabs.slabs (record (gives region.shape q asked then) { faults = f' }) = shows_count region.shape store'.slabs.slabs (gives region.shape q asked then) f'
-      (subst (λ (u : Uses). Shows region.shape u (gives region.shape q asked then)) (sym g.slabs) (shows_given region.shape store₁.slabs.slabs then n i b v region.served.shape ready.lt ready.is_slab ready.was ready.shows asked ready.free)) in
+      (subst (λ (u : Uses). Shows region.shape u (gives region.shape q asked then)) (sym g.slabs) (shows_given has_slot ready.was ready.shows asked ready.free)) in
       subst (λ (x : ℕ). IsKept told (meaning.runs now) f' region (es ++ entry_of who (Allot asked 1) (reply.Given x size) choices draws f f' ∷ []) store') (sym g.addr_is)
-      (pushed kept (meaning.runs now) f' store' e
-      (allowed_of t (state t es) who (Allot asked 1) (reply.Given q size) choices draws f f' ready.are (ready.asks, refl) (ready.is ∙ kept.count) ready.later
-      (ready.picks, g.size_is, λ y. ap (λ (x : ℕ). reuse_finds region.config region.shape then x) (sym g.addr_is) ∙ found_told meaning region.shape store₁.slabs.slabs then n i mid now told ready.tell region.served.shape ready.on ready.lt ready.shows ready.slabs region.config a None g.addr_is g.clean y))
+      (pushed kept store' e
+      (allowed_of (Allot asked 1) (reply.Given q size) choices draws ready.are (ready.asks, refl) (ready.is ∙ kept.count) ready.later
+      (ready.picks, g.size_is, λ y. ap (λ (x : ℕ). reuse_finds region.config region.shape then x) (sym g.addr_is) ∙ found_told to_give region.config a None g.addr_is g.clean y))
       (ready.stepped (reply.Given q size) refl) refl
       (record {
         shows = shows';
@@ -156,8 +170,15 @@ module _ {told : Bool} {runs : PageRuns} {faults : ℕ} {region : Identity} {es 
         numbers = ready.numbers;
         live_all = omega (arith, ready.live_all, more_live store₁.slabs.slabs store'.slabs.slabs n i Live v ready.was g.slabs, dead, length_removed q then.live);
       })
-      (given_slabs meaning region.shape store₁.slabs.slabs then n i mid now told ready.tell region.served.shape ready.on ready.lt ready.shows ready.slabs a asked g.addr_is g.written)
-      (next_picked t (state t es) store store' e q n kind₀ region.served.shape refl (slab_of_place region.shape n i region.served.shape ready.lt) ready.was_kind shows' ready.taken ready.partial ready.empty ready.quarantine ready.parking))
+      (given_slabs to_give now a asked g.addr_is g.written)
+      (next_picked t (state t es) e store store' region.served.shape refl (slab_of_place region.shape n i region.served.shape ready.lt) shows' (record {
+        was = ready.was_kind;
+        taken = ready.taken;
+        partial = ready.partial;
+        empty = ready.empty;
+        quarantine = ready.quarantine;
+        parking = ready.parking;
+      })))
   kept_gives (reply.Overwritten a at found) g =
       let t : Terms = terms_in told region in
       let q : ℕ = place region.shape n i in
@@ -167,13 +188,13 @@ module _ {told : Bool} {runs : PageRuns} {faults : ℕ} {region : Identity} {es 
       let given : passes_at was_given store₁.slabs.slabs n i ≡ was_given v = ap (λ (o : Option SlotUse). option_map_or was_given o false) ready.was in
       let items : store'.slabs.slabs ≡ with_use store₁.slabs.slabs n i (Condemned (was_given v)) = g.slabs ∙ ap (λ (b : Bool). with_use store₁.slabs.slabs n i (Condemned b)) given in
       let shows' : Shows region.shape store'.slabs.slabs (record (condemns q then) { faults = f' }) = shows_count region.shape store'.slabs.slabs (condemns q then) f'
-      (subst (λ (u : Uses). Shows region.shape u (condemns q then)) (sym items) (shows_condemned region.shape store₁.slabs.slabs then n i b v region.served.shape ready.lt ready.is_slab ready.was ready.shows ready.free)) in
+      (subst (λ (u : Uses). Shows region.shape u (condemns q then)) (sym items) (shows_condemned has_slot ready.was ready.shows ready.free)) in
       subst (λ (x : ℕ). IsKept told (meaning.runs now) f' region (es ++ entry_of who (Allot asked 1) (reply.Overwritten x at found) choices draws f f' ∷ []) store') (sym g.addr_is)
-      (pushed kept (meaning.runs now) f' store' e
-      (allowed_of t (state t es) who (Allot asked 1) (reply.Overwritten q at found) choices draws f f' ready.are (ready.asks, refl) (ready.is ∙ kept.count) ready.later (
+      (pushed kept store' e
+      (allowed_of (Allot asked 1) (reply.Overwritten q at found) choices draws ready.are (ready.asks, refl) (ready.is ∙ kept.count) ready.later (
         ready.picks,
-        is_checked meaning region.shape store₁.slabs.slabs then n i mid now told ready.tell region.served.shape ready.on ready.lt ready.shows ready.slabs region.config a (at, found) g.stained,
-        λ y. ap (λ (x : ℕ). reuse_finds region.config region.shape then x) (sym g.addr_is) ∙ found_told meaning region.shape store₁.slabs.slabs then n i mid now told ready.tell region.served.shape ready.on ready.lt ready.shows ready.slabs region.config a (Some (at, found)) g.addr_is g.stained y,
+        is_checked to_give region.config a (at, found) g.stained,
+        λ y. ap (λ (x : ℕ). reuse_finds region.config region.shape then x) (sym g.addr_is) ∙ found_told to_give region.config a (Some (at, found)) g.addr_is g.stained y,
       ))
       (ready.stepped (reply.Overwritten q at found) refl) refl
       (record {
@@ -184,5 +205,12 @@ module _ {told : Bool} {runs : PageRuns} {faults : ℕ} {region : Identity} {es 
         live_all = omega (arith, ready.live_all, more_live store₁.slabs.slabs store'.slabs.slabs n i (Condemned (was_given v)) v ready.was items, dead);
       })
       (λ y. subst (λ (r : PageRuns). HoldsSlabs region.shape then.opens r) (sym (g.same (ready.tell y))) (ready.slabs y))
-      (next_picked t (state t es) store store' e q n kind₀ region.served.shape refl (slab_of_place region.shape n i region.served.shape ready.lt) ready.was_kind shows' ready.taken ready.partial ready.empty ready.quarantine ready.parking))
+      (next_picked t (state t es) e store store' region.served.shape refl (slab_of_place region.shape n i region.served.shape ready.lt) shows' (record {
+        was = ready.was_kind;
+        taken = ready.taken;
+        partial = ready.partial;
+        empty = ready.empty;
+        quarantine = ready.quarantine;
+        parking = ready.parking;
+      })))
   kept_gives other g = absurd g

@@ -1,7 +1,7 @@
 use Rattle.std.proofs.Common.{◌≡◌, ◌∙◌, ◌-◌, ◌+◌, ◌≤◌, ℕ, min, arith, sym, ap, refl, true≢false}
 use Rattle.hm_model.specs.Runs.{expand}
 use Rattle.hm_model.proofs.RunsOf.{length_expand}
-use Rattle.hm_class.proofs.Accessed.{piece_at, piece_held, piece_read}
+use Rattle.hm_class.proofs.Accessed.{have_bytes, piece_here, piece_held, piece_read}
 use Rattle.hm_class.proofs.access.read.Goals as goal
 
 pub loop-at-preserved : goal.loop-at-preserved
@@ -16,10 +16,11 @@ loop-at-preserved g c =
       within = within;
       counted = omega (arith, c.in_ok-append_range.ensures.count c.if-not-branch.false, c.loop-at.invariant.counted, c.loop-at.invariant.later, later);
       read = λ told s h none.
-          (let piece = piece_at p s runs c.args.addr c.args.len c.loop-at.at c.min-next.result end c.args.identity.now.served.shape h none refl c.loop-at.invariant.later c.loop-at-test.true is in
+          (let have = have_bytes p s runs c.args.addr c.args.len h none c.loop-at.at c.loop-at.invariant.later c.loop-at-test.true in
+          let piece = piece_here p s c.loop-at.at c.min-next.result end c.args.identity.now.served.shape have c.loop-at-test.true is in
           let held = piece_held p s s runs c.loop-at.at (c.min-next.result - c.loop-at.at) piece piece.byte.open_slab h in
           let got = c.in_ok-append_range.ensures.value told held in
-          got.3 ∙ piece_read p s runs c.args.addr c.loop-at.at c.min-next.result (expand c.loop-at.runs) got.1 h c.loop-at.invariant.later later piece got.2 (c.loop-at.invariant.read told s h none));
+          got.3 ∙ piece_read c.args.addr c.min-next.result h c.loop-at.invariant.later later piece got.2 (c.loop-at.invariant.read told s h none));
     }
 
 pub returns-then-not-branch-clause-bytes : goal.returns-then-not-branch-clause-bytes
@@ -28,7 +29,8 @@ returns-then-not-branch-clause-bytes g c = λ told s h none.
     let runs = g.P.Pages.runs c.args.pages.now in
     let end : ℕ = c.args.addr + c.args.len in
     let is : c.min-next.result ≡ min end _ = c.min-next.ensures ∙ ap (λ (n : ℕ). min end n) c.slab_end.ensures.value in
-    let piece = piece_at p s runs c.args.addr c.args.len c.loop-at.at c.min-next.result end c.args.identity.now.served.shape h none refl c.loop-at.invariant.later c.loop-at-test.true is in
+    let have = have_bytes p s runs c.args.addr c.args.len h none c.loop-at.at c.loop-at.invariant.later c.loop-at-test.true in
+    let piece = piece_here p s c.loop-at.at c.min-next.result end c.args.identity.now.served.shape have c.loop-at-test.true is in
     let held = piece_held p s s runs c.loop-at.at (c.min-next.result - c.loop-at.at) piece piece.byte.open_slab h in
     let got = c.in_ok-append_range.ensures.value told held in
     absurd (true≢false (sym got.0 ∙ c.if-not-branch.true)))

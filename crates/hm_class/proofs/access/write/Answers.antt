@@ -30,7 +30,7 @@ loop-byte-preserved g c =
             w ++ v,
             append_assoc w v (expand rest) ∙ ap (λ (l : List ℕ). w ++ l) own ∙ before.1,
             omega (arith, length-append w v, length-replicate run.1 run.0, before.2),
-            written_behind p s (g.P.Pages.runs c.write_run.new.pages) c.args.addr c.loop-byte.at w v (w ++ v) before.2 refl
+            written_behind s c.args.addr c.loop-byte.at w v (w ++ v) before.2 refl
                 (c.write_run.ensures.written (c.loop-byte.invariant.told ∙ told) (write p c.args.addr w s) before.3
                 (still_have p s c.args.addr c.loop-byte.at run.1 w (λ q from to. have q (omega (arith, from, c.loop-byte.invariant.later)) (omega (arith, to, left))))),
           ));

@@ -20,7 +20,7 @@ loop-at-preserved g c =
       count = c.put_byte.ensures.pages.count ∙ c.loop-at.invariant.count;
       written = λ told s h have.
           (let piece = piece_here p s c.loop-at.at c.min-next.result end c.args.identity.now.served.shape (have c.loop-at.at c.loop-at.invariant.later c.loop-at-test.true) c.loop-at-test.true is in
-          piece_written p s (g.P.Pages.runs c.loop-at.pages) (g.P.Pages.runs c.put_byte.new.pages) c.args.addr c.loop-at.at c.min-next.result c.args.byte c.args.identity.now.served.shape c.loop-at.invariant.later later piece
+          piece_written (g.P.Pages.runs c.put_byte.new.pages) c.args.addr c.min-next.result c.args.byte c.args.identity.now.served.shape c.loop-at.invariant.later later piece
           (c.loop-at.invariant.written told s h have) (c.put_byte.ensures.written (c.loop-at.invariant.told ∙ told)));
     }
 

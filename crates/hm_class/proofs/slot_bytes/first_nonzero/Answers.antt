@@ -14,7 +14,7 @@ returns-in-Some-clause-value g c = λ told held.
     let found : position (λ x. not (x == 0)) piece ≡ Some c.in-Some.at = sym c.first_nonzero.ensures ∙ c.in-Some.is in (
       take c.args.len (drop start b),
       reads_in runs c.args.addr c.args.len q b held.2 held.3,
-      sym (found_in b start c.args.len c.loop-done.done piece c.in-Some.at is c.in_ok-piece.ensures.most (omega (arith, held.3.from, held.3.to)) found (c.loop-done.invariant.zero told q b held.2 held.3)),
+      sym (found_in b start c.args.len c.loop-done.done is c.in_ok-piece.ensures.most (omega (arith, held.3.from, held.3.to)) found (c.loop-done.invariant.zero told q b held.2 held.3)),
     ))
 
 pub returns-in-Some-clause-found : goal.returns-in-Some-clause-found
@@ -29,7 +29,7 @@ loop-done-preserved g c =
     let piece = c.in_ok-piece.piece.now in
     let none : position (λ x. not (x == 0)) piece ≡ None = sym c.first_nonzero.ensures ∙ c.in_default.is in record {
       within = c.in_ok-piece.ensures.most;
-      zero = λ told q b has lies. zero_on b (c.args.addr - q) c.args.len c.loop-done.done piece ((c.in_ok-piece.ensures.value told).1 q b has lies) c.in_ok-piece.ensures.most none (c.loop-done.invariant.zero told q b has lies);
+      zero = λ told q b has lies. zero_on b (c.args.addr - q) c.args.len c.loop-done.done ((c.in_ok-piece.ensures.value told).1 q b has lies) c.in_ok-piece.ensures.most none (c.loop-done.invariant.zero told q b has lies);
     }
 
 pub returns-clause-value : goal.returns-clause-value

@@ -11,7 +11,7 @@ use Rattle.hm_class.proofs.heap.ClassHeap.build.Goals as goal
 
 pub invariant_of-result : goal.invariant_of-result
 invariant_of-result g c = (
-  kept_built (g.P.Pages.told c.args.pages) (g.P.Pages.runs c.args.pages) (g.P.Pages.faults c.args.pages) _ c.new.result.items _ c.requires.nothing c.requires.count c.new.ensures.items c.in_ok-slabs.ensures
+  kept_built (g.P.Pages.runs c.args.pages) _ _ c.requires.nothing c.requires.count c.new.ensures.items c.in_ok-slabs.ensures
       (c.begin-stream.ensures.stream ∙ ap (λ (k : ClassId). after_word (stream_of c.args.seed c.args.arena k)) (sym (ap (λ (q : Shape). q.class) c.begin-stream.ensures.shape))) c.in_ok-quarantine.ensures,
   omega (arith, ap (λ (k : Slabs). live_count k.slabs) c.in_ok-slabs.ensures),
 )
