@@ -60,7 +60,7 @@ fn skip_words(bytes: &[u8], from: usize) -> usize
     i
 }
 
-/// The place of the first byte that is not zero.
+/// The index of the first byte that is not zero.
 pub fn first_nonzero(bytes: &[u8]) -> Option<usize>
     ensures { result ≡ first_nonzero bytes.now }
 {

@@ -382,7 +382,7 @@ module _ {P : Type 0} {meaning : pages.Ghosts P} {begun half : P} {region : Iden
             let ka : Kind = kind_at uses₂ m in
             let j = w.1.joins in
             let q = w.1.keeps in
-            finish {last = freed} {m = m} (record {
+            finish {e = emptied.Kept} {last = freed} {m = m} (record {
               let_is = let_is;
               after = refl;
               empties = subst (λ (o : Option ℕ). Empties t freed f f' (freed_choices (Some b) emptied.Kept) o) (sym (surplus_when false (surplus_by false w.0))) (refl, refl, refl);

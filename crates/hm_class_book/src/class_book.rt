@@ -375,8 +375,8 @@ impl ClassBook {
         if !are_words(&mut self.stream, &entry.draws, count) {
             return Ok(Judgement::NotDrawn);
         }
-        let place = array_index(&self.region.shape, &entry.draws);
-        let released = self.quarantine.pass(addr, place);
+        let kept_at = array_index(&self.region.shape, &entry.draws);
+        let released = self.quarantine.pass(addr, kept_at);
         let parked_at = parking_index(&self.region, &entry.draws);
         let unparked = park(&mut self.parking, parked_at, entry.choices.retired);
         let leaves = is_option(entry.choices.released, released);
@@ -414,16 +414,16 @@ fn touched(shape: &Shape, choices: &Choices, addr: u64) -> u64
 }
 
 // What stands at a parking index goes out as a retired slab comes, if one does.
-fn park(parking: &mut Vec<Option<u64>>, place: u32, retired: Option<u64>) -> Option<u64>
-    ensures stood { result ≡ unparked_by retired (slice_index_or parking.old.items place None) }
-    ensures parking { parking.new.items ≡ parking_with place retired parking.old.items }
+fn park(parking: &mut Vec<Option<u64>>, index: u32, retired: Option<u64>) -> Option<u64>
+    ensures stood { result ≡ unparked_by retired (slice_index_or parking.old.items index None) }
+    ensures parking { parking.new.items ≡ parking_with index retired parking.old.items }
 {
     let slab = retired?;
-    let index = place as usize;
-    if index >= parking.len() {
+    let at = index as usize;
+    if at >= parking.len() {
         return None;
     }
-    let stood = parking[index];
-    parking[index] = Some(slab);
+    let stood = parking[at];
+    parking[at] = Some(slab);
     stood
 }

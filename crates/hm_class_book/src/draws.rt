@@ -141,7 +141,7 @@ pub(crate) fn start_slot(region: &Region, choices: &Choices, draws: &Draws) -> u
 /// The index in the array to which a freed slot goes.
 pub(crate) fn array_index(shape: &Shape, draws: &Draws) -> u32
     ensures value { result ≡ array_index shape.now draws.now }
-    ensures place { IsArrayIndex shape.now.array result }
+    ensures index { IsArrayIndex shape.now.array result }
 {
     drawn(shape.array, draws.w0)
 }

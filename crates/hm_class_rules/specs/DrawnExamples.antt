@@ -139,7 +139,7 @@ two_parked =
     ∷ drawing 2219061067 (given 1099512418304 (opens_bare 6))
     ∷ freed 1099512418304 (frees 1099512418304) ∷ []
 
--- slab 0 is retired to place 0, so slab 2 is unparked, and opened again where no slab is empty
+-- slab 0 is retired to index 0, so slab 2 is unparked, and opened again where no slab is empty
 abbrev pub same_place : List Entry
 same_place =
     two_parked ++ (drawing 1062052300 (freed 1099511631872 (retires 1099511631872 0 (Some 2)))
@@ -155,7 +155,7 @@ other_place =
 abbrev pub parked_later : Terms
 parked_later = record parked { shape = record parked.shape { array = 1 } }
 
--- each free releases the slot that was freed before; slab 2 is retired to place 0
+-- each free releases the slot that was freed before; slab 2 is retired to index 0
 abbrev pub one_parked : List Entry
 one_parked =
     drawing 1893466666 (given 1099511631872 (opens_bare 0))
@@ -168,7 +168,7 @@ one_parked =
     ∷ drawing 3929870888 (given 1099512418304 (opens_bare 6))
     ∷ drawing 2809795606 (freed 1099511631872 (frees 1099512156160)) ∷ []
 
--- slab 0 is retired to the place that the second word draws, so slab 2 is unparked
+-- slab 0 is retired to the index that the second word draws, so slab 2 is unparked
 abbrev pub second_word : List Entry
 second_word =
     one_parked ++ (drawing_two 3409952611 1247292640 (freed 1099512418304 (retires 1099511631872 0 (Some 2))) ∷ [])

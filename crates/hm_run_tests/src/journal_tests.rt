@@ -41,7 +41,7 @@ fn journals(rt: HostRuntime) -> Result<(), Fail> {
     Ok(())
 }
 
-/// Region 7 of the journal of a double free: the gap, the canary, slot 24 and the array's place are those of the words
+/// Region 7 of the journal of a double free: the gap, the canary, slot 24 and the array's index are those of the words
 /// that ChaCha8 gives of the number 0 in stream 7.
 const DOUBLE_FREE: &[u8] = b"\nregion 7 1592101122048 4\n\
 1 1 1 1 1 0 0 3 3231088256 3392945114 2935142444 14572588304984079872 0 - - - - - allot 100 1 : 1 1592101124736 104\n\

@@ -26,7 +26,7 @@ pub struct Config {
     pub array_base: u32,
     /// The same for its ring.
     pub ring_base: u32,
-    /// The places of the parking array, where a retired slab waits before it may be opened again.
+    /// The cells of the parking array, where a retired slab waits before it may be opened again.
     pub park_length: u32,
     /// Whether the usable bytes of a slot are looked at before it is given again.
     pub check_reuse: bool,

@@ -25,7 +25,7 @@ pub struct Shape {
     /// Slabs are numbered below it.
     pub limit: u64,
     pub guard_interval: u32,
-    /// The places of the quarantine's array, and of its ring.
+    /// The cells of the quarantine's array, and of its ring.
     pub array: u32,
     pub ring: u32,
 }

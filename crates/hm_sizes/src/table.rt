@@ -22,7 +22,7 @@ pub struct SizeClass {
     pub slots: u32,
     /// From one slab to the next.
     pub slab: u64,
-    /// The places of the quarantine's array, and of its ring, for a base of 1.
+    /// The cells of the quarantine's array, and of its ring, for a base of 1.
     pub length: u32,
     /// The greatest request that goes to the class.
     pub greatest: u64,

@@ -29,7 +29,7 @@ pub enum Place {
     Exhausted,
 }
 
-/// The slabs of a region, the lists that they are in, and the parking array, each place of which holds the slab that
+/// The slabs of a region, the lists that they are in, and the parking array, each cell of which holds the slab that
 /// was retired to it last.
 #[derive(Drop)]
 pub struct SlabLists {

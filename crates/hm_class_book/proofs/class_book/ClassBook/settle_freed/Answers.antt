@@ -24,14 +24,14 @@ returns-then-not-are_words c = λ s f. (
 )
 
 pub pass-released-requires : goal.pass-released-requires
-pass-released-requires c = subst (λ (n : ℕ). IsArrayIndex n c.array_index-place.result) (sym c.requires.array) c.array_index-place.ensures.place
+pass-released-requires c = subst (λ (n : ℕ). IsArrayIndex n c.array_index-kept_at.result) (sym c.requires.array) c.array_index-kept_at.ensures.index
 
 pub returns-then-not-drawn : goal.returns-then-not-drawn
 returns-then-not-drawn c = λ s f. (
   f.allows.0 c.if-not-legal.false,
   λ d.
       let h = freed_parts (at_state (said c.args.self.now) s) (state_in c.args.self.now.book) c.args.entry.now c.args.addr (kind_in c.args.before) c.args.legal f d in
-      let leaves = c.is_option-leaves.ensures.1 (h.1 ∙ sym (c.pass-released.ensures.released ∙ ap (let_go c.args.self.now.quarantine c.args.addr) c.array_index-place.ensures.value)) in
+      let leaves = c.is_option-leaves.ensures.1 (h.1 ∙ sym (c.pass-released.ensures.released ∙ ap (let_go c.args.self.now.quarantine c.args.addr) c.array_index-kept_at.ensures.value)) in
       let unparks = c.is_option-unparks.ensures.1 (h.2 ∙ sym (c.park-unparked.ensures.stood
       ∙ ap (λ (n : ℕ). unparked_by c.args.entry.now.choices.retired (slice_index_or c.args.self.now.parking.items n None)) c.parking_index-parked_at.ensures.value)) in
       true≢false (sym (λ i. leaves i && unparks i) ∙ c.if-not-drawn.true),
@@ -47,12 +47,12 @@ returns c = λ s f.
     freed_taken (at_state (said c.args.self.now) s) (state_in c.args.self.now.book) e c.args.addr k c.args.legal f
     c.are_words.new.stream c.file.new.self.partial.items c.file.new.self.empty.items c.pass-released.new.self c.park-unparked.new.parking.items j c.if-not-legal.false
     (words.0 ∙ c.free_words-count.ensures.value, words.1)
-    (c.is_option-leaves.ensures.0 parts.0 ∙ c.pass-released.ensures.released ∙ ap (let_go c.args.self.now.quarantine c.args.addr) c.array_index-place.ensures.value)
+    (c.is_option-leaves.ensures.0 parts.0 ∙ c.pass-released.ensures.released ∙ ap (let_go c.args.self.now.quarantine c.args.addr) c.array_index-kept_at.ensures.value)
     (c.is_option-unparks.ensures.0 parts.1 ∙ c.park-unparked.ensures.stood
     ∙ ap (λ (n : ℕ). unparked_by e.choices.retired (slice_index_or c.args.self.now.parking.items n None)) c.parking_index-parked_at.ensures.value)
     (c.are_words.ensures.taken c.if-not-are_words.false)
     (c.in_ok-file.ensures.partial ∙ ap (λ (n : ℕ). listed Partial n k j c.args.self.now.lists.partial.items) c.touched-slab.ensures)
     (c.in_ok-file.ensures.empty ∙ ap (λ (n : ℕ). listed Empty n k j c.args.self.now.lists.empty.items) c.touched-slab.ensures)
-    (c.pass-released.ensures.kept ∙ ap (kept_with c.args.self.now.quarantine c.args.addr) c.array_index-place.ensures.value)
+    (c.pass-released.ensures.kept ∙ ap (kept_with c.args.self.now.quarantine c.args.addr) c.array_index-kept_at.ensures.value)
     (c.park-unparked.ensures.parking ∙ ap (λ (n : ℕ). parking_with n e.choices.retired c.args.self.now.parking.items) c.parking_index-parked_at.ensures.value)
     (c.kind-after.ensures ∙ ap (λ (n : ℕ). kind c.args.self.now.region.shape (counted (state_in c.args.self.now.book) e.faults_after) n) c.touched-slab.ensures))
