@@ -42,7 +42,7 @@ shows_count p uses s faults h = record {
 }
 
 -- ---- a slab changes
-module _ (uses : Uses) (n : ℕ) (f : SlabUse → SlabUse) (b : SlabUse) (is : slab_in uses n ≡ Some b) where
+module _ (uses : Uses) (n : ℕ) (f : SlabUse → SlabUse) {b : SlabUse} (is : slab_in uses n ≡ Some b) where
   -- the same slabs are there
   pub some_changed : (m : ℕ) → is_some (slab_in (changed uses n f) m) ≡ is_some (slab_in uses m)
   some_changed = each_slab uses n f b is (λ m o. is_some o ≡ is_some (slab_in uses m)) (ap (λ (o : Option SlabUse). is_some o) (sym is)) (λ m ne. refl)
@@ -73,6 +73,10 @@ pub record HasSlot (p : Shape) (uses : Uses) (n i : ℕ) (b : SlabUse) : Type 0 
 pub slot_shown : {p : Shape} {uses : Uses} {s : State} {n i : ℕ} {b : SlabUse} → IsShape p → Shows p uses s → slab_in uses n ≡ Some b → i < p.slots → HasSlot p uses n i b
 slot_shown {n = n} {b = b} shape h is lt = record { shape = shape; is_slab = is; long = h.slots n b is; within = lt }
 
+-- what is said of each place is the test of its slot's use
+abbrev Tells : Shape → (SlotUse → Bool) → (ℕ → Bool) → Uses → Type 0
+Tells p test says uses = (m j : ℕ) → j < p.slots → says (place p m j) ≡ passes_at test uses m j
+
 module _ {p : Shape} {uses : Uses} {n i : ℕ} {b : SlabUse} (slot : HasSlot p uses n i b) (u : SlotUse) where
   -- a place is that slot, or another that is used as before
   changes : (m j : ℕ) → j < p.slots → ((m ≡ n) × (j ≡ i)) ⊎ ((place p n i ≢ place p m j) × (use_at (with_use uses n i u) m j ≡ use_at uses m j))
@@ -90,7 +94,7 @@ module _ {p : Shape} {uses : Uses} {n i : ℕ} {b : SlabUse} (slot : HasSlot p u
 
   -- what is said of places, where it is said of the one that changed and of the others
   each_place : (test : SlotUse → Bool) (says said : ℕ → Bool) → says (place p n i) ≡ test u → ((q : ℕ) → place p n i ≢ q → says q ≡ said q)
-      → ((m j : ℕ) → j < p.slots → said (place p m j) ≡ passes_at test uses m j) → (m j : ℕ) → j < p.slots → says (place p m j) ≡ passes_at test (with_use uses n i u) m j
+      → Tells p test said uses → Tells p test says (with_use uses n i u)
   each_place test says said here there old m j lt =
       let uses' : Uses = with_use uses n i u in
       let now : use_at uses' n i ≡ Some u = use_here uses n i u b slot.is_slab (omega (arith, slot.within, slot.long)) in
@@ -122,15 +126,15 @@ shows_changed {p = p} {uses = uses} {s = s} {s' = s'} {n = n} {i = i} {u = u} {b
     let is = slot.is_slab in
     let f : SlabUse → SlabUse = with_slot i u in
     record {
-      opens = λ m. c.opens m ∙ h.opens m ∙ sym (told_changed uses n f b is (λ (b : SlabUse). b.opened) false refl m);
-      slots = whole_changed uses n f b is p.slots (length-set b.slots i u) h.slots;
-      canary = λ m. c.canary m ∙ h.canary m ∙ sym (told_changed uses n f b is (λ (b : SlabUse). b.canary) 0 refl m);
+      opens = λ m. c.opens m ∙ h.opens m ∙ sym (told_changed uses n f is (λ (b : SlabUse). b.opened) false refl m);
+      slots = whole_changed uses n f is p.slots (length-set b.slots i u) h.slots;
+      canary = λ m. c.canary m ∙ h.canary m ∙ sym (told_changed uses n f is (λ (b : SlabUse). b.canary) 0 refl m);
       live = each_place slot u lives (λ q. is_live s' q) (λ q. is_live s q) c.live_here c.live_there h.live;
       held = each_place slot u is_held (λ q. among q s'.held) (λ q. among q s.held) c.held_here c.held_there h.held;
       condemned = each_place slot u is_condemned (λ q. among q s'.condemned) (λ q. among q s.condemned) c.condemned_here c.condemned_there h.condemned;
       given = each_place slot u was_given (λ q. among q s'.given) (λ q. among q s.given) c.given_here c.given_there h.given;
-      parked = λ m e. some_changed uses n f b is m ∙ h.parked m (ap (λ (l : List ℕ). among m l) (sym c.parked) ∙ e);
-      shut = λ m e. some_changed uses n f b is m ∙ h.shut m (ap (λ (l : List ℕ). among m l) (sym c.shut) ∙ e);
+      parked = λ m e. some_changed uses n f is m ∙ h.parked m (ap (λ (l : List ℕ). among m l) (sym c.parked) ∙ e);
+      shut = λ m e. some_changed uses n f is m ∙ h.shut m (ap (λ (l : List ℕ). among m l) (sym c.shut) ∙ e);
       next = c.next ∙ h.next ∙ sym (length_changed uses n f b is);
     }
 
@@ -262,21 +266,21 @@ opens_with s opens = record s { opens = opens }
 
 module _ {p : Shape} {uses : Uses} {s : State} (n : ℕ) (f : SlabUse → SlabUse) {b : SlabUse} (is : slab_in uses n ≡ Some b) (same : (f b).slots ≡ b.slots) (h : Shows p uses s) where
   kept_places : (test : SlotUse → Bool) (m j : ℕ) → passes_at test uses m j ≡ passes_at test (changed uses n f) m j
-  kept_places test m j = ap (λ (o : Option SlotUse). option_map_or test o false) (sym (uses_kept uses n f b is same m j))
+  kept_places test m j = ap (λ (o : Option SlotUse). option_map_or test o false) (sym (uses_kept uses n f is same m j))
 
   shows_opens : (opens : List (ℕ × Slab)) → has n opens ≡ (f b).opened → option_map_or (λ (b : Slab). b.canary) (at n opens) 0 ≡ (f b).canary → ((m : ℕ) → m ≢ n → at m opens ≡ at m s.opens)
       → Shows p (changed uses n f) (opens_with s opens)
   shows_opens opens on canary there = record {
     opens = each_slab uses n f b is (λ m o. has m opens ≡ option_map_or (λ (b : SlabUse). b.opened) o false) on (λ m ne. ap (λ (o : Option Slab). is_some o) (there m ne) ∙ h.opens m);
-    slots = whole_changed uses n f b is p.slots (ap (λ (l : List SlotUse). length l) same) h.slots;
+    slots = whole_changed uses n f is p.slots (ap (λ (l : List SlotUse). length l) same) h.slots;
     canary = each_slab uses n f b is (λ m o. option_map_or (λ (b : Slab). b.canary) (at m opens) 0 ≡ option_map_or (λ (b : SlabUse). b.canary) o 0) canary
         (λ m ne. ap (λ (o : Option Slab). option_map_or (λ (b : Slab). b.canary) o 0) (there m ne) ∙ h.canary m);
     live = λ m j lt. h.live m j lt ∙ kept_places lives m j;
     held = λ m j lt. h.held m j lt ∙ kept_places is_held m j;
     condemned = λ m j lt. h.condemned m j lt ∙ kept_places is_condemned m j;
     given = λ m j lt. h.given m j lt ∙ kept_places was_given m j;
-    parked = λ m e. some_changed uses n f b is m ∙ h.parked m e;
-    shut = λ m e. some_changed uses n f b is m ∙ h.shut m e;
+    parked = λ m e. some_changed uses n f is m ∙ h.parked m e;
+    shut = λ m e. some_changed uses n f is m ∙ h.shut m e;
     next = h.next ∙ sym (length_changed uses n f b is);
   }
 
@@ -308,7 +312,7 @@ shows_retired p uses s n b is h =
       condemned = h'.condemned;
       given = h'.given;
       parked = λ m e. ⊎_elim
-          (λ (same : n ≡ m). subst (λ (k : ℕ). is_some (slab_in (with_shut uses n) k) ≡ true) same (some_changed uses n shut_slab b is n ∙ ap (λ (o : Option SlabUse). is_some o) is))
+          (λ (same : n ≡ m). subst (λ (k : ℕ). is_some (slab_in (with_shut uses n) k) ≡ true) same (some_changed uses n shut_slab is n ∙ ap (λ (o : Option SlabUse). is_some o) is))
           (λ (ne : n ≢ m). h'.parked m (sym (among_apart n m s.parked ne) ∙ e))
           (cases_eq n m);
       shut = h'.shut;

@@ -15,7 +15,7 @@ use Rattle.hm_model.specs.declared.entry.Reply.TheVariants as reply
 use Rattle.hm_sizes.specs.declared.shape.Shape.{Shape}
 use Rattle.hm_sizes.specs.Shapes.{slab_at, slab_of, slot_of, has_bytes, usable}
 use Rattle.hm_class_rules.specs.State.{State, Slab, is_open, is_live, is_empty, empty_slabs}
-use Rattle.hm_class_rules.specs.Kinds.{Kind, Partial, Empty, Neither, kind, same_kind}
+use Rattle.hm_class_rules.specs.Kinds.{Kind, Partial, Empty, kind, same_kind}
 use Rattle.hm_class_rules.specs.Steps.{takes_back, releases, unparks, retires, purges, step}
 use Rattle.hm_class_rules.specs.Bytes.{found_canary, kept_canary}
 use Rattle.hm_class_rules.specs.Rules.{Terms, Releases, Empties, Unparks, surplus, state, wrong_canary}

@@ -1,4 +1,4 @@
-use Rattle.std.proofs.Common.{◌≡◌, ◌∙◌, ◌-◌, ◌+◌, ℕ, min, sym, ap, refl}
+use Rattle.std.proofs.Common.{◌≡◌, ◌∙◌, ◌-◌, ◌+◌, ℕ, min, sym, ap}
 use Rattle.hm_class.proofs.Accessed.{have_bytes, piece_here, piece_held}
 use Rattle.hm_class.proofs.access.lends.Goals as goal
 

@@ -1,5 +1,4 @@
-use Rattle.std.proofs.Common.{◌≡◌, ◌∙◌, ◌-◌, ◌+◌, ◌≤◌, ℕ, min, arith, sym, ap, refl, true≢false}
-use Rattle.hm_model.specs.Runs.{expand}
+use Rattle.std.proofs.Common.{◌≡◌, ◌∙◌, ◌-◌, ◌+◌, ◌≤◌, ℕ, min, arith, sym, ap, true≢false}
 use Rattle.hm_model.proofs.RunsOf.{length_expand}
 use Rattle.hm_class.proofs.Accessed.{have_bytes, piece_here, piece_held, piece_read}
 use Rattle.hm_class.proofs.access.read.Goals as goal
