@@ -9,7 +9,7 @@ use Rattle.std.proofs.lemmas.Bool.Decides.{nat_tests}
 use Rattle.std.proofs.lemmas.List.{length-replicate}
 use Rattle.std.proofs.lemmas.Option.{none-some, same_Some}
 use Rattle.hm_base.specs.Lists.{written, zeros}
-use Rattle.hm_outside.specs.PageRuns.{PageRuns, MeetsNone, IsRun, IsHeld, Reads, Writes}
+use Rattle.hm_outside.specs.PageRuns.{PageRuns, MeetsNone, IsPageRun, IsHeld, Reads, Writes}
 use Rattle.hm_sizes.specs.declared.shape.Shape.{Shape}
 use Rattle.hm_sizes.specs.Shapes.{IsShape, slab_at, has_bytes}
 use Rattle.hm_model.specs.Maps.{at, has, put, removed}
@@ -221,7 +221,7 @@ module _ {X : Type 0} (m : FinMap nat_cmp X) (k q : ℕ) where
       apart q k ne = grind (arith, nat_tests)
 
 -- the bytes of an open slab are a run
-pub slab_page_run : (p : Shape) (opens : List (ℕ × Slab)) (n : ℕ) (runs : PageRuns) → has_bytes p ≡ true → has n opens ≡ true → HoldsSlabs p opens runs → IsRun runs (slab_at p n) p.slab
+pub slab_page_run : (p : Shape) (opens : List (ℕ × Slab)) (n : ℕ) (runs : PageRuns) → has_bytes p ≡ true → has n opens ≡ true → HoldsSlabs p opens runs → IsPageRun runs (slab_at p n) p.slab
 slab_page_run p opens n runs own on h = let b = opens_some opens n on in (b.0.bytes, h.each own n b.0 b.1, all_bytes p opens runs h own n b.0 b.1)
 
 still : (n m : ℕ) (b : Slab) (opens : List (ℕ × Slab)) → at m (removed n opens) ≡ Some b → n ≢ m

@@ -5,7 +5,7 @@ use Rattle.hm_choice.specs.Stream.{Words, next_word, after_word, drawn}
 use Rattle.hm_outside.specs.declared.pages.Pages as pages
 use Rattle.hm_quarantine.specs.Quarantine.{let_go, kept_with}
 use Rattle.hm_base.specs.Lists.{zeros}
-use Rattle.hm_outside.specs.PageRuns.{PageRuns, IsHeld, IsRun, Writes}
+use Rattle.hm_outside.specs.PageRuns.{PageRuns, IsHeld, IsPageRun, Writes}
 use Rattle.hm_sizes.specs.declared.shape.Shape.{Shape}
 use Rattle.hm_sizes.specs.Shapes.{slab_at, slab_of, slot_of, has_bytes, usable}
 use Rattle.hm_class_rules.specs.Kinds.{Empty, same_kind}
@@ -69,7 +69,7 @@ module _ {P : Type 0} (meaning : pages.Ghosts P) where
     pub below : n < region.shape.limit
     pub on : open_at k.slabs n ≡ true
     pub page_run : has_bytes region.shape ≡ true → IsTrue (meaning.told pages)
-        → IsRun (meaning.runs pages) (slab_at region.shape n) region.shape.slab
+        → IsPageRun (meaning.runs pages) (slab_at region.shape n) region.shape.slab
     pub parking : length k.parking ≡ region.config.park_length
 
   -- the slot at a can be released

@@ -2,7 +2,7 @@
 ghost use Rattle.std.specs.Prelude.{◌≡◌, ◌≤◌, ◌*◌, ◌+◌, ◌%◌, ◌^◌, IsTrue, ◌↔◌, IsErrOf, is_err, OnOk, OnErr, if◌then◌else◌};
 ghost use Rattle.std.specs.FinMap as map;
 ghost use Rattle.hm_base.specs.Lists.{zeros};
-ghost use Rattle.hm_outside.specs.PageRuns.{MeetsNone, IsRun};
+ghost use Rattle.hm_outside.specs.PageRuns.{MeetsNone, IsPageRun};
 ghost use Rattle.hm_outside.specs.Causes.{HasRefusalCause, HasFaultCause};
 ghost use Rattle.hm_fakes.specs.FailingPages.{fails_next, fresh_failing, Numbers};
 ghost use Rattle.hm_outside.specs.Counts.{raised};
@@ -103,7 +103,7 @@ impl Pages for FailingPages {
     }
 
     fn drop_contents(&mut self, first: u64, pages: u32) -> Result<(), PageFault>
-        requires run { IsRun self.old.runs first (4096 * pages) }
+        requires run { IsPageRun self.old.runs first (4096 * pages) }
         ensures dropped { OnOk result (self.new.runs ≡ map.remove self.old.runs first) }
         ensures unchanged { OnErr result (self.new.runs ≡ self.old.runs) }
         ensures cause { HasFaultCause self.old.faults self.new.faults result }
@@ -117,7 +117,7 @@ impl Pages for FailingPages {
     }
 
     fn purge(&mut self, first: u64, pages: u32)
-        requires run { IsRun self.old.runs first (4096 * pages) }
+        requires run { IsPageRun self.old.runs first (4096 * pages) }
         ensures zeroed { self.new ≡ record self.old { runs = map.insert self.old.runs first (zeros (4096 * pages)) } }
     {
         self.plain.purge(first, pages)

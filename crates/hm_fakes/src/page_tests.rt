@@ -1,7 +1,7 @@
 //! What pages in memory hold, step by step, and that a list gives its items back.
 ghost use Rattle.std.specs.Prelude.{◌≡◌, ◌≤◌, ◌+◌, ◌*◌, ◌%◌, ◌^◌, ℕ, IfOk, IsTrue};
 ghost use Rattle.std.specs.FinMap as map;
-ghost use Rattle.hm_outside.specs.PageRuns.{IsRun};
+ghost use Rattle.hm_outside.specs.PageRuns.{IsPageRun};
 
 use crate::{FailingMaker, FailingPages, PlainMaker, PlainPages};
 use hm_base::{List, RegionId};
@@ -16,7 +16,7 @@ fn three_runs(alloc: Global, low: u64, count: u32) -> Result<PlainPages, PageRef
     requires some { 1 ≤ count }
     requires few { count ≤ 2 }
     requires below { low + 24576 ≤ 2 ^ 47 }
-    ensures { IfOk result (λ p. IsRun p (low + 8192) (4096 * count)) }
+    ensures { IfOk result (λ p. IsPageRun p (low + 8192) (4096 * count)) }
 {
     let mut pages = PlainPages::new(alloc);
     pages.make_accessible(low + 16384, count)?;
@@ -27,7 +27,7 @@ fn three_runs(alloc: Global, low: u64, count: u32) -> Result<PlainPages, PageRef
 
 // Writes the bytes, if their range can be written.
 fn write_at(pages: &mut PlainPages, addr: u64, bytes: &[u8])
-    ensures { (q n : ℕ) → IsRun pages.old q n → IsRun pages.new q n }
+    ensures { (q n : ℕ) → IsPageRun pages.old q n → IsPageRun pages.new q n }
 {
     if pages.holds(addr, bytes.len()) {
         pages.bytes_mut(addr, bytes.len()).copy_from_slice(bytes);

@@ -2,7 +2,7 @@
 ghost use Rattle.std.specs.Prelude.{◌≡◌, IfOk};
 ghost use Rattle.hm_base.specs.Lists.{zeros};
 
-use hm_outside::HasRun;
+use hm_outside::HasPageRun;
 use std::alloc::{AllocError, Global};
 
 #[derive(Drop)]
@@ -23,7 +23,7 @@ impl Run {
     }
 }
 
-impl HasRun for Run {
+impl HasPageRun for Run {
     ghost use Rattle.hm_fakes.specs.PlainRuns.{entry, with_bytes, put_over};
     ghost use Rattle.hm_fakes.specs.PlainLaws.{run_put, put_exact};
 

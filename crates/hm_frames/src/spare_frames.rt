@@ -5,7 +5,7 @@ ghost use Rattle.hm_frames.specs.declared.spare_frames.TheConstants.{MOST_KEPT, 
 
 use crate::frame::Frame;
 use hm_base::NoMemory;
-use hm_outside::HasRun;
+use hm_outside::HasPageRun;
 use std::alloc::Global;
 
 /// At most so many runs are kept.

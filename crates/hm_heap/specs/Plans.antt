@@ -45,7 +45,7 @@ pub record CarriesOut (h : HeapView) (p q : PassView) (step n : ℕ) (plan : Pla
   pub reach : IfOk answer AnswerInReach
 
 -- some plan of this kind was carried out
-pub record Serves (h : HeapView) (IsPlan : Plan → Type 0) (p q : PassView) (step : ℕ)
+pub record FollowsSome (h : HeapView) (IsPlan : Plan → Type 0) (p q : PassView) (step : ℕ)
     (answer : Result Answer NoMemory) : Type 0 where
   pub plan : Plan
   pub is : IsPlan plan
@@ -74,7 +74,7 @@ pub record TriesOut (h : HeapView) (p q : PassView) (step : ℕ) (plan : Plan)
   pub reach : IfOk answer AnswerInReach
 
 -- some plan of this kind was tried
-pub record ServesTry (h : HeapView) (IsPlan : Plan → Type 0) (p q : PassView) (step : ℕ)
+pub record TriesSome (h : HeapView) (IsPlan : Plan → Type 0) (p q : PassView) (step : ℕ)
     (answer : Result Answer NoMemory) : Type 0 where
   pub plan : Plan
   pub is : IsPlan plan

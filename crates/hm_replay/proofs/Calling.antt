@@ -5,7 +5,7 @@ use Rattle.hm_model.specs.declared.answer.Answer.{Answer}
 use Rattle.hm_trace.specs.declared.step.Step.{Step}
 use Rattle.hm_trace.specs.Views.{step_view}
 use Rattle.hm_heap.specs.Passes.{HeapView, PassView, GoesOnAs}
-use Rattle.hm_heap.specs.Plans.{Plan, CarriesOut, Serves, TriesOut}
+use Rattle.hm_heap.specs.Plans.{Plan, CarriesOut, FollowsSome, TriesOut}
 use Rattle.hm_replay.specs.Gains.{HasCalled}
 use Rattle.hm_replay.specs.Steps.{IsStepPlan}
 use Rattle.hm_replay.proofs.Fronts.{follows_stops, stops_after_busy}
@@ -24,7 +24,7 @@ module _ {h : HeapView} where
   }
 
   pub serves_answer : (IsPlan : Plan → Type 0) (p q : PassView) (step : ℕ) (r : Result Answer NoMemory)
-      → Serves h IsPlan p q step r → HasCalled h IsPlan p q step r
+      → FollowsSome h IsPlan p q step r → HasCalled h IsPlan p q step r
   serves_answer IsPlan p q step r s = carries_called IsPlan s.plan p q step r s.is s.carried
 
   pub carries_is : (plan : Plan) (p q : PassView) (step : ℕ) (r : Result Answer NoMemory) → CarriesOut h p q step 1 plan r

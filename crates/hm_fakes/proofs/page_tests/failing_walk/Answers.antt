@@ -1,7 +1,7 @@
 use Rattle.std.proofs.Common.{◌≡◌, ℕ, ◌+◌, ◌*◌, ◌<◌, ◌≤◌, refl, sym, ap, ◌∙◌, subst, arith, inl}
 use Rattle.std.specs.FinMap as map
 use Rattle.hm_base.specs.Lists.{zeros}
-use Rattle.hm_outside.specs.PageRuns.{PageRuns, MeetsNone, IsRun}
+use Rattle.hm_outside.specs.PageRuns.{PageRuns, MeetsNone, IsPageRun}
 use Rattle.hm_outside.proofs.RunFacts.{empty_meets_none, inserted_meets_none, inserted_is_run, others_stay}
 use Rattle.hm_fakes.specs.FailingPages.{Failing}
 use Rattle.hm_fakes.proofs.page_tests.failing_walk.Goals as goal
@@ -27,10 +27,10 @@ make_accessible-requires-3-clause-apart g c =
     subst (λ (m : PageRuns). MeetsNone m (c.args.low + 8192) (4096 * c.args.count)) (sym c.in-Err.ensures.unchanged)
     (next c.build-pages.result.runs c.make_accessible.new.self.runs c.args.low (4096 * c.args.count) (nothing _ _ c.build-pages.ensures refl) c.in_ok-make_accessible.ensures.made (omega (arith, c.requires.some)) (omega (arith, c.requires.few)))
 
-low_run : (runs one two three : PageRuns) (low size : ℕ) → one ≡ map.insert runs low (zeros size) → two ≡ one → three ≡ map.insert two (low + 8192) (zeros size) → IsRun three low size
+low_run : (runs one two three : PageRuns) (low size : ℕ) → one ≡ map.insert runs low (zeros size) → two ≡ one → three ≡ map.insert two (low + 8192) (zeros size) → IsPageRun three low size
 low_run runs one two three low size first same second =
-    subst (λ (m : PageRuns). IsRun m low size) (sym second)
-    (others_stay two (low + 8192) low size (zeros size) (omega arith) (subst (λ (m : PageRuns). IsRun m low size) (sym (same ∙ first)) (inserted_is_run runs low size)))
+    subst (λ (m : PageRuns). IsPageRun m low size) (sym second)
+    (others_stay two (low + 8192) low size (zeros size) (omega arith) (subst (λ (m : PageRuns). IsPageRun m low size) (sym (same ∙ first)) (inserted_is_run runs low size)))
 
 pub drop_contents-requires : goal.drop_contents-requires
 drop_contents-requires g c = record {
@@ -40,7 +40,7 @@ drop_contents-requires g c = record {
 
 pub drop_contents-requires-2 : goal.drop_contents-requires-2
 drop_contents-requires-2 g c = record {
-  run = subst (λ (m : PageRuns). IsRun m c.args.low (4096 * c.args.count)) (sym c.in-Err-drop_contents.ensures.unchanged)
+  run = subst (λ (m : PageRuns). IsPageRun m c.args.low (4096 * c.args.count)) (sym c.in-Err-drop_contents.ensures.unchanged)
       (low_run c.build-pages.result.runs c.make_accessible.new.self.runs c.make_accessible-2.new.self.runs c.make_accessible-3.new.self.runs c.args.low (4096 * c.args.count) c.in_ok-make_accessible.ensures.made c.in-Err.ensures.unchanged
       c.in_ok-make_accessible-2.ensures.made);
 }

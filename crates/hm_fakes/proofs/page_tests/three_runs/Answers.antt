@@ -1,5 +1,5 @@
 use Rattle.std.proofs.Common.{ℕ, ◌+◌, ◌*◌, ◌<◌, refl, sym, subst, arith, inl, inr}
-use Rattle.hm_outside.specs.PageRuns.{PageRuns, MeetsNone, IsRun}
+use Rattle.hm_outside.specs.PageRuns.{PageRuns, MeetsNone, IsPageRun}
 use Rattle.hm_outside.proofs.RunFacts.{empty_meets_none, inserted_meets_none, inserted_is_run}
 use Rattle.hm_fakes.proofs.page_tests.three_runs.Goals as goal
 
@@ -28,5 +28,5 @@ make_accessible-requires-3-clause-apart c t =
 
 pub returns : goal.returns
 returns c =
-    subst (λ (m : PageRuns). IsRun m (c.args.low + 8192) (4096 * c.args.count)) (sym (c.in_ok-make_accessible-3.ensures.made refl))
+    subst (λ (m : PageRuns). IsPageRun m (c.args.low + 8192) (4096 * c.args.count)) (sym (c.in_ok-make_accessible-3.ensures.made refl))
     (inserted_is_run c.make_accessible-2.new.self (c.args.low + 8192) (4096 * c.args.count))

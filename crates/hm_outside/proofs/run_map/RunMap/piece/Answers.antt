@@ -7,11 +7,11 @@ use Rattle.hm_outside.proofs.run_map.RunMap.piece.Goals as goal
 pub returns-in_err-run-clause-value : goal.returns-in_err-run-clause-value
 returns-in_err-run-clause-value g c =
     subst (λ r. PieceGives c.args.self.now c.args.addr c.args.len c.args.from r) (sym c.from_residual.ensures)
-    (λ q b has lies. c.in_err-run.ensures.nowhere q b (told_found g.R.HasRun.entry (values_of c.self.inside.runs.entries) c.args.self.now q b c.self.view_is has) lies)
+    (λ q b has lies. c.in_err-run.ensures.nowhere q b (told_found g.R.HasPageRun.entry (values_of c.self.inside.runs.entries) c.args.self.now q b c.self.view_is has) lies)
 
 pub returns-clause-value : goal.returns-clause-value
 returns-clause-value g c =
-    let entry = g.R.HasRun.entry in
+    let entry = g.R.HasPageRun.entry in
     let h = c.in_ok-run.ensures.run in
     let x = c.in_ok-run.run'.now in
     piece_here entry (values_of c.self.inside.runs.entries) c.args.self.now h.place c.args.addr c.args.len c.args.from x c.front.result.now c.self.invariant.ordered c.self.view_is h.here h.last h.lies

@@ -5,11 +5,11 @@ use Rattle.hm_outside.proofs.run_map.RunMap.zero.Goals as goal
 
 pub unwrap-requires : goal.unwrap-requires
 unwrap-requires g c =
-    (can_is g.R.HasRun.entry c.self.inside.runs.entries c.args.self.now c.args.addr c.args.len c.run_of.result c.self.view_is c.self.invariant c.run_of.ensures.run c.run_of.ensures.nowhere).1 c.requires
+    (can_is g.R.HasPageRun.entry c.self.inside.runs.entries c.args.self.now c.args.addr c.args.len c.run_of.result c.self.view_is c.self.invariant c.run_of.ensures.run c.run_of.ensures.nowhere).1 c.requires
 
 pub unwrap-run-requires : goal.unwrap-run-requires
 unwrap-run-requires g c =
-    let entry = g.R.HasRun.entry in
+    let entry = g.R.HasPageRun.entry in
     let runs = c.self.inside.runs.entries in
     let x = c.unwrap.result.now in
     let h = ranged entry runs c.args.addr c.args.len c.run_of.result c.unwrap.result c.unwrap.ensures c.run_of.ensures.run in
@@ -17,12 +17,12 @@ unwrap-run-requires g c =
 
 pub overflow_sub-addr : goal.overflow_sub-addr
 overflow_sub-addr g c =
-    let h = ranged g.R.HasRun.entry c.self.inside.runs.entries c.args.addr c.args.len c.run_of.result c.unwrap.result c.unwrap.ensures c.run_of.ensures.run in
+    let h = ranged g.R.HasPageRun.entry c.self.inside.runs.entries c.args.addr c.args.len c.run_of.result c.unwrap.result c.unwrap.ensures c.run_of.ensures.run in
     omega (arith, h.lies.from, c.first-first.ensures)
 
 pub zero-requires : goal.zero-requires
 zero-requires g c =
-    let entry = g.R.HasRun.entry in
+    let entry = g.R.HasPageRun.entry in
     let runs = c.self.inside.runs.entries in
     let x = c.unwrap.result.now in
     let first = c.first-first.result in
@@ -32,7 +32,7 @@ zero-requires g c =
 
 pub invariant_of-self : goal.invariant_of-self
 invariant_of-self g c =
-    let entry = g.R.HasRun.entry in
+    let entry = g.R.HasPageRun.entry in
     let runs = c.self.inside.runs.entries in
     let x = c.unwrap.result.now in
     let first = c.first-first.result in
@@ -43,7 +43,7 @@ invariant_of-self g c =
 
 pub returns : goal.returns
 returns g c =
-    let entry = g.R.HasRun.entry in
+    let entry = g.R.HasPageRun.entry in
     let runs = c.self.inside.runs.entries in
     let x = c.unwrap.result.now in
     let first = c.first-first.result in
