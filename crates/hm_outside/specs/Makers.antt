@@ -1,5 +1,5 @@
 -- For which regions a maker has made pages, where it tells.
-use Rattle.std.specs.Prelude.{◌≡◌, ℕ, List, ◌∷◌, [], MatchResult}
+use Rattle.std.specs.Prelude.{◌≡◌, ℕ, List, ◌∷◌, [], MatchResult, IfSome}
 use Rattle.std.specs.declared.option.Option.{Option}
 use Rattle.std.specs.declared.result.Result.{Result}
 use Rattle.hm_outside.specs.Streams.{Put}
@@ -11,3 +11,7 @@ Made before after regions = Put before after regions
 -- one call of `make`: pages were made for this region; where it lacks memory, for none
 abbrev pub Makes : {T E : Type 0} → Option (List ℕ) → Option (List ℕ) → Result T E → ℕ → Type 0
 Makes before after result region = MatchResult result (λ _. Made before after (region ∷ [])) (λ _. after ≡ before)
+
+-- pages that say to which region they belong belong to this one
+abbrev pub IsOwned : Option ℕ → ℕ → Type 0
+IsOwned owner region = IfSome owner (λ r. r ≡ region)

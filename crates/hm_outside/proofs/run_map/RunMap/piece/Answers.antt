@@ -1,5 +1,6 @@
 use Rattle.std.proofs.Common.{◌+◌, ◌-◌, ◌∙◌, ℕ, length, take, drop, sym, ap, subst}
 use Rattle.std.specs.Map.{values_of}
+use Rattle.hm_outside.specs.Piece.{bytes_in}
 use Rattle.hm_outside.specs.PageRuns.{PieceGives}
 use Rattle.hm_outside.proofs.Places.{told_found, piece_here}
 use Rattle.hm_outside.proofs.run_map.RunMap.piece.Goals as goal
@@ -14,5 +15,5 @@ returns-clause-value g c =
     let entry = g.R.HasPageRun.entry in
     let h = c.in_ok-run.ensures.run in
     let x = c.in_ok-run.run'.now in
-    piece_here entry (values_of c.self.inside.runs.entries) c.args.self.now h.place c.args.addr c.args.len c.args.from x c.front.result.now c.self.invariant.ordered c.self.view_is h.here h.last h.lies
-    (c.front.ensures.value ∙ ap (λ (q : ℕ). take (length c.front.result.now) (drop (c.args.addr - q + c.args.from) (entry x).1)) c.first.ensures)
+    piece_here entry (values_of c.self.inside.runs.entries) c.args.self.now h.place c.args.addr c.args.len c.args.from x (bytes_in c.front.result) c.self.invariant.ordered c.self.view_is h.here h.last h.lies
+    (c.front.ensures.value ∙ ap (λ (q : ℕ). take (length (bytes_in c.front.result)) (drop (c.args.addr - q + c.args.from) (entry x).1)) c.first.ensures)
