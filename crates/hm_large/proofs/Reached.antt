@@ -27,7 +27,7 @@ use Rattle.hm_sizes.specs.declared.config.Config.{Config}
 use Rattle.hm_large.specs.declared.store.Store.{Store}
 use Rattle.hm_large.specs.declared.access.Reading.{Reading}
 use Rattle.hm_large.specs.declared.access.Reading.TheVariants as reading
-use Rattle.hm_large.specs.Access.{fetch_reply, fill_reply, IsRead, AreDisjoint}
+use Rattle.hm_large.specs.Access.{fetch_reply, fill_reply, IsRead, SameButPageRuns, AreDisjoint}
 use Rattle.hm_large.specs.Blocks.{Block, Blocks, covers, covered, is_quarantined, is_owed, first_trap, bytes_read, overlay, written_over, mark}
 use Rattle.hm_large.specs.State.{State, start, step, changed, takes_back, releases, free_of}
 use Rattle.hm_large.specs.Rules.{Allowed, state}
@@ -219,10 +219,10 @@ module _ {P : Type 0} (meaning : pages.Ghosts P) (p : P) (c : Config) (n : ℕ) 
   kept_trapped now found trap asks h same is =
       kept_plain meaning p now c n es k (entry_of who (call.Fill a found) (reply.Trap trap) no_choices no_words (meaning.faults p) (meaning.faults p)) h same refl refl refl (asks, (is, refl), refl, refl)
 
-  kept_filled : (now : P) (found : List (ℕ × ℕ)) → IsRange a (length (expand found)) → IsKept meaning p c n es k → meaning.told now ≡ meaning.told p → meaning.faults now ≡ meaning.faults p
+  kept_filled : (now : P) (found : List (ℕ × ℕ)) → IsRange a (length (expand found)) → IsKept meaning p c n es k → SameButPageRuns meaning p now
       → (IsTrue (meaning.told p) → Writes (meaning.runs p) a (length (expand found)) (expand found) (meaning.runs now))
       → IsKept meaning now c n (es ++ entry_of who (call.Fill a found) reply.Filled no_choices no_words (meaning.faults p) (meaning.faults p) ∷ []) k
-  kept_filled now found asks h telling count writes =
+  kept_filled now found asks h same writes =
       let t = terms_of c (meaning.told p) in
       let s : State = state t es in
       let len : ℕ = length (expand found) in
@@ -236,21 +236,22 @@ module _ {P : Type 0} (meaning : pages.Ghosts P) (p : P) (c : Config) (n : ℕ) 
         later = omega arith;
         allows = ((λ tells. (reads_blocks c s (meaning.runs p) a len _ sound (h.held tells) (reads tells)).0), refl);
       } in
-      kept_push meaning p now c n es k k e h telling (
+      kept_push meaning p now c n es k k e h (record { told = same.told; owner = same.owner }) (
         allowed,
         refl,
         (λ tells. writes_blocks c s (meaning.runs p) (meaning.runs now) a (expand found) sound (h.held tells) (writes tells)),
         shows_step c n (record s { live = written_over a (expand found) s.live }) k (0 + s.words) (meaning.faults p) (shows_written c n s k a (expand found) h.shows) (omega arith),
       )
-      count
+      same.count
 
   -- what writing left
-  pub kept_written : (now : P) (found : List (ℕ × ℕ)) (trap : Option ℕ) → IsRange a (length (expand found)) → IsKept meaning p c n es k → meaning.told now ≡ meaning.told p → meaning.faults now ≡ meaning.faults p
+  pub kept_written : (now : P) (found : List (ℕ × ℕ)) (trap : Option ℕ) → IsRange a (length (expand found)) → IsKept meaning p c n es k → SameButPageRuns meaning p now
       → (IsTrue (meaning.told p) → trap ≡ first_trap (state (terms_of c (meaning.told p)) es).live a (length (expand found)))
       → (trap ≡ None → IsTrue (meaning.told p) → Writes (meaning.runs p) a (length (expand found)) (expand found) (meaning.runs now)) → (IsSome trap → meaning.runs now ≡ meaning.runs p)
       → IsKept meaning now c n (es ++ entry_of who (call.Fill a found) (fill_reply trap) no_choices no_words (meaning.faults p) (meaning.faults p) ∷ []) k
-  kept_written now found None asks h telling count first written unchanged = kept_filled now found asks h telling count (written refl)
-  kept_written now found (Some trap) asks h telling count first written unchanged = kept_trapped now found trap asks h (record { telling = telling; runs = λ tells. unchanged refl; faults = count }) (λ tells. sym (first tells))
+  kept_written now found None asks h same first written unchanged = kept_filled now found asks h same (written refl)
+  kept_written now found (Some trap) asks h same first written unchanged =
+      kept_trapped now found trap asks h (record { origin = record { told = same.told; owner = same.owner }; runs = λ tells. unchanged refl; faults = same.count }) (λ tells. sym (first tells))
 
 -- the replies that a fill may have
 pub fill_replies : (a len : ℕ) (trap : Option ℕ) → IfSome trap (IsWithin a len) → IsFillReply a len (fill_reply trap)

@@ -25,9 +25,10 @@ abbrev pub IsRead : Blocks → ℕ → ℕ → Reading → Type 0
 IsRead live addr len (reading.Bytes runs) = (first_trap live addr len ≡ None) × (expand runs ≡ bytes_read live addr len)
 IsRead live addr len (reading.Trap q) = first_trap live addr len ≡ Some q
 
--- the pages are as before, but for their runs and bytes
+-- the pages are as before, and of the same region, but for their runs and bytes
 pub record SameButPageRuns {P : Type 0} (meaning : pages.Ghosts P) (before now : P) : Type 0 where
   pub told : meaning.told now ≡ meaning.told before
+  pub owner : meaning.owner now ≡ meaning.owner before
   pub count : meaning.faults now ≡ meaning.faults before
 
 -- no address is in two page runs

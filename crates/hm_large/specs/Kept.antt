@@ -4,10 +4,12 @@ use Rattle.std.specs.FinMap as map
 use Rattle.hm_model.specs.declared.entry.Entry.{Entry}
 use Rattle.hm_model.specs.Maps.{at, keys}
 use Rattle.hm_outside.specs.declared.pages.Pages as pages
+use Rattle.hm_outside.specs.Makers.{IsOwned}
 use Rattle.hm_quarantine.specs.Delay.{held, AreNew}
 use Rattle.hm_quarantine.specs.LookingBack.{AreIndices, kept_after}
 use Rattle.hm_sizes.specs.declared.config.Config.{Config}
 use Rattle.hm_sizes.specs.Configs.{IsValid}
+use Rattle.hm_sizes.specs.Origins.{large_region_number}
 use Rattle.hm_space.specs.Space.{IsFree}
 use Rattle.hm_region_table.specs.declared.entry.Block.{Block as KeptBlock}
 use Rattle.hm_large.specs.declared.store.Store.{Store}
@@ -52,7 +54,7 @@ pub record Shows (c : Config) (number : ℕ) (s : State) (k : Store) : Type 0 wh
   pub places : AreIndices array_length s.frees
   pub new : AreNew array_length ring_length s.frees
 
--- the history is legal and drawn, and the pages and the store are what it says
+-- the history is legal and drawn, the pages are the region's own, and they and the store are what it says
 pub record IsKept {P : Type 0} (meaning : pages.Ghosts P) (p : P) (c : Config) (number : ℕ) (es : List Entry)
     (k : Store) : Type 0 where
   pub valid : IsValid c
@@ -62,3 +64,4 @@ pub record IsKept {P : Type 0} (meaning : pages.Ghosts P) (p : P) (c : Config) (
   pub held : IsTrue (meaning.told p)
       → HoldsBlocks (state (record { config = c; told = meaning.told p }) es).live (meaning.runs p)
   pub shows : Shows c number (state (record { config = c; told = meaning.told p }) es) k
+  pub owned : IsOwned (meaning.owner p) large_region_number

@@ -2,6 +2,7 @@
 use Rattle.std.specs.Prelude.{◌≡◌, ℕ, ◌≤◌, Bool, IsTrue, List, option_map}
 use Rattle.std.specs.FinMap as map
 use Rattle.hm_outside.specs.declared.pages.Pages as pages
+use Rattle.hm_outside.specs.Makers.{IsOwned}
 use Rattle.hm_outside.specs.PageRuns.{PageRuns}
 use Rattle.hm_model.specs.declared.entry.Entry.{Entry}
 use Rattle.hm_model.specs.Maps.{at}
@@ -38,12 +39,13 @@ module _ {P : Type 0} (told : P → Bool) where
 abbrev pub origin : {P : Type 0} → (P → Bool) → Region P → Origin
 origin told r = record { config = r.config; number = r.number; region = large_region_number; told = told r.pages }
 
--- the history is legal and drawn, and the pages and the room for entries are what it says
+-- the history is legal and drawn, the pages are the region's own, and they and the room for entries are what it says
 pub record IsRegion {P : Type 0} (meaning : pages.Ghosts P) (r : Region P) : Type 0 where
   pub valid : IsValid r.config
   pub legal : IsLegal (terms meaning.told r) r.entries
   pub drawn : IsDrawn r.number r.entries
   pub count : meaning.faults r.pages ≡ (region_state meaning.told r).faults
   pub held : IsTrue (meaning.told r.pages) → HoldsBlocks (region_state meaning.told r).live (meaning.runs r.pages)
+  pub owned : IsOwned (meaning.owner r.pages) large_region_number
   -- an entry for the free of each live block of which no free failed
   pub room : owed (region_state meaning.told r).live ≤ r.spare

@@ -75,6 +75,7 @@ fn open<P: Pages>(
     ensures ok { OnOk result (Opens P.Pages blocks.old blocks.new addr block pages.old pages.new) }
     ensures err { OnErr result (StaysShut P.Pages blocks.old blocks.new pages.old pages.new) }
     ensures told { P.told pages.new ≡ P.told pages.old }
+    ensures owner { P.owner pages.new ≡ P.owner pages.old }
     ensures cause { HasRefusalCause (P.faults pages.old) (P.faults pages.new) result }
 {
     blocks.insert(addr, block)?;
@@ -107,6 +108,7 @@ pub fn allot<P: Pages>(
     requires few { store.old.owed < 2 ^ 63 }
     requires stands { Stands (P.told pages.old) (P.runs pages.old) store.old }
     ensures told { P.told pages.new ≡ P.told pages.old }
+    ensures owner { P.owner pages.new ≡ P.owner pages.old }
     ensures owed { store.new.owed ≤ store.old.owed + 1 }
     ensures allots { IfOk result (λ attempt. (c : Config) (number : ℕ) (s : State) → Shows c number s store.old
         → Allots P.Pages c number s asked align store.new pages.old pages.new attempt) }

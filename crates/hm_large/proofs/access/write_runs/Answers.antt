@@ -7,6 +7,7 @@ use Rattle.hm_large.proofs.access.write_runs.Goals as goal
 pub loop-byte-init : goal.loop-byte-init
 loop-byte-init g c = record {
   told = refl;
+  owner = refl;
   count = refl;
   at = omega arith;
   written = λ tells apart q b is lies. none_over (g.P.Pages.runs c.args.pages.now) q b c.args.addr is;
@@ -24,6 +25,7 @@ loop-byte-preserved g c =
     let runs = g.P.Pages.runs c.args.pages.now in
     let count : length w ≡ total (take i pairs) = length_expand (take i pairs) in record {
       told = c.write_run.ensures.same.told ∙ l.told;
+      owner = c.write_run.ensures.same.owner ∙ l.owner;
       count = c.write_run.ensures.same.count ∙ l.count;
       at = omega (arith, l.at, total_more pairs i c.loop-byte-test.true);
       written = λ tells apart q b is lies. (let told = l.told ∙ tells in
