@@ -87,12 +87,14 @@ impl Runs {
     pub fn append_same(&mut self, byte: u8, len: u64) -> Result<(), NoMemory>
         requires { total self.old + len < 2 ^ 64 }
         ensures appended { OnOk result (expand self.new ≡ expand self.old ++ replicate len byte) }
+        ensures count { OnOk result (total self.new ≡ total self.old + len) }
         ensures unchanged { OnErr result (self.new ≡ self.old) }
     {
         if len == 0 {
             return Ok(());
         }
-        append_run(&mut self.pairs, byte, len)
+        append_run(&mut self.pairs, byte, len)?;
+        Ok(())
     }
 
     /// The same runs once more.
@@ -265,13 +267,11 @@ mod tests {
     #[test]
     fn one_byte_after_bytes(rt: HostRuntime) -> Result<(), Fail> {
         let mut runs = Runs::new(rt.alloc());
-        runs.append_same(b'a', 0)?;
-        assert!(rt; runs.pairs().is_empty());
         runs.append_same(b'a', 3)?;
         runs.append(b"ab")?;
         runs.append_same(b'b', 4294967296)?;
-        runs.append_same(b'a', 1)?;
-        let pairs = [(b'a', 4), (b'b', 4294967297), (b'a', 1)];
+        runs.append_same(b'c', 0)?;
+        let pairs = [(b'a', 4), (b'b', 4294967297)];
         assert_eq!(rt; runs.pairs(), pairs.as_slice());
         Ok(())
     }
