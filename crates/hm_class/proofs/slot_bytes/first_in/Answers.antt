@@ -1,6 +1,4 @@
-use Rattle.std.proofs.Common.{rules, ◌≡◌, ◌≢◌, ◌<◌, ◌==◌, ℕ, List, Option, Some, None, true, false, length, replicate, get_or, refl, sym, ap, ◌∙◌, arith}
-use Rattle.std.proofs.lemmas.Bool.Decides.{nat_tests}
-use Rattle.std.proofs.lemmas.List.{length-replicate}
+use Rattle.std.proofs.Common.{◌≡◌, ℕ, Some, length, replicate, get_or, sym, ap, ◌∙◌}
 use Rattle.hm_outside.specs.Piece.{bytes_in}
 use Rattle.hm_outside.specs.declared.piece.Piece.{Piece}
 use Rattle.hm_class_rules.specs.Bytes.{first_nonzero}

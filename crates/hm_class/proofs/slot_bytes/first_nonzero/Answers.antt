@@ -1,4 +1,4 @@
-use Rattle.std.proofs.Common.{◌≡◌, ℕ, ◌+◌, ◌-◌, List, take, drop, sym, ap, ◌∙◌, arith}
+use Rattle.std.proofs.Common.{ℕ, ◌+◌, ◌-◌, List, take, drop, sym, ap, ◌∙◌, arith}
 use Rattle.hm_outside.proofs.Pieces.{reads_in}
 use Rattle.hm_class_rules.specs.Bytes.{first_nonzero}
 use Rattle.hm_class.proofs.Pieces.{none_on, found_in}
