@@ -97,15 +97,15 @@ pub record IsAllotment {P : Type 0} (meaning : pages.Ghosts P) (told : Bool) (ru
   pub same : meaning.faults now ≡ meaning.faults mid
   pub asks : raised asked ≤ class_size_of region.shape
 
-module _ {told : Bool} {runs : PageRuns} {faults : ℕ} {region : Identity} {es : List Entry} {store : Store}
-    (kept : IsKept told runs faults region es store)
+module _ {told : Bool} {owner : Option ℕ} {runs : PageRuns} {faults : ℕ} {region : Identity} {es : List Entry} {store : Store}
+    (kept : IsKept told owner runs faults region es store)
     {P : Type 0} {meaning : pages.Ghosts P} {begun mid now : P} {asked : ℕ} (allotment : IsAllotment meaning told runs faults region begun mid now asked)
     (store₁ store' : Store) (who : Who) where
   abbrev first : State
   first = state (terms_in told region) es
 
   abbrev Ends : Event → Type 0
-  Ends e = IsKept told (meaning.runs now) (meaning.faults now) region (es ++ entry_of who (Allot asked 1) e.reply e.choices e.draws (meaning.faults begun) (meaning.faults now) ∷ []) store'
+  Ends e = IsKept told owner (meaning.runs now) (meaning.faults now) region (es ++ entry_of who (Allot asked 1) e.reply e.choices e.draws (meaning.faults begun) (meaning.faults now) ∷ []) store'
 
   tell : IsTrue told → IsTrue (meaning.told mid)
   tell y = allotment.told_mid ∙ allotment.told_begun ∙ y
@@ -114,7 +114,7 @@ module _ {told : Bool} {runs : PageRuns} {faults : ℕ} {region : Identity} {es 
   unserved : (answer : Reply) → event_of (Allot asked 1) answer ≡ Undrawn → Allows (terms_in told region) first (meaning.faults begun) (meaning.faults now) no_choices (Allot asked 1) answer → meaning.faults begun ≤ meaning.faults now
       → step region.shape first (entry_of who (Allot asked 1) answer no_choices no_words (meaning.faults begun) (meaning.faults now)) ≡ record first { faults = meaning.faults now }
       → (IsTrue told → meaning.runs now ≡ runs) → KeepsRuns meaning store store₁ begun mid → KeepsRuns meaning store₁ store' mid now
-      → IsKept told (meaning.runs now) (meaning.faults now) region (es ++ entry_of who (Allot asked 1) answer no_choices no_words (meaning.faults begun) (meaning.faults now) ∷ []) store'
+      → IsKept told owner (meaning.runs now) (meaning.faults now) region (es ++ entry_of who (Allot asked 1) answer no_choices no_words (meaning.faults begun) (meaning.faults now) ∷ []) store'
   unserved answer undrawn allows later after page_runs_same q w =
       let items : store'.slabs.slabs ≡ store.slabs.slabs = w.slabs ∙ q.slabs in
       let lists : store'.slabs.lists ≡ store.slabs.lists = w.lists.lists ∙ q.lists.lists in

@@ -67,12 +67,12 @@ pub record IsToServe {P : Type 0} (meaning : pages.Ghosts P) (told : Bool) (faul
   pub chosen : choices ≡ record no_choices { canary = choices.canary; opened = choices.opened }
   pub stepped : (a : ℕ) → slab_of region.shape a ≡ n → first_free region.shape (opened region.shape choices.opened choices.canary (state (terms_in told region) es)) n (start_from region.config region.shape store₁.stream) ≡ Some a → (r : Reply) → event_of (Allot asked 1) r ≡ Picked a → IsSteppedEntry (terms_in told region) (cells_of (state (terms_in told region) es) store) (entry_of who (Allot asked 1) r choices draws f f')
 
-module _ {told : Bool} {runs : PageRuns} {faults : ℕ} {region : Identity} {es : List Entry} {store : Store}
-    (kept : IsKept told runs faults region es store)
+module _ {told : Bool} {owner : Option ℕ} {runs : PageRuns} {faults : ℕ} {region : Identity} {es : List Entry} {store : Store}
+    (kept : IsKept told owner runs faults region es store)
     {P : Type 0} {meaning : pages.Ghosts P} {mid now : P} {store₁ store' : Store} {n : ℕ} {kind₀ : Kind} {choices : Choices} {draws : Draws} {who : Who} {asked f f' : ℕ} {before : Kind}
     (ready : IsToServe meaning told faults region es store mid now store₁ store' n kind₀ choices draws who asked f f' before) where
   pub kept_serve : (o : Reply) → GivesOf meaning store₁ store' mid now region n o
-      → IsKept told (meaning.runs now) f' region (es ++ entry_of who (Allot asked 1) o choices draws f f' ∷ []) store'
+      → IsKept told owner (meaning.runs now) f' region (es ++ entry_of who (Allot asked 1) o choices draws f f' ∷ []) store'
   kept_serve o v =
       let then : State = opened region.shape choices.opened choices.canary (state (terms_in told region) es) in
       let i : ℕ = v.index in

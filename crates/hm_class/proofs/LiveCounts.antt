@@ -17,6 +17,7 @@ use Rattle.hm_class.specs.Finds.{Finds, GivesFrom, GivesOf, CanOpen, CanPick, Ca
 use Rattle.hm_class.specs.Gives.{Gives}
 use Rattle.hm_class.specs.Events.{canary_value}
 use Rattle.hm_class.specs.Sources.{new_of}
+use Rattle.hm_class.proofs.Alike.{AreAlike}
 use Rattle.hm_class.proofs.Counts.{mapped}
 use Rattle.hm_class.proofs.Drawn.{start_below}
 use Rattle.hm_class.proofs.Serving.{gives_pages}
@@ -52,17 +53,17 @@ module _ {P : Type 0} (meaning : pages.Ghosts P) (region : Identity) (store₁ s
   served_live next.Exhausted e can v = omega (arith, ap live_count v.1.0.slabs)
   served_live next.PagesFailed e can v = omega (arith, ap live_count v.1.0.slabs)
 
--- whether the pages tell stays, and none fails as a slot is given
+-- the pages stay alike, and none fails as a slot is given
 module _ {P : Type 0} (meaning : pages.Ghosts P) (region : Identity) (store store₁ : Store) (begun mid : P) where
-  pub found_told : (n : NextSlab) → Finds meaning store store₁ begun mid region.shape n → meaning.told mid ≡ meaning.told begun
-  found_told (next.Open n) f = f.1.0.told_same
-  found_told (next.New n canary) f = f.1.told_same
-  found_told next.Exhausted f = f.1.0.told_same
-  found_told next.PagesFailed f = f.2.told_same
+  pub found_alike : (n : NextSlab) → Finds meaning store store₁ begun mid region.shape n → AreAlike meaning begun mid
+  found_alike (next.Open n) f = (f.1.0.told_same, f.1.0.owner_same)
+  found_alike (next.New n canary) f = (f.1.told_same, f.1.owner_same)
+  found_alike next.Exhausted f = (f.1.0.told_same, f.1.0.owner_same)
+  found_alike next.PagesFailed f = (f.2.told_same, f.2.owner_same)
 
 module _ {P : Type 0} (meaning : pages.Ghosts P) (region : Identity) (store₁ store' : Store) (mid now : P) where
   pub served_pages : (n : NextSlab) (e : Event) → GivesFrom meaning store₁ store' mid now region n e → KeepsPages meaning mid now
   served_pages (next.Open n) e v = gives_pages meaning region n v.0.index store₁.slabs store'.slabs mid now e.reply v.0.gives
   served_pages (next.New n canary) e v = gives_pages meaning region n v.0.index store₁.slabs store'.slabs mid now e.reply v.0.gives
-  served_pages next.Exhausted e v = record { told = v.1.0.told_same; count = v.1.1 }
-  served_pages next.PagesFailed e v = record { told = v.1.0.told_same; count = v.1.1 }
+  served_pages next.Exhausted e v = record { told = v.1.0.told_same; owner = v.1.0.owner_same; count = v.1.1 }
+  served_pages next.PagesFailed e v = record { told = v.1.0.told_same; owner = v.1.0.owner_same; count = v.1.1 }

@@ -61,8 +61,8 @@ kind_held all n i u v was same =
     (kind_set f.slab i u v f.is_use same ∙ ap (λ (o : Option SlabUse). option_map_or kind_of o Neither) (sym f.is_slab)) (λ m ne. refl)
 
 -- ---- the slot is held
-module _ {told : Bool} {runs : PageRuns} {faults : ℕ} {region : Identity} {es : List Entry} {store : Store}
-    (kept : IsKept told runs faults region es store)
+module _ {told : Bool} {owner : Option ℕ} {runs : PageRuns} {faults : ℕ} {region : Identity} {es : List Entry} {store : Store}
+    (kept : IsKept told owner runs faults region es store)
     {P : Type 0} {meaning : pages.Ghosts P} {begun half : P} {store₁ : Store} {a : ℕ} {live : Slot} {result : Option ℕ × Option ℕ} (told_is : meaning.told begun ≡ told) (runs_is : meaning.runs begun ≡ runs)
     (at_live : IsLiveAt region.shape store.slabs.slabs a live) (holds : Holds meaning store store₁ begun half region.shape a live result) where
   abbrev first : State

@@ -46,8 +46,8 @@ pub unopened_is : (p : Shape) (k : Slabs) (o : Option ℕ) → k.numbers ≡ num
 unopened_is p k o numbers e =
     ap (λ (q : Numbers). unopened_below q.limit k.lists.retired (length k.slabs)) (sym numbers) ∙ e
 
-module _ {told : Bool} {runs : PageRuns} {faults : ℕ} {region : Identity} {es : List Entry} {store : Store}
-    (kept : IsKept told runs faults region es store) where
+module _ {told : Bool} {owner : Option ℕ} {runs : PageRuns} {faults : ℕ} {region : Identity} {es : List Entry} {store : Store}
+    (kept : IsKept told owner runs faults region es store) where
   abbrev now_is : State
   now_is = state (terms_in told region) es
 

@@ -44,6 +44,7 @@ use Rattle.hm_class.specs.Region.{HoldsSlabs}
 use Rattle.hm_class.specs.declared.identity.Identity.{Identity}
 use Rattle.hm_class.specs.declared.store.Store.{Store}
 use Rattle.hm_class.specs.Kept.{Shows, AreFull, IsKept, terms_in, cells_of}
+use Rattle.hm_class.proofs.Alike.{AreAlike}
 use Rattle.hm_class.proofs.Entered.{length_taken, has_removed_same, has_overlaid}
 use Rattle.hm_class.proofs.Followed.{shows_count, slot_shown, shows_released, shows_retired, shows_unparked, shows_written}
 use Rattle.hm_class.proofs.Freed.{released_is, draws_are, stepped_freed, after_freed, stream_after, IsNextWord, IsUnparked, index_drawn, parking_drawn}
@@ -104,7 +105,7 @@ pub record IsFree {P : Type 0} (meaning : pages.Ghosts P) (region : Identity) (s
   pub later : f ≤ f'
 
 module _ {P : Type 0} {meaning : pages.Ghosts P} {begun half : P} {region : Identity} {es : List Entry} {store store₁ : Store} {a : ℕ} {slot : Slot} {stated : Option ℕ} {result : Option ℕ × Option ℕ} {f f' : ℕ}
-    (kept : IsKept (meaning.told begun) (meaning.runs begun) (meaning.faults begun) region es store) (free : IsFree meaning region store store₁ begun half a slot stated result f f')
+    (kept : IsKept (meaning.told begun) (meaning.owner begun) (meaning.runs begun) (meaning.faults begun) region es store) (free : IsFree meaning region store store₁ begun half a slot stated result f f')
     (now : P) (store' : Store) (who : Who) where
   abbrev t : Terms
   t = terms_in (meaning.told begun) region
@@ -130,7 +131,7 @@ module _ {P : Type 0} {meaning : pages.Ghosts P} {begun half : P} {region : Iden
       of false off = clean_without region.shape first a off
 
   abbrev Ends : Option ℕ → Emptied → Type 0
-  Ends released e = IsKept (meaning.told begun) (meaning.runs now) f' region (es ++ entry_freed region.shape store.stream who a stated released e f f' ∷ []) store'
+  Ends released e = IsKept (meaning.told begun) (meaning.owner begun) (meaning.runs now) f' region (es ++ entry_freed region.shape store.stream who a stated released e f f' ∷ []) store'
 
   -- the slabs, the pages and the lists follow: slab m, which was `before`, is `then`, and the state is the last one
   record Settled (released : Option ℕ) (e : Emptied) (last : State) (m : ℕ) (before then : Kind) : Type 0 where
@@ -506,12 +507,12 @@ settled_later meaning p old new half now (Some b) e v = by_end e v.empties
     by_end (emptied.Retired d w u) x = x.1.dropped.1
     by_end (emptied.Purged d) w = omega (arith, w.1.dropped.2)
 
-pub settled_told : {P : Type 0} (meaning : pages.Ghosts P) (p : Shape) (old new : Store) (half now : P) (released : Option ℕ) (e : Emptied) → Settles meaning old new half now p released e
-    → meaning.told now ≡ meaning.told half
-settled_told meaning p old new half now None e v = v.3.told_same
-settled_told meaning p old new half now (Some b) e v = by_end e v.empties
+pub settled_alike : {P : Type 0} (meaning : pages.Ghosts P) (p : Shape) (old new : Store) (half now : P) (released : Option ℕ) (e : Emptied) → Settles meaning old new half now p released e
+    → AreAlike meaning half now
+settled_alike meaning p old new half now None e v = (v.3.told_same, v.3.owner_same)
+settled_alike meaning p old new half now (Some b) e v = by_end e v.empties
   where
-    by_end : (e : Emptied) → frees.Empties meaning (record old { slabs = v.mid }) new half now p (slab_of p b) e → meaning.told now ≡ meaning.told half
-    by_end emptied.Kept w = w.1.keeps.told_same
-    by_end (emptied.Retired d w u) x = x.1.dropped.2
-    by_end (emptied.Purged d) w = w.1.dropped.3
+    by_end : (e : Emptied) → frees.Empties meaning (record old { slabs = v.mid }) new half now p (slab_of p b) e → AreAlike meaning half now
+    by_end emptied.Kept w = (w.1.keeps.told_same, w.1.keeps.owner_same)
+    by_end (emptied.Retired d w u) x = (x.1.dropped.2, x.1.dropped.3)
+    by_end (emptied.Purged d) w = (w.1.dropped.3, w.1.dropped.4)

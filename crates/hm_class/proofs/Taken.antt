@@ -135,8 +135,8 @@ pub record IsPicked {P : Type 0} (meaning : pages.Ghosts P) (told : Bool) (fault
   pub picks : Picks region.shape (state (terms_in told region) es) (opened region.shape choices.opened choices.canary (state (terms_in told region) es)) choices (place region.shape n i)
   pub stepped : (r : Reply) → event_of (Allot asked 1) r ≡ Picked (place region.shape n i) → IsSteppedEntry (terms_in told region) (cells_of (state (terms_in told region) es) store) (entry_of who (Allot asked 1) r choices draws f f')
 
-module _ {told : Bool} {runs : PageRuns} {faults : ℕ} {region : Identity} {es : List Entry} {store : Store}
-    (kept : IsKept told runs faults region es store)
+module _ {told : Bool} {owner : Option ℕ} {runs : PageRuns} {faults : ℕ} {region : Identity} {es : List Entry} {store : Store}
+    (kept : IsKept told owner runs faults region es store)
     {P : Type 0} {meaning : pages.Ghosts P} {mid now : P} {store₁ store' : Store} {n i : ℕ} {kind₀ : Kind} {b : SlabUse} {choices : Choices} {draws : Draws} {who : Who} {asked f f' : ℕ} {v : SlotUse}
     (ready : IsPicked meaning told faults region es store mid now store₁ store' n i kind₀ b choices draws who asked f f' v) where
   abbrev then : State
@@ -149,7 +149,7 @@ module _ {told : Bool} {runs : PageRuns} {faults : ℕ} {region : Identity} {es 
   has_slot = slot_shown region.served.shape ready.shows ready.is_slab ready.lt
 
   pub kept_gives : (o : Reply) → Gives meaning region store₁.slabs store'.slabs mid now (slot_in n i) o
-      → IsKept told (meaning.runs now) f' region (es ++ entry_of who (Allot asked 1) o choices draws f f' ∷ []) store'
+      → IsKept told owner (meaning.runs now) f' region (es ++ entry_of who (Allot asked 1) o choices draws f f' ∷ []) store'
   kept_gives (reply.Given a size) g =
       let t : Terms = terms_in told region in
       let q : ℕ = place region.shape n i in
@@ -158,7 +158,7 @@ module _ {told : Bool} {runs : PageRuns} {faults : ℕ} {region : Identity} {es 
       let dead : weight lives v ≡ 0 = ap (λ (b : Bool). cond {A = ℕ} b 1 0) off.0 in
       let shows' : Shows region.shape store'.slabs.slabs (record (gives region.shape q asked then) { faults = f' }) = shows_count region.shape store'.slabs.slabs (gives region.shape q asked then) f'
       (subst (λ (u : Uses). Shows region.shape u (gives region.shape q asked then)) (sym g.slabs) (shows_given has_slot ready.was ready.shows asked ready.free)) in
-      subst (λ (x : ℕ). IsKept told (meaning.runs now) f' region (es ++ entry_of who (Allot asked 1) (reply.Given x size) choices draws f f' ∷ []) store') (sym g.addr_is)
+      subst (λ (x : ℕ). IsKept told owner (meaning.runs now) f' region (es ++ entry_of who (Allot asked 1) (reply.Given x size) choices draws f f' ∷ []) store') (sym g.addr_is)
       (pushed kept store' e
       (allowed_of (Allot asked 1) (reply.Given q size) choices draws ready.are (ready.asks, refl) (ready.is ∙ kept.count) ready.later
       (ready.picks, g.size_is, λ y. ap (λ (x : ℕ). reuse_finds region.config region.shape then x) (sym g.addr_is) ∙ found_told to_give region.config a None g.addr_is g.clean y))
@@ -189,7 +189,7 @@ module _ {told : Bool} {runs : PageRuns} {faults : ℕ} {region : Identity} {es 
       let items : store'.slabs.slabs ≡ with_use store₁.slabs.slabs n i (Condemned (was_given v)) = g.slabs ∙ ap (λ (b : Bool). with_use store₁.slabs.slabs n i (Condemned b)) given in
       let shows' : Shows region.shape store'.slabs.slabs (record (condemns q then) { faults = f' }) = shows_count region.shape store'.slabs.slabs (condemns q then) f'
       (subst (λ (u : Uses). Shows region.shape u (condemns q then)) (sym items) (shows_condemned has_slot ready.was ready.shows ready.free)) in
-      subst (λ (x : ℕ). IsKept told (meaning.runs now) f' region (es ++ entry_of who (Allot asked 1) (reply.Overwritten x at found) choices draws f f' ∷ []) store') (sym g.addr_is)
+      subst (λ (x : ℕ). IsKept told owner (meaning.runs now) f' region (es ++ entry_of who (Allot asked 1) (reply.Overwritten x at found) choices draws f f' ∷ []) store') (sym g.addr_is)
       (pushed kept store' e
       (allowed_of (Allot asked 1) (reply.Overwritten q at found) choices draws ready.are (ready.asks, refl) (ready.is ∙ kept.count) ready.later (
         ready.picks,

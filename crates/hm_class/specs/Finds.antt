@@ -87,13 +87,14 @@ slot_in n i = record { slab = n; index = i }
 
 -- ---- what was and what is: the store and the pages, each before and after
 module _ {P : Type 0} (meaning : pages.Ghosts P) (old new : Store) (before now : P) where
-  -- the store but for room and the runs are as before, and the pages tell as before
+  -- the store but for room and the runs are as before, and the pages tell as before and belong to the same region
   pub record KeepsRuns : Type 0 where
     pub slabs : new.slabs.slabs ≡ old.slabs.slabs
     pub lists : SameLists old.slabs new.slabs
     pub stream_same : new.stream ≡ old.stream
     pub quarantine_same : new.quarantine ≡ old.quarantine
     pub told_same : meaning.told now ≡ meaning.told before
+    pub owner_same : meaning.owner now ≡ meaning.owner before
     pub page_runs_same : IsTrue (meaning.told before) → meaning.runs now ≡ meaning.runs before
 
   -- so is the count of faults
@@ -106,6 +107,7 @@ module _ {P : Type 0} (meaning : pages.Ghosts P) (old new : Store) (before now :
       pub opened : OpensSlab n (unwrap_or (canary_value canary) 0) old.slabs new.slabs
       pub quarantine_same : new.quarantine ≡ old.quarantine
       pub told_same : meaning.told now ≡ meaning.told before
+      pub owner_same : meaning.owner now ≡ meaning.owner before
       pub made : IsTrue (meaning.told before) → meaning.runs now ≡ made_page_runs p n (meaning.runs before)
       pub canary_is : canary ≡ drawn_canary p old.stream
       pub stream_is : new.stream ≡ canary_stream p old.stream

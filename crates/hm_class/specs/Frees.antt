@@ -83,11 +83,13 @@ module _ {P : Type 0} (meaning : pages.Ghosts P) where
   Drops p n before now true =
       (IsTrue (meaning.told before) → meaning.runs now ≡ dropped_page_runs p n (meaning.runs before))
       × (meaning.faults before ≤ meaning.faults now) × (meaning.told now ≡ meaning.told before)
+      × (meaning.owner now ≡ meaning.owner before)
   Drops p n before now false =
       (has_bytes p ≡ true)
       × (IsTrue (meaning.told before)
       → meaning.runs now ≡ map.insert (meaning.runs before) (slab_at p n) (zeros p.slab))
       × (meaning.faults before < meaning.faults now) × (meaning.told now ≡ meaning.told before)
+      × (meaning.owner now ≡ meaning.owner before)
 
 -- ---- what was and what is: the store and the pages, each before and after
 module _ {P : Type 0} (meaning : pages.Ghosts P) (old new : Store) (before now : P) where
@@ -104,6 +106,7 @@ module _ {P : Type 0} (meaning : pages.Ghosts P) (old new : Store) (before now :
   -- the pages, the stream, the quarantine and the parking array are as before
   pub record KeepsParking : Type 0 where
     pub told_same : meaning.told now ≡ meaning.told before
+    pub owner_same : meaning.owner now ≡ meaning.owner before
     pub page_runs_same : IsTrue (meaning.told before) → meaning.runs now ≡ meaning.runs before
     pub count_same : meaning.faults now ≡ meaning.faults before
     pub stream_is : new.stream ≡ old.stream

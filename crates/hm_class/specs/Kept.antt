@@ -1,11 +1,13 @@
 -- What a class region keeps between two calls.
-use Rattle.std.specs.Prelude.{◌≡◌, ℕ, ◌<◌, ◌≤◌, Bool, true, IsTrue, List, length, Some, is_some}
+use Rattle.std.specs.Prelude.{◌≡◌, ℕ, ◌<◌, ◌≤◌, Bool, true, IsTrue, List, length, Option, Some, is_some}
 use Rattle.std.specs.Option.{option_map_or}
+use Rattle.hm_outside.specs.Makers.{IsOwned}
 use Rattle.hm_outside.specs.PageRuns.{PageRuns}
 use Rattle.hm_model.specs.declared.entry.Entry.{Entry}
 use Rattle.hm_model.specs.Maps.{among, at}
 use Rattle.hm_sizes.specs.declared.config.Config.{Config}
 use Rattle.hm_sizes.specs.declared.shape.Shape.{Shape}
+use Rattle.hm_sizes.specs.Origins.{class_region_number}
 use Rattle.hm_sizes.specs.Shapes.{place}
 use Rattle.hm_class_rules.specs.Kinds.{Neither}
 use Rattle.hm_class_rules.specs.State.{State, Slab, is_open, is_live}
@@ -64,9 +66,9 @@ terms_of told c p = record { config = c; shape = p; told = told }
 abbrev pub terms_in : Bool → Identity → Terms
 terms_in told region = terms_of told region.config region.shape
 
--- the history is legal and drawn, and the pages and what is kept are what it says
-pub record IsKept (told : Bool) (runs : PageRuns) (faults : ℕ) (region : Identity) (es : List Entry)
-    (store : Store) : Type 0 where
+-- the history is legal and drawn, the pages are the region's own, and they and what is kept are what it says
+pub record IsKept (told : Bool) (owner : Option ℕ) (runs : PageRuns) (faults : ℕ) (region : Identity)
+    (es : List Entry) (store : Store) : Type 0 where
   pub legal : IsLegal (terms_in told region) es
   pub stepped : IsStepped region.number region.arena (terms_in told region) es
   pub count : faults ≡ (state (terms_in told region) es).faults
@@ -74,3 +76,4 @@ pub record IsKept (told : Bool) (runs : PageRuns) (faults : ℕ) (region : Ident
   pub slabs : IsTrue told → HoldsSlabs region.shape (state (terms_in told region) es).opens runs
   pub lists : cells region.number region.arena (terms_in told region) es
       ≡ cells_of (state (terms_in told region) es) store
+  pub owned : IsOwned owner (class_region_number region.arena region.shape.class)

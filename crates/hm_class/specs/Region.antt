@@ -2,6 +2,7 @@
 use Rattle.std.specs.Prelude.{◌≡◌, ℕ, ◌<◌, ◌≤◌, Bool, true, IsTrue, List, length, Option, Some, None}
 use Rattle.std.specs.FinMap as map
 use Rattle.hm_outside.specs.declared.pages.Pages as pages
+use Rattle.hm_outside.specs.Makers.{IsOwned}
 use Rattle.hm_outside.specs.PageRuns.{PageRuns}
 use Rattle.hm_model.specs.declared.entry.Entry.{Entry}
 use Rattle.hm_sizes.specs.declared.class.ClassId.{ClassId}
@@ -65,8 +66,8 @@ pub record HoldsSlabs (p : Shape) (opens : List (ℕ × Slab)) (runs : PageRuns)
   pub only : (q : ℕ) (bytes : List ℕ) → map.get runs q ≡ Some bytes → IsSlab p opens q bytes
   pub whole : AllWhole (bytes_of_slab p) opens
 
--- the region is one of a valid configuration, its history is legal, its choices are drawn, and the pages and the room
--- for entries are what it says
+-- the region is one of a valid configuration, its history is legal, its choices are drawn, the pages are its own, and
+-- they and the room for entries are what it says
 pub record IsRegion {P : Type 0} (meaning : pages.Ghosts P) (r : Region P) : Type 0 where
   pub valid : IsValid r.config
   pub arena_below : r.arena < r.config.arenas
@@ -77,6 +78,7 @@ pub record IsRegion {P : Type 0} (meaning : pages.Ghosts P) (r : Region P) : Typ
   pub count : meaning.faults r.pages ≡ (region_state meaning.told r).faults
   pub slabs : IsTrue (meaning.told r.pages)
       → HoldsSlabs (region_shape r) (region_state meaning.told r).opens (meaning.runs r.pages)
+  pub owned : IsOwned (meaning.owner r.pages) (class_region_number r.arena r.class)
   -- an entry for the free of each live block
   pub room : length (region_state meaning.told r).live ≤ r.spare
 

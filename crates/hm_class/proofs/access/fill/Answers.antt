@@ -15,7 +15,7 @@ found p uses a n m trap same is = ap (λ (x : ℕ). trap_in p uses a x) (sym sam
 
 pub returns-in-Some-clause-filled : goal.returns-in-Some-clause-filled
 returns-in-Some-clause-filled g c = record {
-  pages = record { told = refl; count = refl };
+  pages = record { told = refl; owner = refl; count = refl };
   filled = λ told. (
     refl,
     λ s shows h. trap_told c.args.identity.now.shape c.args.slabs.now.slabs s _ c.args.addr (length (expand c.args.runs.now)) c.args.identity.now.served.shape shows h
@@ -35,7 +35,7 @@ lends-requires-clause-from g c κs within =
 
 pub returns-then-not-lends-clause-filled : goal.returns-then-not-lends-clause-filled
 returns-then-not-lends-clause-filled g c = record {
-  pages = record { told = refl; count = refl };
+  pages = record { told = refl; owner = refl; count = refl };
   filled = λ told. (
     refl,
     λ s shows h. (let none : first_trap c.args.identity.now.shape s c.args.addr (length (expand c.args.runs.now)) ≡ None = trap_told c.args.identity.now.shape c.args.slabs.now.slabs s _ c.args.addr (length (expand c.args.runs.now)) c.args.identity.now.served.shape shows h

@@ -7,7 +7,7 @@ use Rattle.hm_class.proofs.Accessed.{holds_nothing, still_have, written_behind}
 use Rattle.hm_class.proofs.access.write.Goals as goal
 
 pub loop-byte-init : goal.loop-byte-init
-loop-byte-init g c = record { later = omega arith; left = refl; told = refl; count = refl; written = λ told s h have. ([], refl, omega arith, holds_nothing c.args.identity.now.shape c.args.addr s _ h) }
+loop-byte-init g c = record { later = omega arith; left = refl; told = refl; owner = refl; count = refl; written = λ told s h have. ([], refl, omega arith, holds_nothing c.args.identity.now.shape c.args.addr s _ h) }
 
 pub loop-byte-preserved : goal.loop-byte-preserved
 loop-byte-preserved g c =
@@ -21,6 +21,7 @@ loop-byte-preserved g c =
       later = omega (arith, c.loop-byte.invariant.later);
       left = omega (arith, left);
       told = c.write_run.ensures.pages.told ∙ c.loop-byte.invariant.told;
+      owner = c.write_run.ensures.pages.owner ∙ c.loop-byte.invariant.owner;
       count = c.write_run.ensures.pages.count ∙ c.loop-byte.invariant.count;
       written = λ told s h have.
           (let before = c.loop-byte.invariant.written told s h have in
@@ -38,7 +39,7 @@ loop-byte-preserved g c =
 
 pub returns : goal.returns
 returns g c = record {
-  pages = record { told = c.loop-byte.invariant.told; count = c.loop-byte.invariant.count };
+  pages = record { told = c.loop-byte.invariant.told; owner = c.loop-byte.invariant.owner; count = c.loop-byte.invariant.count };
   written = λ told s h have.
       (let last = c.loop-byte.invariant.written told s h have in
       let none : drop c.loop-byte.byte-index c.args.pairs.now ≡ [] = drop_all c.loop-byte.byte-index c.args.pairs.now (omega (arith, c.loop-byte-test.false)) in
