@@ -83,6 +83,18 @@ impl Runs {
         Ok(())
     }
 
+    /// Appends one byte, so many times: the last run goes on where it is of that byte.
+    pub fn append_same(&mut self, byte: u8, len: u64) -> Result<(), NoMemory>
+        requires { total self.old + len < 2 ^ 64 }
+        ensures appended { OnOk result (expand self.new ≡ expand self.old ++ replicate len byte) }
+        ensures unchanged { OnErr result (self.new ≡ self.old) }
+    {
+        if len == 0 {
+            return Ok(());
+        }
+        append_run(&mut self.pairs, byte, len)
+    }
+
     /// The same runs once more.
     pub fn copy(&self) -> Result<Runs, NoMemory>
         ensures value { IfOk result (λ runs. runs ≡ self.now) }
@@ -246,6 +258,20 @@ mod tests {
         runs.append(b"bb")?;
         runs.append(b"ca")?;
         let pairs = [(b'a', 2), (b'b', 3), (b'c', 1), (b'a', 1)];
+        assert_eq!(rt; runs.pairs(), pairs.as_slice());
+        Ok(())
+    }
+
+    #[test]
+    fn one_byte_after_bytes(rt: HostRuntime) -> Result<(), Fail> {
+        let mut runs = Runs::new(rt.alloc());
+        runs.append_same(b'a', 0)?;
+        assert!(rt; runs.pairs().is_empty());
+        runs.append_same(b'a', 3)?;
+        runs.append(b"ab")?;
+        runs.append_same(b'b', 4294967296)?;
+        runs.append_same(b'a', 1)?;
+        let pairs = [(b'a', 4), (b'b', 4294967297), (b'a', 1)];
         assert_eq!(rt; runs.pairs(), pairs.as_slice());
         Ok(())
     }

@@ -1,13 +1,25 @@
 //! The runs of whole ranges of bytes, which pages lend piece by piece.
 #![tactic(auto)]
 
-ghost use Rattle.std.specs.Prelude.{◌≡◌, ◌+◌, ◌++◌, ◌<◌, ◌^◌, IsTrue, IfOk, List, ℕ};
+ghost use Rattle.std.specs.Prelude.{◌≡◌, ◌+◌, ◌++◌, ◌<◌, ◌^◌, IsTrue, IfOk, OnOk, List, ℕ, length};
 ghost use Rattle.hm_model.specs.Runs.{expand, total};
 ghost use Rattle.hm_outside.specs.PageRuns.{IsHeld, Reads};
+ghost use Rattle.hm_outside.specs.Piece.{bytes_in};
 
 use hm_base::NoMemory;
 use hm_model::Runs;
-use hm_outside::Pages;
+use hm_outside::{Pages, Piece};
+
+// Appends the bytes of a piece. A piece of one byte is appended as one run.
+fn append_piece(runs: &mut Runs, piece: &Piece<'_>) -> Result<(), NoMemory>
+    requires { total runs.old + length (bytes_in piece.now) < 2 ^ 64 }
+    ensures appended { OnOk result (expand runs.new ≡ expand runs.old ++ bytes_in piece.now) }
+{
+    match piece {
+        Piece::Same(byte, len) => runs.append_same(*byte, *len as u64),
+        Piece::Bytes(bytes) => runs.append(bytes),
+    }
+}
 
 /// Appends the bytes of a range, and says whether the pages lend them. Equal bytes take one run, however many they are,
 /// and no vector: so do pages that nobody wrote.
@@ -29,7 +41,7 @@ pub fn append_range<P: Pages>(
         let Some(piece) = pages.piece(addr, len, done) else {
             return Ok(false);
         };
-        runs.append(piece)?;
+        append_piece(runs, &piece)?;
         done += piece.len();
     }
     Ok(true)

@@ -1,17 +1,23 @@
-use Rattle.std.proofs.Common.{ℕ, ◌-◌, List, ◌++◌, length, length-append, take, drop, refl, ap, ◌∙◌, arith}
+use Rattle.std.proofs.Common.{ℕ, ◌+◌, ◌-◌, List, ◌++◌, length, length-append, take, drop, refl, sym, ap, ◌∙◌, arith}
 use Rattle.hm_model.specs.Runs.{expand}
 use Rattle.hm_model.proofs.RunsOf.{length_expand}
+use Rattle.hm_outside.specs.Piece.{bytes_in}
 use Rattle.hm_outside.proofs.Pieces.{appended_on, reads_in}
 use Rattle.hm_ranges.proofs.append_range.Goals as goal
 
+pub append_piece-requires : goal.append_piece-requires
+append_piece-requires g c = omega (arith, c.requires, c.in-Some.ensures.most, c.loop-done.invariant.count)
+
 pub loop-done-preserved : goal.loop-done-preserved
 loop-done-preserved g c =
-    let piece = c.in-Some.piece.now in let old = c.loop-done.runs in let new = c.append.new.self in record {
-      within = c.in-Some.ensures.most;
+    let piece = bytes_in c.in-Some.piece in let old = c.loop-done.runs in let new = c.append_piece.new.runs in
+    let is = c.in_ok-append_piece.ensures.appended in record {
+      within = omega (arith, c.in-Some.ensures.most, c.len-done.ensures);
       held = λ told some. (c.in-Some.ensures.value told).0;
-      count = omega (arith, ap (λ (l : List ℕ). length l) c.in_ok-append.ensures.appended, length-append (expand old) piece, length_expand old, length_expand new, c.loop-done.invariant.count);
+      count = omega (arith, c.len-done.ensures, ap (λ (l : List ℕ). length l) is, length-append (expand old) piece, length_expand old, length_expand new, c.loop-done.invariant.count);
       read = λ told q b has lies. appended_on b (c.args.addr - q) c.loop-done.done piece (expand c.args.runs.now) (expand old) (expand new) ((c.in-Some.ensures.value told).1 q b has lies)
-          (c.loop-done.invariant.read told q b has lies) c.in_ok-append.ensures.appended;
+          (c.loop-done.invariant.read told q b has lies) is
+          ∙ ap (λ (m : ℕ). expand c.args.runs.now ++ take (c.loop-done.done + m) (drop (c.args.addr - q) b)) (sym c.len-done.ensures);
     }
 
 pub returns-clause-value : goal.returns-clause-value
