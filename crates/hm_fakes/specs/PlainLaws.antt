@@ -1,5 +1,5 @@
 -- A write to pages in vectors changes the bytes that were lent, and nothing else.
-use Rattle.std.specs.Prelude.{◌≡◌, ℕ, ◌+◌, ◌≤◌, List, ◌++◌, length, take, drop, true, refl}
+use Rattle.std.specs.Prelude.{◌≡◌, ℕ, ◌+◌, ◌≤◌, List, ◌++◌, length, take, drop, true, None, refl}
 use Rattle.std.proofs.Common.{sym, ap, ◌∙◌, arith, length-append}
 use Rattle.std.proofs.lemmas.List.{length-take, length-drop, drop-drop, append_assoc, take_all, take-append-le}
 use Rattle.hm_fakes.specs.declared.run.Run.{Run}
@@ -25,7 +25,7 @@ put_exact b i w fits =
 
 -- the same of plain runs
 pub range_written : (runs : PageRuns) (addr : ℕ) (w : List ℕ) → CanWrite runs addr (length w)
-    → EndsWritten {S = PageRuns} (λ p. true) (λ p. p) (λ p. 0) runs addr w (with_range runs addr (length w) w)
+    → EndsWritten {S = PageRuns} (λ p. true) (λ p. p) (λ p. 0) (λ p. None) runs addr w (with_range runs addr (length w) w)
 range_written = written_by put_over put_exact
 
 -- a plain run that was written over

@@ -11,7 +11,8 @@ ghost use Rattle.hm_outside.specs.declared.pages.PageRefusal.TheVariants.{Failed
 
 use crate::PlainPages;
 use crate::numbered::number_call;
-use hm_outside::{PageFault, PageRefusal, Pages};
+use hm_base::RegionId;
+use hm_outside::{PageFault, PageRefusal, Pages, Piece};
 use std::alloc::Global;
 use std::marker::Model;
 
@@ -33,18 +34,24 @@ impl Model for FailingPages {
 
     ghost coded = { failing_code };
 
-    ghost view = { λ p. record { runs = p.plain; fail_calls = p.fail_calls.items; calls = p.calls; faults = p.faults } };
+    ghost view = { λ p. record {
+      region = p.plain.region;
+      runs = p.plain.runs;
+      fail_calls = p.fail_calls.items;
+      calls = p.calls;
+      faults = p.faults;
+    } };
 
     ghost invariant = { λ p. p.faults ≤ p.calls };
 }
 
 impl FailingPages {
-    /// Pages with nothing accessible, of which no call was made. It takes no memory.
-    pub fn build(alloc: Global, fail_calls: Vec<u64>) -> FailingPages
-        ensures { result ≡ fresh_failing fail_calls.items }
+    /// Pages of a region with nothing accessible, of which no call was made. It takes no memory.
+    pub fn build(alloc: Global, region: RegionId, fail_calls: Vec<u64>) -> FailingPages
+        ensures { result ≡ fresh_failing region.0 fail_calls.items }
     {
         FailingPages {
-            plain: PlainPages::new(alloc),
+            plain: PlainPages::new(alloc, region),
             fail_calls,
             calls: 0,
             faults: 0,
@@ -68,7 +75,7 @@ fn number_failing(fail_calls: &[u64], calls: &mut u64, faults: &mut u64) -> bool
 }
 
 impl Pages for FailingPages {
-    ghost use Rattle.std.specs.Prelude.{true};
+    ghost use Rattle.std.specs.Prelude.{true, Some};
     ghost use Rattle.hm_outside.specs.RunLists.{CanWrite};
     ghost use Rattle.hm_fakes.specs.FailingPages.{failing_with_range, failing_written};
 
@@ -77,6 +84,8 @@ impl Pages for FailingPages {
     ghost runs = { λ p. p.runs };
 
     ghost faults = { λ p. p.faults };
+
+    ghost owner = { λ p. Some p.region };
 
     ghost can_write = { λ p addr len. CanWrite p.runs addr len };
 
@@ -123,7 +132,7 @@ impl Pages for FailingPages {
         self.plain.purge(first, pages)
     }
 
-    fn piece(&self, addr: u64, len: usize, from: usize) -> Option<&[u8]> {
+    fn piece(&self, addr: u64, len: usize, from: usize) -> Option<Piece<'_>> {
         self.plain.piece(addr, len, from)
     }
 
@@ -135,8 +144,8 @@ impl Pages for FailingPages {
         self.plain.bytes_mut(addr, len)
     }
 
-    fn zero(&mut self, addr: u64, len: usize) {
-        self.plain.zero(addr, len)
+    fn fill(&mut self, addr: u64, len: usize, byte: u8) {
+        self.plain.fill(addr, len, byte)
     }
 
     fn faults(&self) -> u64 {

@@ -5,7 +5,7 @@ ghost use Rattle.hm_outside.specs.PageRuns.{IsPageRun};
 
 use crate::{FailingMaker, FailingPages, PlainMaker, PlainPages};
 use hm_base::{List, RegionId};
-use hm_outside::{PageFault, PageMaker, PageRefusal, Pages};
+use hm_outside::{PageFault, PageMaker, PageRefusal, Pages, Piece};
 use std::alloc::Global;
 use std::process::Abort;
 use std::test::Fail;
@@ -16,9 +16,9 @@ fn three_runs(alloc: Global, low: u64, count: u32) -> Result<PlainPages, PageRef
     requires some { 1 ≤ count }
     requires few { count ≤ 2 }
     requires below { low + 24576 ≤ 2 ^ 47 }
-    ensures { IfOk result (λ p. IsPageRun p (low + 8192) (4096 * count)) }
+    ensures { IfOk result (λ p. IsPageRun p.runs (low + 8192) (4096 * count)) }
 {
-    let mut pages = PlainPages::new(alloc);
+    let mut pages = PlainPages::new(alloc, RegionId(7));
     pages.make_accessible(low + 16384, count)?;
     pages.make_accessible(low, count)?;
     pages.make_accessible(low + 8192, count)?;
@@ -27,17 +27,32 @@ fn three_runs(alloc: Global, low: u64, count: u32) -> Result<PlainPages, PageRef
 
 // Writes the bytes, if their range can be written.
 fn write_at(pages: &mut PlainPages, addr: u64, bytes: &[u8])
-    ensures { (q n : ℕ) → IsPageRun pages.old q n → IsPageRun pages.new q n }
+    ensures { (q n : ℕ) → IsPageRun pages.old.runs q n → IsPageRun pages.new.runs q n }
 {
     if pages.holds(addr, bytes.len()) {
         pages.bytes_mut(addr, bytes.len()).copy_from_slice(bytes);
     }
 }
 
-fn is_zero(bytes: Option<&[u8]>) -> bool {
-    match bytes {
-        Some(bytes) => bytes.iter().all(|b| *b == 0),
-        None => false,
+// Writes one byte over a range, if it can be written.
+fn fill_at(pages: &mut PlainPages, addr: u64, len: usize, byte: u8) {
+    if pages.holds(addr, len) {
+        pages.fill(addr, len, byte);
+    }
+}
+
+// Whether the piece stands in memory and has these bytes.
+fn is_bytes(piece: Option<Piece<'_>>, wanted: &[u8]) -> bool {
+    match piece {
+        Some(Piece::Bytes(bytes)) => bytes == wanted,
+        _ => false,
+    }
+}
+
+fn is_zero(piece: Option<Piece<'_>>) -> bool {
+    match piece {
+        Some(Piece::Bytes(bytes)) => bytes.iter().all(|b| *b == 0),
+        _ => false,
     }
 }
 
@@ -60,7 +75,7 @@ fn walk(rt: &impl Abort, alloc: Global, low: u64, count: u32) -> Result<(), Page
     assert!(rt; !pages.holds(low, 0), "an empty range");
     assert!(rt; !pages.holds(low + 24576, 1), "past the last run");
     write_at(&mut pages, middle + 2, b"ab");
-    assert_eq!(rt; pages.piece(middle, 5, 0), Some(b"\0\0ab\0".as_slice()));
+    assert!(rt; is_bytes(pages.piece(middle, 5, 0), b"\0\0ab\0"));
     assert!(rt; is_zero(pages.piece(middle + 4, size - 4, 0)));
     assert!(rt; is_zero(pages.piece(low, size, 0)));
     assert!(rt; is_zero(pages.piece(low + 16384, size, 0)));
@@ -84,6 +99,31 @@ fn runs_in_memory(rt: HostRuntime) -> Result<(), Fail> {
     Ok(())
 }
 
+// A fill by a byte, and one by zero over some of it, in the middle run of three.
+fn filled(rt: &impl Abort, alloc: Global, low: u64) -> Result<(), PageRefusal>
+    requires whole { low % 4096 ≡ 0 }
+    requires below { low + 24576 ≤ 2 ^ 47 }
+{
+    let middle = low + 8192;
+    let mut pages = three_runs(alloc, low, 1)?;
+    fill_at(&mut pages, middle + 1, 5, 7);
+    assert!(rt; is_bytes(pages.piece(middle, 7, 0), b"\0\x07\x07\x07\x07\x07\0"));
+    fill_at(&mut pages, middle + 2, 3, 0);
+    assert!(rt; is_bytes(pages.piece(middle, 7, 0), b"\0\x07\0\0\0\x07\0"));
+    assert!(rt; is_zero(pages.piece(middle + 6, 4090, 0)));
+    fill_at(&mut pages, middle + 4095, 2, 7);
+    assert!(rt; is_zero(pages.piece(middle + 6, 4090, 0)), "past the run");
+    assert!(rt; is_zero(pages.piece(low, 4096, 0)));
+    assert!(rt; is_zero(pages.piece(low + 16384, 4096, 0)));
+    Ok(())
+}
+
+#[test]
+fn fills_in_memory(rt: HostRuntime) -> Result<(), Fail> {
+    filled(&rt, rt.alloc(), 4096)?;
+    Ok(())
+}
+
 // Two runs are made and one is dropped, by calls of which the second and the fourth fail.
 fn failing_walk(rt: &impl Abort, alloc: Global, low: u64, count: u32) -> Result<(), Fail>
     requires whole { low % 4096 ≡ 0 }
@@ -92,7 +132,7 @@ fn failing_walk(rt: &impl Abort, alloc: Global, low: u64, count: u32) -> Result<
     requires below { low + 24576 ≤ 2 ^ 47 }
 {
     let fail_calls = Vec::from_slice(alloc, &[0, 2, 4, u64::MAX])?;
-    let mut pages = FailingPages::build(alloc, fail_calls);
+    let mut pages = FailingPages::build(alloc, RegionId(7), fail_calls);
     pages.make_accessible(low, count)?;
     assert_eq!(rt; pages.faults(), 0);
     match pages.make_accessible(low + 8192, count) {

@@ -1,6 +1,6 @@
 //! A maker of pages in memory.
 ghost use Rattle.std.specs.Prelude.{None, ◌≡◌, IfOk, IsOk};
-ghost use Rattle.std.specs.FinMap as map;
+ghost use Rattle.hm_fakes.specs.PlainPages.{fresh_plain};
 
 use crate::PlainPages;
 use hm_base::{NoMemory, RegionId};
@@ -16,10 +16,10 @@ impl PageMaker for PlainMaker {
 
     ghost made = { λ m. None };
 
-    fn make(&mut self, alloc: Global, _region: RegionId) -> Result<PlainPages, NoMemory>
+    fn make(&mut self, alloc: Global, region: RegionId) -> Result<PlainPages, NoMemory>
         ensures always { IsOk result }
-        ensures nothing { IfOk result (λ p. p ≡ map.empty) }
+        ensures fresh { IfOk result (λ p. p ≡ fresh_plain region.0) }
     {
-        Ok(PlainPages::new(alloc))
+        Ok(PlainPages::new(alloc, region))
     }
 }

@@ -1,63 +1,65 @@
 //! Pages in memory, each accessible run a vector.
 ghost use Rattle.std.specs.Prelude.{◌≡◌};
-ghost use Rattle.std.specs.FinMap as map;
+ghost use Rattle.hm_fakes.specs.PlainPages.{fresh_plain};
 
 use crate::run::Run;
-use hm_outside::{PageFault, PageRefusal, Pages, RunMap};
+use hm_base::RegionId;
+use hm_outside::{PageFault, PageRefusal, Pages, Piece, RunMap};
 use std::alloc::Global;
 use std::marker::Model;
 
 /// The bytes of a page.
 const PAGE: usize = 4096;
 
-/// Contracts see them as the bytes of each accessible run, by its first address.
+/// Contracts see their region, and the bytes of each accessible run by its first address.
 #[derive(Drop)]
 pub struct PlainPages {
     alloc: Global,
+    region: RegionId,
     runs: RunMap<Run>,
 }
 
 impl Model for PlainPages {
-    ghost use Rattle.std.specs.FinMap as map;
-    ghost use Rattle.std.specs.Coded.{coded_ℕ, coded_list};
-    ghost use Rattle.hm_outside.specs.PageRuns.{PageRuns};
+    ghost use Rattle.hm_fakes.specs.PlainPages.{Plain, plain_code};
 
-    ghost Value = { PageRuns };
+    ghost Value = { Plain };
 
-    ghost coded = { map.code coded_ℕ (coded_list coded_ℕ) };
+    ghost coded = { plain_code };
 
-    ghost view = { λ p. p.runs };
+    ghost view = { λ p. record { region = p.region.0; runs = p.runs } };
 }
 
 impl PlainPages {
-    /// Pages with nothing accessible. It takes no memory.
-    pub fn new(alloc: Global) -> Self
-        ensures { result ≡ map.empty }
+    /// Pages of a region with nothing accessible. It takes no memory.
+    pub fn new(alloc: Global, region: RegionId) -> Self
+        ensures { result ≡ fresh_plain region.0 }
     {
         PlainPages {
             alloc,
+            region,
             runs: RunMap::new(alloc),
         }
     }
 }
 
 impl Pages for PlainPages {
-    ghost use Rattle.std.specs.Prelude.{true};
+    ghost use Rattle.std.specs.Prelude.{true, Some};
     ghost use Rattle.hm_outside.specs.RunLists.{CanWrite};
-    ghost use Rattle.hm_fakes.specs.PlainRuns.{with_range};
-    ghost use Rattle.hm_fakes.specs.PlainLaws.{range_written};
+    ghost use Rattle.hm_fakes.specs.PlainPages.{plain_with_range, plain_written};
 
     ghost told = { λ p. true };
 
-    ghost runs = { λ p. p };
+    ghost runs = { λ p. p.runs };
 
     ghost faults = { λ p. 0 };
 
-    ghost can_write = { CanWrite };
+    ghost owner = { λ p. Some p.region };
 
-    ghost after_write = { with_range };
+    ghost can_write = { λ p addr len. CanWrite p.runs addr len };
 
-    ghost written = { range_written };
+    ghost after_write = { plain_with_range };
+
+    ghost written = { plain_written };
 
     fn make_accessible(&mut self, first: u64, pages: u32) -> Result<(), PageRefusal> {
         let run = Run::zeroed(self.alloc, first, pages as usize * PAGE)?;
@@ -74,7 +76,7 @@ impl Pages for PlainPages {
         self.runs.clear(first);
     }
 
-    fn piece(&self, addr: u64, len: usize, from: usize) -> Option<&[u8]> {
+    fn piece(&self, addr: u64, len: usize, from: usize) -> Option<Piece<'_>> {
         self.runs.piece(addr, len, from)
     }
 
@@ -86,8 +88,8 @@ impl Pages for PlainPages {
         self.runs.bytes_mut(addr, len)
     }
 
-    fn zero(&mut self, addr: u64, len: usize) {
-        self.runs.zero(addr, len)
+    fn fill(&mut self, addr: u64, len: usize, byte: u8) {
+        self.runs.fill(addr, len, byte)
     }
 
     fn faults(&self) -> u64 {

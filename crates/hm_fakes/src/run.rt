@@ -2,7 +2,7 @@
 ghost use Rattle.std.specs.Prelude.{◌≡◌, IfOk};
 ghost use Rattle.hm_base.specs.Lists.{zeros};
 
-use hm_outside::HasPageRun;
+use hm_outside::{HasPageRun, Piece};
 use std::alloc::{AllocError, Global};
 
 #[derive(Drop)]
@@ -45,16 +45,16 @@ impl HasPageRun for Run {
         self.bytes.len()
     }
 
-    fn front(&self, from: usize, len: usize) -> &[u8] {
-        &self.bytes[from..from + len]
+    fn front(&self, from: usize, len: usize) -> Piece<'_> {
+        Piece::Bytes(&self.bytes[from..from + len])
     }
 
     fn bytes_at(&mut self, from: usize, len: usize) -> &mut [u8] {
         self.bytes.slice_mut(from..from + len)
     }
 
-    fn zero(&mut self, from: usize, len: usize) {
-        self.bytes.slice_mut(from..from + len).fill(0);
+    fn fill(&mut self, from: usize, len: usize, byte: u8) {
+        self.bytes.slice_mut(from..from + len).fill(byte);
     }
 
     fn clear(&mut self) {

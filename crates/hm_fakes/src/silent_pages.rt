@@ -2,8 +2,8 @@
 ghost use Rattle.std.specs.Prelude.{◌≡◌, IsOk, IsNone};
 ghost use Rattle.std.specs.FinMap as map;
 
-use crate::PlainPages;
-use hm_outside::{PageFault, PageRefusal, Pages};
+use crate::run::Run;
+use hm_outside::{PageFault, PageRefusal, Pages, Piece, RunMap};
 use std::alloc::Global;
 use std::marker::Model;
 
@@ -11,7 +11,7 @@ use std::marker::Model;
 /// lent.
 #[derive(Drop)]
 pub struct SilentPages {
-    plain: PlainPages,
+    runs: RunMap<Run>,
 }
 
 impl Model for SilentPages {
@@ -23,7 +23,7 @@ impl Model for SilentPages {
 
     ghost coded = { map.code coded_ℕ (coded_list coded_ℕ) };
 
-    ghost view = { λ p. p.plain };
+    ghost view = { λ p. p.runs };
 }
 
 impl SilentPages {
@@ -32,13 +32,13 @@ impl SilentPages {
         ensures { result ≡ map.empty }
     {
         SilentPages {
-            plain: PlainPages::new(alloc),
+            runs: RunMap::new(alloc),
         }
     }
 }
 
 impl Pages for SilentPages {
-    ghost use Rattle.std.specs.Prelude.{false, refl};
+    ghost use Rattle.std.specs.Prelude.{false, refl, None};
     ghost use Rattle.std.specs.FinMap as map;
     ghost use Rattle.std.proofs.lemmas.Bool.{false≢true};
     ghost use Rattle.hm_outside.specs.RunLists.{CanWrite};
@@ -50,6 +50,8 @@ impl Pages for SilentPages {
 
     ghost faults = { λ p. 0 };
 
+    ghost owner = { λ p. None };
+
     ghost can_write = { λ p addr len. (addr ≡ 0) × CanWrite p addr len };
 
     ghost after_write = { λ p addr len bytes. with_range p addr len bytes };
@@ -57,6 +59,7 @@ impl Pages for SilentPages {
     ghost written = { λ p addr bytes can. record {
       same_telling = refl;
       same_count = refl;
+      same_owner = refl;
       over = λ tells. absurd (false≢true tells);
     } };
 
@@ -78,22 +81,22 @@ impl Pages for SilentPages {
         ensures same { self.new ≡ self.old }
     {}
 
-    fn piece(&self, _addr: u64, _len: usize, _from: usize) -> Option<&[u8]>
+    fn piece(&self, _addr: u64, _len: usize, _from: usize) -> Option<Piece<'_>>
         ensures nothing { IsNone result }
     {
         None
     }
 
     fn holds(&self, addr: u64, len: usize) -> bool {
-        addr == 0 && self.plain.holds(addr, len)
+        addr == 0 && self.runs.holds(addr, len)
     }
 
     fn bytes_mut(&mut self, addr: u64, len: usize) -> &mut [u8] {
-        self.plain.bytes_mut(addr, len)
+        self.runs.bytes_mut(addr, len)
     }
 
-    fn zero(&mut self, addr: u64, len: usize) {
-        self.plain.zero(addr, len)
+    fn fill(&mut self, addr: u64, len: usize, byte: u8) {
+        self.runs.fill(addr, len, byte)
     }
 
     fn faults(&self) -> u64 {
