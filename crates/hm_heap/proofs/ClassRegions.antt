@@ -87,6 +87,7 @@ module _ {P : Type 0} (meaning : pages.Ghosts P) (r : Region P) (h : IsRegion me
     lawful = class_lawful;
     count = h.count ∙ sym class_count_is;
     holds = class_holds;
+    owned = h.owned;
   }
 
   -- ---- what is replied

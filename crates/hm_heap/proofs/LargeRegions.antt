@@ -30,6 +30,7 @@ module _ {P : Type 0} (meaning : pages.Ghosts P) (r : Region P) where
     lawful = record { class = λ lt. absurd (omega (arith, lt)); large = λ e. record { legal = h.legal; drawn = h.drawn } };
     count = h.count;
     holds = λ tells. record { class = λ lt. absurd (omega (arith, lt)); large = λ e. h.held tells };
+    owned = h.owned;
   }
 
   pub large_replies : (call : Call) (result : Result Reply NoMemory) → IfOk result (IsLargeReply call) → IfOk result (IsReply (origin meaning.told r) call)

@@ -1,5 +1,6 @@
 -- Which histories the region of an origin may have, and what is kept of it after one.
 use Rattle.std.specs.Prelude.{◌≡◌, ◌<◌, ◌*◌, ◌/◌, ◌%◌, ◌⊎◌, ℕ, nat_lt, if◌then◌else◌, IsTrue, List}
+use Rattle.hm_outside.specs.Makers.{IsOwned}
 use Rattle.hm_outside.specs.PageRuns.{PageRuns}
 use Rattle.hm_outside.specs.declared.pages.Pages as pages
 use Rattle.hm_model.specs.declared.entry.Entry.{Entry}
@@ -71,9 +72,10 @@ pub record Holds (o : Origin) (history : List Entry) (runs : PageRuns) : Type 0 
       → HoldsSlabs (class_terms o).shape (class.state (class_terms o) history).opens runs
   pub large : o.region ≡ large_region_number → HoldsBlocks (large.state (large_terms o) history).live runs
 
--- the history is lawful, and the pages are what it says
+-- the history is lawful, the pages are what it says, and they are the region's own
 pub record IsSound {P : Type 0} (meaning : pages.Ghosts P) (o : Origin) (history : List Entry) (kept : P) : Type 0 where
   pub is_region : IsRegionOf o
   pub lawful : IsLawful o history
   pub count : meaning.faults kept ≡ fault_count o history
   pub holds : IsTrue (meaning.told kept) → Holds o history (meaning.runs kept)
+  pub owned : IsOwned (meaning.owner kept) o.region

@@ -5,7 +5,7 @@ ghost use Rattle.std.specs.Prelude.{None};
 use crate::test_runs::{report_of, text_of};
 use hm_base::{NoMemory, RegionId};
 use hm_fakes::{Meeting, PlainMaker, SilentPages};
-use hm_outside::{Gate, PageFault, PageMaker, PageRefusal, Pages};
+use hm_outside::{Gate, PageFault, PageMaker, PageRefusal, Pages, Piece};
 use std::alloc::{AllocError, Global};
 use std::fmt::Write;
 use std::marker::Model;
@@ -121,7 +121,7 @@ impl<'a> Model for WatchingPages<'a> {
 }
 
 impl<'a> Pages for WatchingPages<'a> {
-    ghost use Rattle.std.specs.Prelude.{◌≡◌, false, refl};
+    ghost use Rattle.std.specs.Prelude.{◌≡◌, false, None, refl};
     ghost use Rattle.std.specs.FinMap as map;
     ghost use Rattle.std.proofs.lemmas.Bool.{false≢true};
     ghost use Rattle.hm_outside.specs.RunLists.{CanWrite};
@@ -133,6 +133,8 @@ impl<'a> Pages for WatchingPages<'a> {
 
     ghost faults = { λ p. 0 };
 
+    ghost owner = { λ p. None };
+
     ghost can_write = { λ p addr len. (addr ≡ 0) × CanWrite p addr len };
 
     ghost after_write = { λ p addr len bytes. with_range p addr len bytes };
@@ -140,6 +142,7 @@ impl<'a> Pages for WatchingPages<'a> {
     ghost written = { λ p addr bytes can. record {
       same_telling = refl;
       same_count = refl;
+      same_owner = refl;
       over = λ tells. absurd (false≢true tells);
     } };
 
@@ -159,7 +162,7 @@ impl<'a> Pages for WatchingPages<'a> {
 
     fn purge(&mut self, _first: u64, _pages: u32) {}
 
-    fn piece(&self, addr: u64, len: usize, from: usize) -> Option<&[u8]> {
+    fn piece(&self, addr: u64, len: usize, from: usize) -> Option<Piece<'_>> {
         self.silent.piece(addr, len, from)
     }
 
@@ -171,8 +174,8 @@ impl<'a> Pages for WatchingPages<'a> {
         self.silent.bytes_mut(addr, len)
     }
 
-    fn zero(&mut self, addr: u64, len: usize) {
-        self.silent.zero(addr, len)
+    fn fill(&mut self, addr: u64, len: usize, byte: u8) {
+        self.silent.fill(addr, len, byte)
     }
 
     fn faults(&self) -> u64 {

@@ -449,6 +449,31 @@ fn stress_of_seven_with_the_light_configuration(rt: HostRuntime) -> Result<(), F
     Ok(())
 }
 
+// A block of 64 MiB and one of a GiB, written at both ends, over the pages of the program.
+#[test]
+fn great_blocks(rt: HostRuntime) -> Result<(), Fail> {
+    let alloc = rt.alloc();
+    let text = text_of(
+        alloc,
+        "malloc a 67108864\nwrite a 4097 41\nwrite a+67104769 4095 42\nread a 4098\n\
+        read a+67104768 4096\nread a+67108864 1\nfree a\nread a 1\n\
+        malloc b 1073741824\nwrite b 1 43\nwrite b+1073741823 1 44\nread b 2\n\
+        read b+1073741822 2\nread b+536870912 1048576\nread b+1073741823 2\nfree b\nfree b\n",
+    )?;
+    let (status, written) = report_of(&rt, alloc, &text, &mut FrameMaker, &NoGate)?;
+    assert_eq!(rt; status, 1);
+    assert_eq!(rt;
+        written.as_slice(),
+        b"1.1.1 given 67108864\n1.1.2 written\n1.1.3 written\n1.1.4 bytes 41*4097 00*1\n\
+        1.1.5 bytes 00*1 42*4095\n1.1.6 trap at +0\n1.1.7 freed\n1.1.8 trap at +0\n\
+        1.1.9 given 1073741824\n1.1.10 written\n1.1.11 written\n1.1.12 bytes 43*1 00*1\n\
+        1.1.13 bytes 00*1 44*1\n1.1.14 bytes 00*1048576\n1.1.15 trap at +1\n1.1.16 freed\n\
+        1.1.17 not live\n"
+            .as_slice()
+    );
+    Ok(())
+}
+
 #[test]
 fn too_long(rt: HostRuntime) -> Result<(), Fail> {
     let alloc = rt.alloc();
