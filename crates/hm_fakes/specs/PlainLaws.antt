@@ -25,7 +25,8 @@ put_exact b i w fits =
 
 -- the same of plain runs
 pub range_written : (runs : PageRuns) (addr : ℕ) (w : List ℕ) → CanWrite runs addr (length w)
-    → EndsWritten {S = PageRuns} (λ p. true) (λ p. p) (λ p. 0) (λ p. None) runs addr w (with_range runs addr (length w) w)
+    → EndsWritten {S = PageRuns} (λ p. true) (λ p. p) (λ p. 0) (λ p. None) runs addr w
+    (with_range runs addr (length w) w)
 range_written = written_by put_over put_exact
 
 -- a plain run that was written over

@@ -23,7 +23,8 @@ impl PageMaker for FailingMaker {
     fn make(&mut self, alloc: Global, region: RegionId) -> Result<FailingPages, NoMemory>
         ensures nothing { IfOk result (λ p. p.runs ≡ map.empty) }
         ensures count { IfOk result (λ p. p.faults ≡ 0) }
-        ensures named { region.0 ≡ self.old.region.0 → IfOk result (λ p. p ≡ fresh_failing region.0 self.old.fail_calls.items) }
+        ensures named { region.0 ≡ self.old.region.0
+            → IfOk result (λ p. p ≡ fresh_failing region.0 self.old.fail_calls.items) }
         ensures others { region.0 ≢ self.old.region.0 → IsOkAnd result (λ p. p ≡ fresh_failing region.0 []) }
         ensures same { self.new ≡ self.old }
     {
