@@ -3,9 +3,11 @@
 //! over any pages does so: it has no region to drop, so its proof is short.
 ghost use Rattle.std.specs.Prelude.{◌≡◌, ◌≤◌, ◌<◌, IsTrue};
 ghost use Rattle.std.specs.FinMap as map;
+ghost use Rattle.hm_outside.specs.Makers.{IsOwned};
 ghost use Rattle.hm_sizes.specs.Classes.{class_count};
+ghost use Rattle.hm_sizes.specs.Origins.{class_region_number};
 
-use hm_base::NoMemory;
+use hm_base::{NoMemory, RegionId};
 use hm_class::ClassHeap;
 use hm_fakes::{FailingPages, PlainPages, SilentPages};
 use hm_model::{Draws, Reply, Runs, Who};
@@ -36,7 +38,7 @@ const WHO: Who = Who {
     part: 1,
 };
 
-/// A region in arena 0 of a run, whose quarantine has this base.
+/// A region in arena 0 of a run, whose quarantine has this base. Its number is that of its class.
 fn region_of<P: Pages>(
     alloc: Global,
     run: u64,
@@ -48,6 +50,7 @@ fn region_of<P: Pages>(
     requires base { base ≤ 1 }
     requires nothing { IsTrue (P.told pages) → P.runs pages ≡ map.empty }
     requires count { P.faults pages ≡ 0 }
+    requires owned { IsOwned (P.owner pages) (class_region_number 0 (record { 0 = class })) }
 {
     let config = Config {
         array_base: base,
@@ -63,6 +66,7 @@ fn region<P: Pages>(alloc: Global, class: u8, base: u32, pages: P) -> Result<Cla
     requires base { base ≤ 1 }
     requires nothing { IsTrue (P.told pages) → P.runs pages ≡ map.empty }
     requires count { P.faults pages ≡ 0 }
+    requires owned { IsOwned (P.owner pages) (class_region_number 0 (record { 0 = class })) }
 {
     region_of(alloc, 0, class, base, pages)
 }
@@ -72,6 +76,7 @@ fn light_region<P: Pages>(alloc: Global, class: u8, pages: P) -> Result<ClassHea
     requires class { class < class_count }
     requires nothing { IsTrue (P.told pages) → P.runs pages ≡ map.empty }
     requires count { P.faults pages ≡ 0 }
+    requires owned { IsOwned (P.owner pages) (class_region_number 0 (record { 0 = class })) }
 {
     ClassHeap::build(alloc, &Config::light(), 0, 0, ClassId(class), pages)
 }
@@ -219,7 +224,7 @@ fn stained_block<P: Pages>(
 fn failing_once(alloc: Global, call: u64) -> Result<(Reply, Reply, u64), Fail> {
     let mut fail_calls = Vec::new(alloc);
     fail_calls.push(call)?;
-    let pages = FailingPages::build(alloc, fail_calls);
+    let pages = FailingPages::build(alloc, RegionId(48), fail_calls);
     let mut region = region(alloc, 48, 1, pages)?;
     let (d, e) = stained_block(alloc, &mut region)?;
     Ok((d, e, region.faults()))
@@ -321,6 +326,7 @@ fn refusal_of<P: Pages>(region: &mut ClassHeap<P>, addr: u64) -> Result<Refused,
 fn refusals_over<P: Pages>(alloc: Global, pages: P) -> Result<(Refused, Refused, Refused), Fail>
     requires nothing { IsTrue (P.told pages) → P.runs pages ≡ map.empty }
     requires count { P.faults pages ≡ 0 }
+    requires owned { IsOwned (P.owner pages) 7 }
 {
     let mut region = region(alloc, 7, 1, pages)?;
     let block = one_block(&mut region)?;
@@ -333,7 +339,7 @@ fn refusals_over<P: Pages>(alloc: Global, pages: P) -> Result<(Refused, Refused,
 #[test]
 fn first_block_of_run_zero(rt: HostRuntime) -> Result<(), Fail> {
     let alloc = rt.alloc();
-    let mut region = region(alloc, 7, 1, PlainPages::new(alloc))?;
+    let mut region = region(alloc, 7, 1, PlainPages::new(alloc, RegionId(7)))?;
     expect_first_block(&rt, &mut region)
 }
 
@@ -346,7 +352,7 @@ fn expect_first_block<P: Pages>(rt: &impl Abort, region: &mut ClassHeap<P>) -> R
 #[test]
 fn words_of_run_zero(rt: HostRuntime) -> Result<(), Fail> {
     let alloc = rt.alloc();
-    let mut region = region(alloc, 7, 1, PlainPages::new(alloc))?;
+    let mut region = region(alloc, 7, 1, PlainPages::new(alloc, RegionId(7)))?;
     let _block = one_block(&mut region)?;
     expect_words(&rt, &region);
     Ok(())
@@ -374,7 +380,7 @@ fn expect_words<P: Pages>(rt: &impl Abort, region: &ClassHeap<P>) {
 #[test]
 fn light_block_of_run_zero(rt: HostRuntime) -> Result<(), Fail> {
     let alloc = rt.alloc();
-    let mut region = light_region(alloc, 7, PlainPages::new(alloc))?;
+    let mut region = light_region(alloc, 7, PlainPages::new(alloc, RegionId(7)))?;
     expect_light_block(&rt, alloc, &mut region)?;
     expect_light_words(&rt, &region);
     Ok(())
@@ -413,7 +419,7 @@ fn expect_light_words<P: Pages>(rt: &impl Abort, region: &ClassHeap<P>) {
 #[test]
 fn another_size_is_stated(rt: HostRuntime) -> Result<(), Fail> {
     let alloc = rt.alloc();
-    let mut region = region(alloc, 7, 1, PlainPages::new(alloc))?;
+    let mut region = region(alloc, 7, 1, PlainPages::new(alloc, RegionId(7)))?;
     let block = given(&mut region, 100)?;
     assert!(rt;
         matches!(
@@ -431,9 +437,12 @@ fn another_size_is_stated(rt: HostRuntime) -> Result<(), Fail> {
 fn refused_frees(rt: HostRuntime) -> Result<(), Fail> {
     let alloc = rt.alloc();
     let expected = (Refused::DoubleFree, Refused::NoSlot, Refused::Unused);
-    let plain = refusals_over(alloc, PlainPages::new(alloc))?;
+    let plain = refusals_over(alloc, PlainPages::new(alloc, RegionId(7)))?;
     assert_eq!(rt; plain, expected, "plain pages");
-    let failing = refusals_over(alloc, FailingPages::build(alloc, Vec::new(alloc)))?;
+    let failing = refusals_over(
+        alloc,
+        FailingPages::build(alloc, RegionId(7), Vec::new(alloc)),
+    )?;
     assert_eq!(rt; failing, expected, "pages that may fail");
     let silent = refusals_over(alloc, SilentPages::new(alloc))?;
     assert_eq!(rt; silent, expected, "pages that lend nothing");
@@ -443,7 +452,7 @@ fn refused_frees(rt: HostRuntime) -> Result<(), Fail> {
 #[test]
 fn guard_is_no_slot(rt: HostRuntime) -> Result<(), Fail> {
     let alloc = rt.alloc();
-    let mut region = region(alloc, 7, 1, PlainPages::new(alloc))?;
+    let mut region = region(alloc, 7, 1, PlainPages::new(alloc, RegionId(7)))?;
     let _block = one_block(&mut region)?;
     assert_eq!(rt; refusal_of(&mut region, FIRST + 4096)?, Refused::NoSlot);
     Ok(())
@@ -452,7 +461,7 @@ fn guard_is_no_slot(rt: HostRuntime) -> Result<(), Fail> {
 #[test]
 fn readings(rt: HostRuntime) -> Result<(), Fail> {
     let alloc = rt.alloc();
-    let mut region = region(alloc, 7, 1, PlainPages::new(alloc))?;
+    let mut region = region(alloc, 7, 1, PlainPages::new(alloc, RegionId(7)))?;
     let block = given(&mut region, 100)?;
     assert_eq!(rt; region.shape().class, ClassId(7));
     assert_eq!(rt; region.shape().first, FIRST);
@@ -479,7 +488,7 @@ const SECOND_RETIRED: [Moved; 6] = [
 fn second_empty_slab_is_retired(rt: HostRuntime) -> Result<(), Fail> {
     let alloc = rt.alloc();
     for run in RUNS {
-        let mut region = region_of(alloc, run, 48, 0, PlainPages::new(alloc))?;
+        let mut region = region_of(alloc, run, 48, 0, PlainPages::new(alloc, RegionId(48)))?;
         expect_second_retired(&rt, &mut region, run)?;
     }
     Ok(())
@@ -506,7 +515,7 @@ fn expect_second_retired<P: Pages>(
 fn frees_are_refused_in_each_run(rt: HostRuntime) -> Result<(), Fail> {
     let alloc = rt.alloc();
     for run in RUNS {
-        let mut region = region_of(alloc, run, 7, 1, PlainPages::new(alloc))?;
+        let mut region = region_of(alloc, run, 7, 1, PlainPages::new(alloc, RegionId(7)))?;
         expect_refused(&rt, &mut region, run)?;
     }
     Ok(())
@@ -539,7 +548,7 @@ const SECOND_PURGED: [Moved; 6] = [
 fn slab_that_stays_is_purged(rt: HostRuntime) -> Result<(), Fail> {
     let alloc = rt.alloc();
     for run in RUNS {
-        let pages = FailingPages::build(alloc, vec![in alloc; 3]?);
+        let pages = FailingPages::build(alloc, RegionId(48), vec![in alloc; 3]?);
         let mut region = region_of(alloc, run, 48, 0, pages)?;
         expect_second_purged(&rt, &mut region, run)?;
     }
@@ -564,7 +573,7 @@ fn expect_second_purged<P: Pages>(
 fn write_after_a_free_is_found(rt: HostRuntime) -> Result<(), Fail> {
     let alloc = rt.alloc();
     for run in RUNS {
-        let mut region = region_of(alloc, run, 48, 1, PlainPages::new(alloc))?;
+        let mut region = region_of(alloc, run, 48, 1, PlainPages::new(alloc, RegionId(48)))?;
         expect_found(&rt, alloc, &mut region, run)?;
     }
     Ok(())
@@ -605,7 +614,7 @@ fn expect_found<P: Pages>(
 #[test]
 fn retired_slab_forgets_its_bytes(rt: HostRuntime) -> Result<(), Fail> {
     let alloc = rt.alloc();
-    let mut region = region(alloc, 48, 1, PlainPages::new(alloc))?;
+    let mut region = region(alloc, 48, 1, PlainPages::new(alloc, RegionId(48)))?;
     expect_forgotten(&rt, alloc, &mut region)
 }
 
@@ -672,7 +681,7 @@ fn last_opening_fails(rt: HostRuntime) -> Result<(), Fail> {
 #[test]
 fn failed_page_draws_nothing(rt: HostRuntime) -> Result<(), Fail> {
     let alloc = rt.alloc();
-    let pages = FailingPages::build(alloc, vec![in alloc; 1]?);
+    let pages = FailingPages::build(alloc, RegionId(7), vec![in alloc; 1]?);
     let mut region = region(alloc, 7, 1, pages)?;
     expect_nothing_drawn(&rt, &mut region)
 }
@@ -689,7 +698,7 @@ fn expect_nothing_drawn<P: Pages>(rt: &impl Abort, region: &mut ClassHeap<P>) ->
 #[test]
 fn slabs_of_no_bytes(rt: HostRuntime) -> Result<(), Fail> {
     let alloc = rt.alloc();
-    let mut region = region(alloc, 0, 0, PlainPages::new(alloc))?;
+    let mut region = region(alloc, 0, 0, PlainPages::new(alloc, RegionId(0)))?;
     come_and_go(alloc, &mut region, 40 * 256)?;
     assert_eq!(rt; canary(&region, 0), None);
     assert_eq!(rt; moved(&region, 18_431), Some((None, None, None)));
@@ -700,7 +709,7 @@ fn slabs_of_no_bytes(rt: HostRuntime) -> Result<(), Fail> {
 #[test]
 fn bytes_that_were_written_are_read(rt: HostRuntime) -> Result<(), Fail> {
     let alloc = rt.alloc();
-    let mut region = region(alloc, 7, 1, PlainPages::new(alloc))?;
+    let mut region = region(alloc, 7, 1, PlainPages::new(alloc, RegionId(7)))?;
     let stained = stained_bytes(alloc, &mut region)?;
     assert_eq!(rt; stained, (Some((0x41, 1)), Some((0, 4))));
     Ok(())
