@@ -1,43 +1,39 @@
 -- What stands at the places of a block once some of them were written.
-use Rattle.std.proofs.Common.{◌≡◌, ℕ, zero, suc, ◌+◌, ◌-◌, ◌<◌, ◌≤◌, List, [], ◌∷◌, ◌++◌, map, length, length-append, take, drop, replicate, Option, Some, None, true, false, refl, sym, ap, ◌∙◌, arith}
-use Rattle.std.proofs.lemmas.List.{length-take, length-drop, length-map, length-replicate, take_at, append_assoc, map-append, get_or-take, get_or-drop}
-use Rattle.std.proofs.lemmas.Bool.{true≢false, false≢true}
+use Rattle.std.proofs.Common.{◌≡◌, ℕ, zero, suc, ◌+◌, ◌-◌, ◌<◌, ◌≤◌, List, [], ◌∷◌, ◌++◌, map, length, length-append, take, drop, replicate, Option, Some, None, true, refl, sym, ap, ◌∙◌, arith}
+use Rattle.std.proofs.lemmas.List.{length-take, length-drop, length-map, length-replicate, take_at, append_assoc, get_or-take, get_or-drop}
+use Rattle.std.proofs.lemmas.Bool.{false≢true}
 use Rattle.std.proofs.lemmas.Slice.{drop-append-drop}
 use Rattle.std.specs.Prelude.{get_or, is_some}
 use Rattle.hm_frames.specs.Places.{byte_of, bytes_of, with_places}
 
-snoc : (n : ℕ) (rest : List (Option ℕ)) → map Some (replicate n 0) ++ (Some 0 ∷ rest) ≡ map Some (replicate (suc n) 0) ++ rest
-snoc zero rest = refl
-snoc (suc n) rest = ap (λ (l : List (Option ℕ)). Some 0 ∷ l) (snoc n rest)
+snoc : (byte n : ℕ) (rest : List (Option ℕ)) → map Some (replicate n byte) ++ (Some byte ∷ rest) ≡ map Some (replicate (suc n) byte) ++ rest
+snoc byte zero rest = refl
+snoc byte (suc n) rest = ap (λ (l : List (Option ℕ)). Some byte ∷ l) (snoc byte n rest)
 
--- one more zero after some
-pub zero_more : (xs : List (Option ℕ)) (from i : ℕ) → from + i < length xs
-    → take (from + i) (with_places xs from i (replicate i 0)) ++ (Some 0 ∷ drop (from + i + 1) (with_places xs from i (replicate i 0)))
-    ≡ with_places xs from (i + 1) (replicate (i + 1) 0)
-zero_more xs from i lt =
+-- one more of a byte after some
+pub fill_more : (byte : ℕ) (xs : List (Option ℕ)) (from i : ℕ) → from + i < length xs
+    → take (from + i) (with_places xs from i (replicate i byte)) ++ (Some byte ∷ drop (from + i + 1) (with_places xs from i (replicate i byte)))
+    ≡ with_places xs from (i + 1) (replicate (i + 1) byte)
+fill_more byte xs from i lt =
     let front = take from xs in
-    let zs₀ : List ℕ = replicate i 0 in
+    let zs₀ : List ℕ = replicate i byte in
     let zs : List (Option ℕ) = map Some zs₀ in
     let rest = drop (from + i) xs in
     let last = drop (from + i + 1) xs in
-    let long : length (front ++ zs) ≡ from + i = omega (arith, lt, length-append front zs, length-take from xs, length-map zs₀ Some, length-replicate {A = ℕ} i 0) in
+    let long : length (front ++ zs) ≡ from + i = omega (arith, lt, length-append front zs, length-take from xs, length-map zs₀ Some, length-replicate {A = ℕ} i byte) in
     let apart = sym (append_assoc front zs rest) in
-    ap (λ (l : List (Option ℕ)). take (from + i) l ++ (Some 0 ∷ drop (from + i + 1) l)) apart
-    ∙ ap (λ (l : List (Option ℕ)). l ++ (Some 0 ∷ drop (from + i + 1) ((front ++ zs) ++ rest))) (take_at (front ++ zs) rest (from + i) long)
-    ∙ ap (λ (l : List (Option ℕ)). (front ++ zs) ++ (Some 0 ∷ l)) (drop-append-drop (from + i) xs (front ++ zs) (from + i + 1) (omega arith) long)
-    ∙ append_assoc front zs (Some 0 ∷ last)
-    ∙ ap (λ (l : List (Option ℕ)). front ++ l) (snoc i last)
-    ∙ ap (λ (n : ℕ × ℕ). front ++ (map Some (replicate n.0 0) ++ drop n.1 xs)) {x = (suc i, from + i + 1)} {y = (i + 1, from + (i + 1))} (λ j. (next j, place j))
+    ap (λ (l : List (Option ℕ)). take (from + i) l ++ (Some byte ∷ drop (from + i + 1) l)) apart
+    ∙ ap (λ (l : List (Option ℕ)). l ++ (Some byte ∷ drop (from + i + 1) ((front ++ zs) ++ rest))) (take_at (front ++ zs) rest (from + i) long)
+    ∙ ap (λ (l : List (Option ℕ)). (front ++ zs) ++ (Some byte ∷ l)) (drop-append-drop (from + i) xs (front ++ zs) (from + i + 1) (omega arith) long)
+    ∙ append_assoc front zs (Some byte ∷ last)
+    ∙ ap (λ (l : List (Option ℕ)). front ++ l) (snoc byte i last)
+    ∙ ap (λ (n : ℕ × ℕ). front ++ (map Some (replicate n.0 byte) ++ drop n.1 xs)) {x = (suc i, from + i + 1)} {y = (i + 1, from + (i + 1))} (λ j. (next j, place j))
   where
     next : suc i ≡ i + 1
     next = omega arith
 
     place : from + i + 1 ≡ from + (i + 1)
     place = omega arith
-
-bytes_of_Some : (w : List ℕ) → bytes_of (map Some w) ≡ w
-bytes_of_Some [] = refl
-bytes_of_Some (x ∷ w) = ap (λ l. x ∷ l) (bytes_of_Some w)
 
 pub bytes_take : (n : ℕ) (xs : List (Option ℕ)) → bytes_of (take n xs) ≡ take n (bytes_of xs)
 bytes_take zero xs = refl
@@ -48,15 +44,6 @@ pub bytes_drop : (n : ℕ) (xs : List (Option ℕ)) → bytes_of (drop n xs) ≡
 bytes_drop zero xs = refl
 bytes_drop (suc n) [] = refl
 bytes_drop (suc n) (x ∷ xs) = bytes_drop n xs
-
--- the bytes are then these
-pub bytes_with : (xs : List (Option ℕ)) (from len : ℕ) (w : List ℕ) → bytes_of (with_places xs from len w) ≡ take from (bytes_of xs) ++ (w ++ drop (from + len) (bytes_of xs))
-bytes_with xs from len w =
-    map-append byte_of (take from xs) (map Some w ++ drop (from + len) xs)
-    ∙ ap (λ (l : List ℕ). l ++ bytes_of (map Some w ++ drop (from + len) xs)) (bytes_take from xs)
-    ∙ ap (λ (l : List ℕ). take from (bytes_of xs) ++ l) (map-append byte_of (map Some w) (drop (from + len) xs)
-    ∙ ap (λ (l : List ℕ). l ++ bytes_of (drop (from + len) xs)) (bytes_of_Some w)
-    ∙ ap (λ (l : List ℕ). w ++ l) (bytes_drop (from + len) xs))
 
 -- places are as many as before
 pub length_with : (xs : List (Option ℕ)) (from len : ℕ) (w : List ℕ) → length w ≡ len → from + len ≤ length xs → length (with_places xs from len w) ≡ length xs
@@ -101,13 +88,8 @@ module _ (xs : List (Option ℕ)) (from len : ℕ) (w : List ℕ) (long : length
       ∙ get_or-drop (from + len) xs (i - (from + len)) None
       ∙ ap (λ (k : ℕ). get_or xs k None) (omega (arith, past))
 
--- places that all have a byte, and such that none has
+-- places that all have a byte
 pub all_some : (xs : List (Option ℕ)) → ((i : ℕ) → i < length xs → is_some (get_or xs i None) ≡ true) → xs ≡ map Some (bytes_of xs)
 all_some [] all = refl
 all_some (None ∷ xs) all = absurd (false≢true (all zero (omega arith)))
 all_some (Some x ∷ xs) all = ap (λ l. Some x ∷ l) (all_some xs (λ i lt. all (suc i) (omega (arith, lt))))
-
-pub none_zero : (xs : List (Option ℕ)) → ((i : ℕ) → i < length xs → is_some (get_or xs i None) ≡ false) → bytes_of xs ≡ replicate (length xs) 0
-none_zero [] all = refl
-none_zero (None ∷ xs) all = ap (λ l. 0 ∷ l) (none_zero xs (λ i lt. all (suc i) (omega (arith, lt))))
-none_zero (Some x ∷ xs) all = absurd (true≢false (all zero (omega arith)))

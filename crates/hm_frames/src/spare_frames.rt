@@ -1,7 +1,6 @@
 //! Runs whose pages were dropped, kept to be used again: no more than a few, and none that is long.
 ghost use Rattle.std.specs.Prelude.{◌≡◌, ◌*◌, ◌≤◌, length, All, vec_len, IfOk, IfSome};
 ghost use Rattle.hm_base.specs.Lists.{zeros};
-ghost use Rattle.hm_frames.specs.declared.spare_frames.TheConstants.{MOST_KEPT, LONGEST_KEPT};
 
 use crate::frame::Frame;
 use hm_base::NoMemory;
@@ -18,8 +17,8 @@ const LONGEST_KEPT: usize = 1_048_576;
 #[derive(Drop)]
 pub(crate) struct SpareFrames {
     frames: Vec<Frame>,
-    ghost few: { vec_len frames ≤ MOST_KEPT },
-    ghost short: { All (λ f. length f.run ≤ LONGEST_KEPT) frames.items },
+    ghost few: { vec_len frames ≤ 8 },
+    ghost short: { All (λ f. length f.run ≤ 1048576) frames.items },
 }
 
 impl SpareFrames {

@@ -2,9 +2,11 @@
 //! its replies: so each has few ways out while a region is to be dropped, and its proof is short.
 ghost use Rattle.std.specs.Prelude.{◌≡◌, ◌≤◌, ◌^◌, IsTrue};
 ghost use Rattle.std.specs.FinMap as map;
+ghost use Rattle.hm_outside.specs.Makers.{IsOwned};
+ghost use Rattle.hm_sizes.specs.Origins.{large_region_number};
 
 use crate::lending_pages::LendingPages;
-use hm_base::NoMemory;
+use hm_base::{NoMemory, RegionId};
 use hm_fakes::{FailingPages, PlainPages, SilentPages};
 use hm_large::LargeHeap;
 use hm_model::{Reply, Runs, Who};
@@ -22,6 +24,9 @@ const WHO: Who = Who {
     part: 1,
 };
 
+/// The large region.
+const REGION: RegionId = RegionId(196);
+
 /// The last address that a call may name.
 const LAST: u64 = (1 << 47) - 1;
 
@@ -29,6 +34,7 @@ const LAST: u64 = (1 << 47) - 1;
 fn region_of<P: Pages>(alloc: Global, pages: P) -> Result<LargeHeap<P>, NoMemory>
     requires nothing { IsTrue (P.told pages) → P.runs pages ≡ map.empty }
     requires count { P.faults pages ≡ 0 }
+    requires owned { IsOwned (P.owner pages) large_region_number }
 {
     let config = Config {
         large_space: 1 << 20,
@@ -41,6 +47,7 @@ fn region_of<P: Pages>(alloc: Global, pages: P) -> Result<LargeHeap<P>, NoMemory
 fn standard<P: Pages>(alloc: Global, pages: P) -> Result<LargeHeap<P>, NoMemory>
     requires nothing { IsTrue (P.told pages) → P.runs pages ≡ map.empty }
     requires count { P.faults pages ≡ 0 }
+    requires owned { IsOwned (P.owner pages) large_region_number }
 {
     LargeHeap::build(alloc, &Config::standard(), 0, pages)
 }
@@ -128,7 +135,7 @@ fn block_of(reply: Reply) -> Result<(u64, u64), Fail> {
 #[test]
 fn readings(rt: HostRuntime) -> Result<(), Fail> {
     let alloc = rt.alloc();
-    let mut region = region_of(alloc, PlainPages::new(alloc))?;
+    let mut region = region_of(alloc, PlainPages::new(alloc, REGION))?;
     let (block, _) = given(&mut region, 163_840)?;
     assert!(rt; region.spare() >= 1, "room for the free");
     assert!(rt; region.pages().holds(block, 163_840));
@@ -141,7 +148,7 @@ fn readings(rt: HostRuntime) -> Result<(), Fail> {
 #[test]
 fn size_of_a_block(rt: HostRuntime) -> Result<(), Fail> {
     let alloc = rt.alloc();
-    let mut region = standard(alloc, PlainPages::new(alloc))?;
+    let mut region = standard(alloc, PlainPages::new(alloc, REGION))?;
     expect_size_of_a_block(&rt, &mut region)
 }
 
@@ -160,7 +167,7 @@ fn expect_size_of_a_block<P: Pages>(
 #[test]
 fn trap_at_the_end(rt: HostRuntime) -> Result<(), Fail> {
     let alloc = rt.alloc();
-    let mut region = standard(alloc, PlainPages::new(alloc))?;
+    let mut region = standard(alloc, PlainPages::new(alloc, REGION))?;
     expect_trap_at_the_end(&rt, &mut region)
 }
 
@@ -178,7 +185,7 @@ fn expect_trap_at_the_end<P: Pages>(
 #[test]
 fn refused_frees(rt: HostRuntime) -> Result<(), Fail> {
     let alloc = rt.alloc();
-    let mut region = standard(alloc, PlainPages::new(alloc))?;
+    let mut region = standard(alloc, PlainPages::new(alloc, REGION))?;
     expect_refused_frees(&rt, &mut region)
 }
 
@@ -201,7 +208,7 @@ fn expect_refused_frees<P: Pages>(rt: &impl Abort, region: &mut LargeHeap<P>) ->
 #[test]
 fn freed_block(rt: HostRuntime) -> Result<(), Fail> {
     let alloc = rt.alloc();
-    let mut region = standard(alloc, PlainPages::new(alloc))?;
+    let mut region = standard(alloc, PlainPages::new(alloc, REGION))?;
     expect_freed_block(&rt, &mut region)
 }
 
@@ -215,7 +222,7 @@ fn expect_freed_block<P: Pages>(rt: &impl Abort, region: &mut LargeHeap<P>) -> R
 #[test]
 fn great_block_draws_no_place(rt: HostRuntime) -> Result<(), Fail> {
     let alloc = rt.alloc();
-    let mut region = standard(alloc, PlainPages::new(alloc))?;
+    let mut region = standard(alloc, PlainPages::new(alloc, REGION))?;
     expect_great_block_draws_no_place(&rt, &mut region)
 }
 
@@ -233,7 +240,7 @@ fn expect_great_block_draws_no_place<P: Pages>(
 #[test]
 fn space_stays_in_quarantine(rt: HostRuntime) -> Result<(), Fail> {
     let alloc = rt.alloc();
-    let mut region = region_of(alloc, PlainPages::new(alloc))?;
+    let mut region = region_of(alloc, PlainPages::new(alloc, REGION))?;
     expect_space_stays_in_quarantine(&rt, &mut region)
 }
 
@@ -252,7 +259,7 @@ fn expect_space_stays_in_quarantine<P: Pages>(
 #[test]
 fn aligned_blocks(rt: HostRuntime) -> Result<(), Fail> {
     let alloc = rt.alloc();
-    let mut region = standard(alloc, PlainPages::new(alloc))?;
+    let mut region = standard(alloc, PlainPages::new(alloc, REGION))?;
     expect_aligned_blocks(&rt, &mut region)
 }
 
@@ -268,7 +275,7 @@ fn expect_aligned_blocks<P: Pages>(rt: &impl Abort, region: &mut LargeHeap<P>) -
 #[test]
 fn written_bytes(rt: HostRuntime) -> Result<(), Fail> {
     let alloc = rt.alloc();
-    let mut region = standard(alloc, PlainPages::new(alloc))?;
+    let mut region = standard(alloc, PlainPages::new(alloc, REGION))?;
     expect_written_bytes(&rt, alloc, &mut region)
 }
 
@@ -289,7 +296,7 @@ fn expect_written_bytes<P: Pages>(
 #[test]
 fn failed_page_gives_nothing(rt: HostRuntime) -> Result<(), Fail> {
     let alloc = rt.alloc();
-    let pages = FailingPages::build(alloc, vec![in alloc; 1]?);
+    let pages = FailingPages::build(alloc, REGION, vec![in alloc; 1]?);
     let mut region = standard(alloc, pages)?;
     expect_failed_page_gives_nothing(&rt, &mut region)
 }
@@ -307,7 +314,7 @@ fn expect_failed_page_gives_nothing<P: Pages>(
 #[test]
 fn failed_drop_leaves_the_block(rt: HostRuntime) -> Result<(), Fail> {
     let alloc = rt.alloc();
-    let pages = FailingPages::build(alloc, vec![in alloc; 2]?);
+    let pages = FailingPages::build(alloc, REGION, vec![in alloc; 2]?);
     let mut region = standard(alloc, pages)?;
     expect_failed_drop_leaves_the_block(&rt, &mut region)
 }

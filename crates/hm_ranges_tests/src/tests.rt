@@ -1,5 +1,6 @@
 //! A range of two pages, of which three bytes were written, is gathered; one past its end is not.
 
+use hm_base::RegionId;
 use hm_fakes::PlainPages;
 use hm_model::Runs;
 use hm_outside::{PageRefusal, Pages};
@@ -8,7 +9,7 @@ use std::alloc::Global;
 use std::test::Fail;
 
 fn two_pages(alloc: Global) -> Result<PlainPages, PageRefusal> {
-    let mut pages = PlainPages::new(alloc);
+    let mut pages = PlainPages::new(alloc, RegionId(7));
     pages.make_accessible(4096, 2)?;
     Ok(pages)
 }

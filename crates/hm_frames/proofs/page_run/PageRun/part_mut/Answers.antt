@@ -1,35 +1,39 @@
-use Rattle.std.proofs.Common.{◌≡◌, ℕ, List, length, take, drop, Bool, sym, ap, ◌∙◌, subst, refl, arith}
-use Rattle.std.proofs.lemmas.List.{length-map}
+use Rattle.std.proofs.Common.{◌≡◌, ℕ, ◌+◌, ◌/◌, ◌<◌, ◌≤◌, List, length, take, drop, sym, ap, ◌∙◌, subst, refl, arith}
 use Rattle.std.specs.List.{refill}
-use Rattle.hm_frames.specs.Places.{byte_of, bytes_of, with_places}
+use Rattle.hm_frames.specs.declared.unit.UnitBytes.{UnitBytes}
+use Rattle.hm_frames.specs.declared.unit.UnitBytes.TheVariants.{Own}
+use Rattle.hm_frames.specs.Places.{bytes_of, with_places}
 use Rattle.hm_frames.specs.Part.{with_part}
-use Rattle.hm_frames.specs.Marks.{AreMarked}
+use Rattle.hm_frames.specs.Units.{unit_of, bytes_kept, AreKept}
 use Rattle.hm_frames.proofs.Written.{length_with}
-use Rattle.hm_frames.proofs.Marking.{range_lent, known_items, over_marked, over_bytes, refill_count}
+use Rattle.hm_frames.proofs.Keeping.{kept_long, known_items, refill_count, own_filled, own_kept, own_refilled, own_part}
 use Rattle.hm_frames.proofs.page_run.PageRun.part_mut.Goals as goal
 
 pub part_mut-requires : goal.part_mut-requires
 part_mut-requires c =
-    let old = c.self.inside.contents.places in let new = c.touch.new.contents.places in (
-      sym c.self.invariant.contents_at ∙ sym c.touch.ensures.at,
-      range_lent c.touch.new.touched new c.args.from c.args.len c.touch.ensures.marked
-          (omega (arith, c.requires, ap (λ (l : List ℕ). length l) (c.touch.ensures.same ∙ c.self.view_is), length-map new byte_of)) c.touch.ensures.touched,
+    let owned = c.make_all_own.ensures in let units = c.make_all_own.new.units in let places = c.make_all_own.new.contents.places in
+    let bytes : bytes_kept units places ≡ c.args.self.now = owned.same ∙ ap (λ (l : List UnitBytes). bytes_kept l c.self.inside.contents.places) c.deref_mut.ensures.value ∙ c.self.view_is in
+    let within : c.args.from + c.args.len ≤ length places = omega (arith, c.requires, ap (λ (l : List ℕ). length l) bytes, kept_long units places) in (
+      sym c.self.invariant.contents_at ∙ sym owned.at,
+      own_filled units places c.args.from c.args.len owned.kept within (λ i low high. owned.own (i / 512) (omega (arith, low)) (omega (arith, high))),
     )
 
 pub invariant_of-self-lent : goal.invariant_of-self-lent
 invariant_of-self-lent c w =
-    let inv = c.self.invariant in let from = c.args.from in let len = c.args.len in
-    let old = c.self.inside.contents.places in let new = c.touch.new.contents.places in let touched = c.self.inside.touched in
-    let filled = range_lent c.touch.new.touched new from len c.touch.ensures.marked
-    (omega (arith, c.requires, ap (λ (l : List ℕ). length l) (c.touch.ensures.same ∙ c.self.view_is), length-map new byte_of)) c.touch.ensures.touched in
-    let ws = refill len (take len (drop from (bytes_of new))) w in
-    let count : length ws ≡ len = refill_count new from len w filled.within in
-    let items = known_items touched.len c.touch.new.touched touched.items (c.touch.ensures.pages ∙ c.deref_mut.ensures.len) in
+    let inv = c.self.invariant in let from = c.args.from in let len = c.args.len in let old = c.self.inside.units in
+    let owned = c.make_all_own.ensures in let units = c.make_all_own.new.units in let places = c.make_all_own.new.contents.places in
+    let bytes : bytes_kept units places ≡ c.args.self.now = owned.same ∙ ap (λ (l : List UnitBytes). bytes_kept l c.self.inside.contents.places) c.deref_mut.ensures.value ∙ c.self.view_is in
+    let within : from + len ≤ length places = omega (arith, c.requires, ap (λ (l : List ℕ). length l) bytes, kept_long units places) in
+    let ws = refill len (take len (drop from (bytes_of places))) w in
+    let count : length ws ≡ len = refill_count places from len w within in
+    let items = known_items old.len units old.items (owned.count ∙ c.deref_mut.ensures.len) in
     record {
-      marked = subst (λ (l : List Bool). AreMarked l (with_places new from len ws)) (sym items) (over_marked c.touch.new.touched new from len ws c.touch.ensures.marked filled count);
-      few = omega (arith, inv.few, ap (λ (l : List Bool). length l) items, c.touch.ensures.pages, ap (λ (l : List Bool). length l) c.deref_mut.ensures.value);
-      long = length_with new from len ws count filled.within ∙ omega (arith, length-map new byte_of, ap (λ (l : List ℕ). length l) c.touch.ensures.same, length-map old byte_of) ∙ inv.long;
-      contents_at = c.touch.ensures.at ∙ inv.contents_at;
+      kept = subst (λ (l : List UnitBytes). AreKept l (with_places places from len ws)) (sym items)
+          (own_kept units places from len ws owned.kept count within (λ i low high. owned.own (i / 512) (omega (arith, low)) (omega (arith, high))));
+      few = omega (arith, inv.few, ap (λ (l : List UnitBytes). length l) items, owned.count, ap (λ (l : List UnitBytes). length l) c.deref_mut.ensures.value);
+      long = length_with places from len ws count within
+          ∙ omega (arith, kept_long units places, ap (λ (l : List ℕ). length l) (bytes ∙ sym c.self.view_is), kept_long old.items c.self.inside.contents.places) ∙ inv.long;
+      contents_at = owned.at ∙ inv.contents_at;
       lease_at = inv.lease_at;
       lease_len = inv.lease_len;
       lease_alloc = inv.lease_alloc;
@@ -37,11 +41,17 @@ invariant_of-self-lent c w =
 
 pub returns : goal.returns
 returns c =
-    let same = c.touch.ensures.same ∙ c.self.view_is in (
+    let from = c.args.from in let len = c.args.len in let old = c.self.inside.units in
+    let owned = c.make_all_own.ensures in let units = c.make_all_own.new.units in let places = c.make_all_own.new.contents.places in
+    let bytes : bytes_kept units places ≡ c.args.self.now = owned.same ∙ ap (λ (l : List UnitBytes). bytes_kept l c.self.inside.contents.places) c.deref_mut.ensures.value ∙ c.self.view_is in
+    let within : from + len ≤ length places = omega (arith, c.requires, ap (λ (l : List ℕ). length l) bytes, kept_long units places) in
+    let items = known_items old.len units old.items (owned.count ∙ c.deref_mut.ensures.len) in
+    let own : (i : ℕ) → from ≤ i → i < from + len → unit_of units i ≡ Own = λ i low high. owned.own (i / 512) (omega (arith, low)) (omega (arith, high)) in (
       (
         refl,
-        λ w. over_bytes c.touch.new.contents.places c.self.inside.contents.places c.args.from c.args.len w c.touch.ensures.same
-            ∙ ap (λ (l : List ℕ). with_part l c.args.from c.args.len w) c.self.view_is,
+        λ w. ap (λ (l : List UnitBytes). bytes_kept l (with_places places from len (refill len (take len (drop from (bytes_of places))) w))) items
+            ∙ own_refilled units places from len w owned.kept within own
+            ∙ ap (λ (l : List ℕ). with_part l from len w) bytes,
       ),
-      record { writes_back = tt; value = c.part_mut.ensures.value ∙ ap (λ (l : List ℕ). take c.args.len (drop c.args.from l)) same },
+      record { writes_back = tt; value = c.part_mut.ensures.value ∙ own_part units places from len within own ∙ ap (λ (l : List ℕ). take len (drop from l)) bytes },
     )
