@@ -1,9 +1,10 @@
 //! The bytes of open slabs.
-ghost use Rattle.std.specs.Prelude.{◌≡◌, ◌+◌, ◌++◌, ◌-◌, ◌<◌, ◌≤◌, ◌^◌, ℕ, None, [], length, take, drop, slice_get, slice_index, option_map, IfOk};
+ghost use Rattle.std.specs.Prelude.{◌≡◌, ◌+◌, ◌++◌, ◌-◌, ◌<◌, ◌≤◌, ◌^◌, ℕ, None, [], length, take, drop, replicate, slice_get, slice_index, option_map, IfOk, OnOk};
 ghost use Rattle.std.specs.Option.{option_map_or};
 ghost use Rattle.std.specs.Int.{from_le_bytes};
 ghost use mir.Syntax.{w64};
 ghost use Rattle.hm_model.specs.Maps.{at};
+ghost use Rattle.hm_outside.specs.Piece.{bytes_in};
 ghost use Rattle.hm_sizes.specs.Shapes.{IsShape, slab_at, slab_of};
 ghost use Rattle.hm_class_rules.specs.Bytes.{byte_at, first_trap, bytes_read, usable_bytes, first_nonzero, kept_canary, found_canary};
 ghost use Rattle.hm_class_book.specs.Book.{state_in, slab_in, slabs_in};
@@ -12,6 +13,7 @@ use crate::book::{Book, OpenSlab};
 use crate::places::slab_of;
 use crate::slab_bytes::SlabBytes;
 use hm_base::NoMemory;
+use hm_outside::Piece;
 use hm_sizes::Shape;
 use std::alloc::Global;
 
@@ -28,25 +30,47 @@ fn find_slab(opens: &[(u64, OpenSlab)], slab: u64) -> Option<&OpenSlab>
 }
 
 // Bytes of a slab from an offset on, at most so many: at least one, where it is open and has one.
-fn piece_of(opens: &[(u64, OpenSlab)], slab: u64, from: u64, len: u64) -> &[u8]
+fn piece_of(opens: &[(u64, OpenSlab)], slab: u64, from: u64, len: u64) -> Piece<'_>
     requires { 1 ≤ len }
-    ensures value { result.now
-        ≡ take (length result.now) (drop from (option_map_or (λ b. b.bytes) (at slab (slabs_in opens.now)) [])) }
-    ensures most { length result.now ≤ len }
+    ensures value { bytes_in result
+        ≡ take (length (bytes_in result)) (drop from (option_map_or (λ b. b.bytes) (at slab (slabs_in opens.now)) [])) }
+    ensures most { length (bytes_in result) ≤ len }
     ensures some { from < length (option_map_or (λ b. b.bytes) (at slab (slabs_in opens.now)) [])
-        → 0 < length result.now }
+        → 0 < length (bytes_in result) }
 {
     match find_slab(opens, slab) {
         Some(entry) => entry.bytes.piece(from, len),
-        None => &[],
+        None => Piece::Bytes(&[]),
     }
 }
 
-// The first bytes, as many as there are up to so many.
-fn first_of(bytes: &[u8], most: u64) -> &[u8]
-    ensures { result.now ≡ take most bytes.now }
+// Adds the first bytes of a piece, as many as there are up to so many, and says how many.
+fn add_front(bytes: &mut Vec<u8>, piece: &Piece<'_>, most: u64) -> Result<u64, NoMemory>
+    ensures added { IfOk result (λ n. bytes.new.items ≡ bytes.old.items ++ take most (bytes_in piece.now)) }
+    ensures count { IfOk result (λ n. n ≡ length (take most (bytes_in piece.now))) }
 {
-    &bytes[..most.min(bytes.len() as u64) as usize]
+    match piece {
+        Piece::Same(byte, len) => {
+            let count = most.min(*len as u64);
+            add_same(bytes, *byte, count)?;
+            Ok(count)
+        }
+        Piece::Bytes(slice) => {
+            let front = &slice[..most.min(slice.len() as u64) as usize];
+            bytes.extend_from_slice(front)?;
+            Ok(front.len() as u64)
+        }
+    }
+}
+
+// Adds one byte, so many times.
+fn add_same(bytes: &mut Vec<u8>, byte: u8, count: u64) -> Result<(), NoMemory>
+    ensures { OnOk result (bytes.new.items ≡ bytes.old.items ++ replicate count byte) }
+{
+    for _ in 0..count {
+        bytes.push(byte)?;
+    }
+    Ok(())
 }
 
 // One of the eight bytes from an offset on, or 0 past the last.
@@ -133,18 +157,18 @@ impl Book {
 
     // Bytes of a slab from an address on: at least one, where it is accessible.
     #[tactic(auto, using(crate::proofs::Addresses::slab_some))]
-    fn rest(&self, shape: &Shape, addr: u64) -> &[u8]
+    fn rest(&self, shape: &Shape, addr: u64) -> Piece<'_>
         requires { IsShape shape.now }
-        ensures bytes { (k : ℕ) → k < length result.now
-            → byte_at shape.now (state_in self.now) (addr + k) ≡ slice_get result.now k }
-        ensures none { length result.now ≡ 0 → byte_at shape.now (state_in self.now) addr ≡ None }
+        ensures bytes { (k : ℕ) → k < length (bytes_in result)
+            → byte_at shape.now (state_in self.now) (addr + k) ≡ slice_get (bytes_in result) k }
+        ensures none { length (bytes_in result) ≡ 0 → byte_at shape.now (state_in self.now) addr ≡ None }
     {
         match addr.checked_sub(shape.first) {
             Some(offset) => {
                 let from = offset % shape.slab;
                 piece_of(&self.opens, offset / shape.slab, from, shape.slab - from)
             }
-            None => &[],
+            None => Piece::Bytes(&[]),
         }
     }
 
@@ -182,13 +206,13 @@ impl Book {
         ensures some { IfOk result (λ n. 1 ≤ n) }
         ensures few { IfOk result (λ n. n ≤ most) }
     {
-        let rest = first_of(self.rest(shape, addr), most);
-        if rest.is_empty() {
+        let rest = self.rest(shape, addr);
+        if rest.len() == 0 {
             bytes.push(0)?;
             return Ok(1);
         }
-        bytes.extend_from_slice(rest)?;
-        Ok(rest.len() as u64)
+        let count = add_front(bytes, &rest, most)?;
+        Ok(count)
     }
 
     /// The bytes of a range, of which those that are not accessible count as zero.

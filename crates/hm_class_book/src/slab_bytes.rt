@@ -2,10 +2,12 @@
 //! that had other bytes written to them.
 ghost use Rattle.std.specs.Prelude.{◌≡◌, ◌≢◌, ◌+◌, ◌%◌, ◌≤◌, ◌<◌, ◌^◌, ℕ, length, take, drop, replicate, get_or, slice_get, IfOk, IfSome, IfNone};
 ghost use Rattle.hm_base.specs.Lists.{zeros, written};
+ghost use Rattle.hm_outside.specs.Piece.{bytes_in};
 ghost use Rattle.hm_class_rules.specs.Bytes.{first_nonzero};
 
 use hm_base::NoMemory;
 use hm_frames::PageRun;
+use hm_outside::Piece;
 use std::alloc::Global;
 use std::marker::Model;
 
@@ -29,12 +31,23 @@ impl Model for SlabBytes {
     ghost view = { λ b. unwrap_or b.run [] };
 }
 
+// The first byte of a piece.
+fn first_byte(piece: &Piece<'_>) -> u8
+    requires { 0 < length (bytes_in piece.now) }
+    ensures { result ≡ get_or (bytes_in piece.now) 0 0 }
+{
+    match piece {
+        Piece::Same(byte, _) => *byte,
+        Piece::Bytes(bytes) => bytes[0],
+    }
+}
+
 // One byte of a run.
 fn byte_of(run: &PageRun, index: usize) -> Option<u8>
     ensures { result ≡ slice_get run.now index }
 {
     if index < run.len() {
-        Some(run.front(index, 1)[0])
+        Some(first_byte(&run.front(index, 1)))
     } else {
         None
     }
@@ -54,6 +67,24 @@ fn nonzero_at(bytes: &[u8]) -> Option<usize>
     None
 }
 
+// The first byte of a piece that is not zero: which it is, and its value. Of a piece of one byte the first is looked at.
+fn nonzero_in(piece: &Piece<'_>) -> Option<(usize, u8)>
+    requires some { 0 < length (bytes_in piece.now) }
+    ensures found { IfSome result (λ r. (r.0 < length (bytes_in piece.now)) × (r.1 ≢ 0)) }
+    ensures value { IfSome result (λ r. r.1 ≡ get_or (bytes_in piece.now) r.0 0) }
+    ensures before { IfSome result (λ r. (k : ℕ) → k < r.0 → get_or (bytes_in piece.now) k 0 ≡ 0) }
+    ensures none { IfNone result ((k : ℕ) → k < length (bytes_in piece.now) → get_or (bytes_in piece.now) k 0 ≡ 0) }
+{
+    match piece {
+        Piece::Same(0, _) => None,
+        Piece::Same(byte, _) => Some((0, *byte)),
+        Piece::Bytes(bytes) => {
+            let index = nonzero_at(bytes)?;
+            Some((index, bytes[index]))
+        }
+    }
+}
+
 // The first byte that is not zero among so many from an offset on: how far behind it that stands, and what it is.
 fn first_nonzero(run: &PageRun, from: usize, len: usize) -> Option<(u64, u8)>
     requires within { from + len ≤ length run.now }
@@ -63,8 +94,8 @@ fn first_nonzero(run: &PageRun, from: usize, len: usize) -> Option<(u64, u8)>
     let mut done = 0;
     while done < len {
         let piece = run.front(from + done, len - done);
-        if let Some(index) = nonzero_at(piece) {
-            return Some(((done + index) as u64, piece[index]));
+        if let Some((index, byte)) = nonzero_in(&piece) {
+            return Some(((done + index) as u64, byte));
         }
         done += piece.len();
     }
@@ -87,23 +118,12 @@ fn write_bytes(run: &mut PageRun, from: usize, bytes: &[u8])
     copy_bytes(run.part_mut(from, bytes.len()), bytes);
 }
 
-// Writes one byte over all.
-fn fill_with_byte(bytes: &mut [u8], byte: u8)
-    ensures { bytes.new ≡ replicate (length bytes.old) byte }
-{
-    bytes.fill(byte);
-}
-
-// Writes one byte over so many from an offset on. Zeros touch no page.
+// Writes one byte over so many from an offset on.
 fn fill_bytes(run: &mut PageRun, from: usize, len: usize, byte: u8)
     requires { from + len ≤ length run.old }
     ensures { run.new ≡ written run.old from (replicate len byte) }
 {
-    if byte == 0 {
-        run.zero(from, len);
-    } else {
-        fill_with_byte(run.part_mut(from, len), byte);
-    }
+    run.fill(from, len, byte);
 }
 
 impl SlabBytes {
@@ -142,11 +162,11 @@ impl SlabBytes {
     }
 
     /// Bytes from an offset on, at most so many: at least one, where there is one.
-    pub fn piece(&self, from: u64, len: u64) -> &[u8]
+    pub fn piece(&self, from: u64, len: u64) -> Piece<'_>
         requires { 1 ≤ len }
-        ensures value { result.now ≡ take (length result.now) (drop from self.now) }
-        ensures most { length result.now ≤ len }
-        ensures some { from < length self.now → 0 < length result.now }
+        ensures value { bytes_in result ≡ take (length (bytes_in result)) (drop from self.now) }
+        ensures most { length (bytes_in result) ≤ len }
+        ensures some { from < length self.now → 0 < length (bytes_in result) }
     {
         match &self.run {
             Some(run) => {
@@ -154,10 +174,10 @@ impl SlabBytes {
                 if from < all {
                     run.front(from as usize, len.min(all - from) as usize)
                 } else {
-                    &[]
+                    Piece::Bytes(&[])
                 }
             }
-            None => &[],
+            None => Piece::Bytes(&[]),
         }
     }
 

@@ -2,6 +2,7 @@ use Rattle.std.proofs.Common.{◌≡◌, ◌+◌, ◌-◌, ◌/◌, ◌%◌, ◌
 use Rattle.std.specs.Option.{option_map_or}
 use Rattle.std.proofs.lemmas.Nat.{div-add-mod', mod_below}
 use Rattle.hm_model.specs.Maps.{at}
+use Rattle.hm_outside.specs.Piece.{bytes_in}
 use Rattle.hm_sizes.specs.Shapes.{slab_at}
 use Rattle.hm_class_rules.specs.State.{Slab}
 use Rattle.hm_class_book.specs.declared.book.OpenSlab.{OpenSlab}
@@ -16,9 +17,9 @@ returns-in-Some-clause-bytes c =
     let n : ℕ = c.in-Some.offset / p.slab in
     let r : ℕ = c.in-Some.offset % p.slab in
     let is : c.args.addr ≡ slab_at p n + r = omega (arith, c.in-Some.ensures, div-add-mod' c.in-Some.offset p.slab) in
-    let value : c.piece_of.result.now ≡ take (length c.piece_of.result.now) (drop r (option_map_or (λ (b : Slab). b.bytes) (at n (slabs_in c.args.self.now.opens.items)) [])) =
-    subst (λ (l : List (ℕ × OpenSlab)). c.piece_of.result.now ≡ take (length c.piece_of.result.now) (drop r (option_map_or (λ (b : Slab). b.bytes) (at n (slabs_in l)) []))) c.deref.ensures.value c.piece_of.ensures.value in
-    λ k lt. piece_byte p (state_in c.args.self.now) n r c.args.addr c.piece_of.result.now is k value c.piece_of.ensures.most lt
+    let value : (bytes_in c.piece_of.result) ≡ take (length (bytes_in c.piece_of.result)) (drop r (option_map_or (λ (b : Slab). b.bytes) (at n (slabs_in c.args.self.now.opens.items)) [])) =
+    subst (λ (l : List (ℕ × OpenSlab)). (bytes_in c.piece_of.result) ≡ take (length (bytes_in c.piece_of.result)) (drop r (option_map_or (λ (b : Slab). b.bytes) (at n (slabs_in l)) []))) c.deref.ensures.value c.piece_of.ensures.value in
+    λ k lt. piece_byte p (state_in c.args.self.now) n r c.args.addr (bytes_in c.piece_of.result) is k value c.piece_of.ensures.most lt
 
 pub returns-in-Some-clause-none : goal.returns-in-Some-clause-none
 returns-in-Some-clause-none c =
@@ -26,6 +27,6 @@ returns-in-Some-clause-none c =
     let n : ℕ = c.in-Some.offset / p.slab in
     let r : ℕ = c.in-Some.offset % p.slab in
     let is : c.args.addr ≡ slab_at p n + r = omega (arith, c.in-Some.ensures, div-add-mod' c.in-Some.offset p.slab) in
-    let some : r < length (option_map_or (λ (b : Slab). b.bytes) (at n (slabs_in c.args.self.now.opens.items)) []) → 0 < length c.piece_of.result.now =
-    subst (λ (l : List (ℕ × OpenSlab)). r < length (option_map_or (λ (b : Slab). b.bytes) (at n (slabs_in l)) []) → 0 < length c.piece_of.result.now) c.deref.ensures.value c.piece_of.ensures.some in
-    piece_none p (state_in c.args.self.now) n r c.args.addr c.piece_of.result.now is (mod_below c.in-Some.offset p.slab (omega (arith, slab_some p c.requires))) some
+    let some : r < length (option_map_or (λ (b : Slab). b.bytes) (at n (slabs_in c.args.self.now.opens.items)) []) → 0 < length (bytes_in c.piece_of.result) =
+    subst (λ (l : List (ℕ × OpenSlab)). r < length (option_map_or (λ (b : Slab). b.bytes) (at n (slabs_in l)) []) → 0 < length (bytes_in c.piece_of.result)) c.deref.ensures.value c.piece_of.ensures.some in
+    piece_none p (state_in c.args.self.now) n r c.args.addr (bytes_in c.piece_of.result) is (mod_below c.in-Some.offset p.slab (omega (arith, slab_some p c.requires))) some
