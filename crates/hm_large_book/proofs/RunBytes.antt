@@ -4,6 +4,7 @@ use Rattle.std.proofs.lemmas.List.{take_at, take-append-drop, drop-drop, drop-ta
 use Rattle.std.proofs.lemmas.Slice.{drop-append-drop}
 use Rattle.std.proofs.Math.Seq.{take-add, drop-append_seam, take-append_seam}
 use Rattle.hm_base.specs.Lists.{written}
+use Rattle.hm_frames.specs.Part.{with_byte}
 use Rattle.hm_model.specs.Runs.{expand}
 use Rattle.hm_model.proofs.RunsOf.{length_expand}
 use Rattle.hm_large.proofs.Parts.{expand_front, total_within}
@@ -80,10 +81,11 @@ module _ (pairs : List (ℕ × ℕ)) (i byte n : ℕ) (lt : i < length pairs) (i
 
   -- ---- written from a place on
   pub runs_on : (b : List ℕ) (from at : ℕ) (now new : List ℕ) → at ≡ from + length (expand (take i pairs)) → from + length (expand pairs) ≤ length b → now ≡ written b from (expand (take i pairs))
-      → new ≡ written now at (replicate n byte) → new ≡ written b from (expand (take (i + 1) pairs))
+      → new ≡ with_byte now at n byte → new ≡ written b from (expand (take (i + 1) pairs))
   runs_on b from at now new at_is fits so_far is =
       let w = expand (take i pairs) in
-      is ∙ ap (λ (l : List ℕ). written l at (replicate n byte)) so_far
+      is ∙ ap (λ (k : ℕ). take at now ++ replicate n byte ++ drop (at + k) now) (sym (length-replicate {A = ℕ} n byte))
+      ∙ ap (λ (l : List ℕ). written l at (replicate n byte)) so_far
       ∙ ap (λ (k : ℕ). written (written b from w) k (replicate n byte)) at_is
       ∙ two_written b from w (replicate n byte) (omega (arith, fits, next_within, length-replicate {A = ℕ} n byte))
       ∙ ap (written b from) (sym front)

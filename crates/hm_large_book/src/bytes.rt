@@ -1,9 +1,10 @@
 //! The bytes of live blocks: where a range of addresses lies, whether its bytes are those of some runs, and writing runs
-//! over it. Runs are never expanded, and only a byte that is not zero touches a page.
+//! over it. Runs are never expanded.
 ghost use Rattle.std.specs.Prelude.{◌≡◌, ◌↔◌, ◌+◌, ◌<◌, ◌≤◌, ◌^◌, ℕ, IsTrue, IfSome, IfNone, None, Some, length, replicate, take, drop};
 ghost use Rattle.std.specs.Bool.{MatchBool};
 ghost use Rattle.hm_base.specs.Lists.{written};
 ghost use Rattle.hm_model.specs.Runs.{expand};
+ghost use Rattle.hm_outside.specs.Piece.{bytes_in};
 ghost use Rattle.hm_sizes.specs.declared.config.Config.{Config};
 ghost use Rattle.hm_large.specs.Blocks.{first_trap, bytes_read, written_over};
 ghost use Rattle.hm_large.specs.State.{State};
@@ -16,6 +17,7 @@ ghost use Rattle.hm_large_book.specs.Bytes.{LiesAt, over_block};
 use crate::blocks::{LiveBlock, holder};
 use hm_frames::PageRun;
 use hm_model::Runs;
+use hm_outside::Piece;
 
 // How many bytes a live block has from an address on: 0 where the address is in none.
 fn left_at(live: &[(u64, LiveBlock)], addr: u64) -> u64
@@ -100,6 +102,17 @@ fn are_all(bytes: &[u8], byte: u8) -> bool
     true
 }
 
+// Whether all bytes of a piece are this one.
+fn is_all(piece: &Piece<'_>, byte: u8) -> bool
+    requires { 0 < length (bytes_in piece.now) }
+    ensures { IsTrue result ↔ (bytes_in piece.now ≡ replicate (length (bytes_in piece.now)) byte) }
+{
+    match piece {
+        Piece::Same(other, _) => *other == byte,
+        Piece::Bytes(bytes) => are_all(bytes, byte),
+    }
+}
+
 // Whether so many bytes from a place on are all this one.
 fn is_run(bytes: &PageRun, from: usize, len: usize, byte: u8) -> bool
     requires within { from + len ≤ length bytes.now }
@@ -110,7 +123,7 @@ fn is_run(bytes: &PageRun, from: usize, len: usize, byte: u8) -> bool
     let mut done = 0;
     while done < len {
         let piece = bytes.front(from + done, len - done);
-        if !are_all(piece, byte) {
+        if !is_all(&piece, byte) {
             return false;
         }
         done += piece.len();
@@ -136,25 +149,6 @@ fn are_bytes(bytes: &PageRun, from: usize, pairs: &[(u8, u64)]) -> bool
     true
 }
 
-// Writes one byte over all.
-fn fill_with_byte(bytes: &mut [u8], byte: u8)
-    ensures { bytes.new ≡ replicate (length bytes.old) byte }
-{
-    bytes.fill(byte);
-}
-
-// Writes one byte over so many from a place on. Zeros touch no page.
-fn write_run(bytes: &mut PageRun, from: usize, len: usize, byte: u8)
-    requires { from + len ≤ length bytes.old }
-    ensures { bytes.new ≡ written bytes.old from (replicate len byte) }
-{
-    if byte == 0 {
-        bytes.zero(from, len);
-    } else {
-        fill_with_byte(bytes.part_mut(from, len), byte);
-    }
-}
-
 // Writes the bytes of runs from a place on.
 fn write_runs(bytes: &mut PageRun, from: usize, pairs: &[(u8, u64)])
     requires within { from + length (expand pairs.now) ≤ length bytes.old }
@@ -165,7 +159,7 @@ fn write_runs(bytes: &mut PageRun, from: usize, pairs: &[(u8, u64)])
     let mut at = from;
     for (byte, len) in pairs {
         let end = at + *len as usize;
-        write_run(bytes, at, *len as usize, *byte);
+        bytes.fill(at, *len as usize, *byte);
         at = end;
     }
 }

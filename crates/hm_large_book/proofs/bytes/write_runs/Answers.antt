@@ -6,8 +6,8 @@ pub overflow_add-end : goal.overflow_add-end
 overflow_add-end c = (let run : ℕ × ℕ = get_or c.args.pairs.now c.loop-byte.byte-index (0, 0) in
     omega (arith, next_within c.args.pairs.now c.loop-byte.byte-index run.0 run.1 c.loop-byte-test.true refl, c.requires.most, c.requires.low, c.loop-byte.invariant.at_is))
 
-pub write_run-requires : goal.write_run-requires
-write_run-requires c = (let run : ℕ × ℕ = get_or c.args.pairs.now c.loop-byte.byte-index (0, 0) in
+pub fill-requires : goal.fill-requires
+fill-requires c = (let run : ℕ × ℕ = get_or c.args.pairs.now c.loop-byte.byte-index (0, 0) in
     runs_fit c.args.pairs.now c.loop-byte.byte-index run.0 run.1 c.loop-byte-test.true refl c.args.bytes.now c.args.from c.loop-byte.at c.loop-byte.bytes c.loop-byte.invariant.at_is c.requires.within c.loop-byte.invariant.so_far)
 
 pub loop-byte-preserved : goal.loop-byte-preserved
@@ -15,5 +15,5 @@ loop-byte-preserved c =
     let run : ℕ × ℕ = get_or c.args.pairs.now c.loop-byte.byte-index (0, 0) in
     record {
       at_is = omega (arith, next_length c.args.pairs.now c.loop-byte.byte-index run.0 run.1 c.loop-byte-test.true refl, c.loop-byte.invariant.at_is);
-      so_far = runs_on c.args.pairs.now c.loop-byte.byte-index run.0 run.1 c.loop-byte-test.true refl c.args.bytes.now c.args.from c.loop-byte.at c.loop-byte.bytes c.write_run.new.bytes c.loop-byte.invariant.at_is c.requires.within c.loop-byte.invariant.so_far c.write_run.ensures;
+      so_far = runs_on c.args.pairs.now c.loop-byte.byte-index run.0 run.1 c.loop-byte-test.true refl c.args.bytes.now c.args.from c.loop-byte.at c.loop-byte.bytes c.fill.new.self c.loop-byte.invariant.at_is c.requires.within c.loop-byte.invariant.so_far c.fill.ensures;
     }
