@@ -3,8 +3,8 @@
 
 int main(void)
 {
-    char *volatile block = malloc(100);
-    free(block);
-    free(block);
+    char *volatile block = malloc(100); /* @allocated */
+    free(block); /* @freed */
+    free(block); /* @here */
     return 0;
 }

@@ -5,8 +5,8 @@
 int main(void)
 {
     volatile size_t length = 104;
-    char *text = malloc(length);
-    memset(text, 'a', length + 1);
-    free(text);
+    char *text = malloc(length); /* @allocated */
+    memset(text, 'a', length + 1); /* @write */
+    free(text); /* @seen */
     return 0;
 }

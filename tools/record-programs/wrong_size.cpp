@@ -3,8 +3,8 @@
 
 int main()
 {
-    void *block = ::operator new(100);
-    ::operator delete(block, std::size_t(200));
+    void *block = ::operator new(100); // @allocated
+    ::operator delete(block, std::size_t(200)); // @here
     void *other = ::operator new(100);
     ::operator delete(other, std::size_t(100));
     return 0;
