@@ -142,7 +142,9 @@ class Process:
         for ending, text in texts.items():
             with open(base + ending, 'w', encoding='utf-8', errors='surrogateescape') as file:
                 file.write(text)
-        if 0 < len(texts['.journal']) <= LONGEST_JOURNAL:
+        if len(texts['.journal']) > LONGEST_JOURNAL:
+            say('hunt: %s.journal is too long for a page' % base)
+        elif texts['.journal']:
             subprocess.run([os.path.join(TOP, 'tools', 'picture'), '-o', base + '.html', base + '.journal'])
 
     def tell(self, options):
@@ -216,7 +218,7 @@ def summary(faults, processes):
     text = 'hunt: %s in %s of %s' % (count(len(faults), 'fault'), count(calls, 'call'), count(threads, 'thread'))
     if len(processes) > 1:
         text += ' and %s' % count(len(processes), 'process').replace('processs', 'processes')
-    replays = [process.replay for process in processes if process.replay and process.notes.misuses]
+    replays = [process.replay for process in processes if process.replay]
     if any(0 in replay.findings for replay in replays):
         findings = sum(len(replay.findings.get(0, [])) for replay in replays)
         text += '; replayed with seed 0: ' + count(findings, 'finding')

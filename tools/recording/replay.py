@@ -1,5 +1,6 @@
 """Replays of what was recorded: the trace of a process, the findings, and the faults of which they are."""
 
+import functools
 import os
 import re
 import shlex
@@ -26,7 +27,11 @@ class Replayer:
     def __init__(self, command):
         self.command = shlex.split(command) if command else None
         self.program = os.path.join(TOP, 'hmreplay')
-        self.is_proved = not command and subprocess.run(
+
+    @functools.cached_property
+    def is_proved(self):
+        """Whether a proved program stands."""
+        return not self.command and subprocess.run(
             [os.path.join(TOP, 'prove'), '--look'], stdin=subprocess.DEVNULL, stdout=subprocess.DEVNULL,
             stderr=subprocess.DEVNULL).returncode == 0
 
