@@ -1,4 +1,4 @@
-// Gives aligned objects, arrays and small ones back with their own sizes; throws, and small signal stacks; nothing is wrong.
+// Gives aligned objects and arrays back with their own sizes, throws, and has a small signal stack; nothing is wrong.
 #include <csignal>
 #include <cstdlib>
 #include <new>

@@ -1,5 +1,5 @@
-/* The table of blocks. Each block gets a tail, which is filled, and compared when the block goes; a freed block is filled
- * and kept for a while, and compared when it leaves. A changed byte is noted. */
+/* The table of blocks. Each block gets a tail, which is filled, and compared when the block goes; a freed block is
+ * filled and kept for a while, and compared when it leaves. A changed byte is noted. */
 #include "recorder.h"
 
 #define TAIL_FILL 0xa5
@@ -135,7 +135,7 @@ static struct block *enter_bare(void *address, size_t size, unsigned align)
     block->state = LIVE;
     block->number = ++blocks;
     block->align = (uint8_t)align;
-    block->is_guarded = 0;
+    block->is_guarded = block->is_overwritten = 0;
     block->given = block->right = this_call();
     return block;
 }
@@ -189,28 +189,31 @@ static void note_runs(const struct block *block, size_t from, size_t to, unsigne
     }
 }
 
-/* Notes what was changed in a range since it was filled, and fills it again. */
-static void look_at(struct block *block, size_t from, unsigned char fill, enum kind kind)
+/* Notes what was changed in a range since it was filled; answers whether something was. */
+static int look_at(struct block *block, size_t from, unsigned char fill, enum kind kind)
 {
     size_t to = block->size + TAIL_BYTES;
-    if (block->is_guarded)
-        return;
-    if (!is_filled(block->address + from, to - from, fill)) {
+    int is_changed = !block->is_guarded && !is_filled(block->address + from, to - from, fill);
+    if (is_changed) {
         note_stray_write(block, from, to, fill, kind);
         note_runs(block, from, to, fill, kind);
-        memset(block->address + from, fill, to - from);
     }
     block->right = this_call();
+    return is_changed;
 }
 
+/* A tail that was overwritten stays as it is, since the program may read it, as the end of a text; it is told once. */
 void look_at_tail(struct block *block)
 {
-    look_at(block, block->size, TAIL_FILL, TAIL_WRITE);
+    if (!block->is_overwritten)
+        block->is_overwritten = (uint8_t)look_at(block, block->size, TAIL_FILL, TAIL_WRITE);
 }
 
+/* A freed block is filled again. */
 static void look_at_freed(struct block *block)
 {
-    look_at(block, 0, FREED_FILL, FREED_WRITE);
+    if (look_at(block, 0, FREED_FILL, FREED_WRITE))
+        memset(block->address, FREED_FILL, block->size + TAIL_BYTES);
 }
 
 static int is_still(const struct recent *recent, enum state state)

@@ -3,8 +3,9 @@
 Hunts in each program of a folder and compares the lines that are named with those that are marked in its source, and
 how it ends with how it ends by itself. tools/check calls it.
 
-A mark is in a comment: `@allocated`, `@freed`, `@here` (what a call did), `@write`, `@read` (by the second run), `@seen`
-(where a stray write was noticed; it is compared where there is such a mark). A program without marks has no fault.
+A mark is in a comment: `@allocated`, `@freed`, `@here` (what a call did), `@write`, `@read` (by the second run),
+`@seen` (where a stray write was noticed; it is compared where there is such a mark). A program without marks has no
+fault.
 """
 
 import json

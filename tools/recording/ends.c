@@ -1,4 +1,4 @@
-/* The ends of a process, in which blocks are compared, and those that are live are written down; and modules that go. */
+/* The ends of a process, at which blocks are compared and the live ones written down; and modules that go. */
 #include "recorder.h"
 
 #include <dlfcn.h>

@@ -18,18 +18,21 @@ class Fault:
     """A fault. Its `stacks` have the frames of where the block was allocated and freed, where it was right for the last
     time (`right`), where the fault was made or seen (`here`), and where a second run saw it made (`done`).
 
-    `stops` has, by the seed of a replay, the text with which the allocator stopped it, and the stack of that call;
-    `tried` the seeds; `passes` says why it would not. `is_first` is false where an earlier one is of the same block.
+    `blocks` has the numbers of its blocks, as equal faults are one. `stops` has, by the seed of a replay, the text with
+    which the allocator stopped it, and the stack of that call; `tried` the seeds; `passes` says why it would not.
+    `is_first` is false where an earlier fault is of the same block, `is_early` is true where it came before the calls
+    that are replayed.
     """
 
     def __init__(self, seen, sites):
-        self.seen, self.times = seen, 1
+        self.seen, self.times, self.blocks = seen, 1, {seen.block}
         self.site_hash = sites.stable_hash(seen.given.site) if sites and seen.given.site else None
         events = {'allocated': seen.given, 'freed': seen.freed, 'right': seen.right, 'here': seen.here}
         self.stacks = {name: sites.frames(event.site) if sites else [] for name, event in events.items()}
         self.kind, self.what = self.kind_of(), self.what_of()
         self.done_by = None
-        self.stops, self.tried, self.passes, self.is_first = {}, [], None, True
+        self.stops, self.tried, self.passes = {}, [], None
+        self.is_first, self.is_early = True, False
 
     def kind_of(self):
         """What was done."""
@@ -52,9 +55,9 @@ class Fault:
         """How far it went, or where."""
         seen = self.seen
         if seen.kind == TAIL_WRITE:
-            return self.changed(seen.offset - seen.size, 'past its end')
+            return self.changed(seen.offset - seen.size, 'past its end', 'right behind it')
         if seen.kind == FREED_WRITE:
-            return self.changed(seen.offset, 'from its start')
+            return self.changed(seen.offset, 'from its start', 'from its start on')
         if seen.kind in (GUARD_READ, GUARD_WRITE):
             return 'at byte %s' % format(seen.offset, ',')
         if not seen.block:
@@ -63,10 +66,10 @@ class Fault:
             return '%s above its start' % count(seen.offset, 'byte')
         return 'freed as one of %s' % count(seen.first, 'byte') if seen.state == LIVE else ''
 
-    def changed(self, distance, where):
+    def changed(self, distance, where, directly):
         """Which bytes were changed."""
         seen = self.seen
-        place = '%s %s' % (count(distance, 'byte'), where) if distance else 'right ' + where.replace('past', 'at')
+        place = '%s %s' % (count(distance, 'byte'), where) if distance else directly
         return '%s changed %s, the first to %02x' % (count(seen.end - seen.offset, 'byte'), place, seen.second)
 
     def is_write(self):
@@ -86,9 +89,14 @@ class Fault:
         """The most certain first: what a call did, what a second run saw, and what was seen later; then by time."""
         return (self.is_write() and 'done' not in self.stacks, self.was_traced(), self.seen.here.call)
 
+    def has_lines(self, most):
+        """Whether a frame that is shown has a line."""
+        return any(frame.file for frames in self.stacks.values() for frame in shown(frames, most))
+
     def take_in(self, other):
         """Counts an equal fault."""
         self.times += other.times
+        self.blocks |= other.blocks
         self.stops = {**other.stops, **self.stops}
         self.tried = sorted({*self.tried, *other.tried})
 
@@ -126,7 +134,9 @@ class Fault:
         return '\n'.join(lines + ['  ' + line for line in [self.verdict()] if line])
 
     def verdict(self):
-        """What the allocator would do of it. Of what follows from an earlier fault of the same block nothing is said."""
+        """What the allocator would do of it. Of what follows from an earlier fault of the block nothing is said."""
+        if self.is_early:
+            return 'It came before the calls that are replayed.'
         if not self.is_first or not self.tried:
             return ''
         seeds = ' with %d of %d seeds' % (len(self.stops), len(self.tried)) if len(self.tried) > 1 else ''

@@ -1,6 +1,6 @@
 /* A second run: the blocks of some call sites, those of a block that was overwritten in a first run, lie at the end of
- * pages of their own, with a page behind them that no one may touch, and are untouchable once they are freed. So a stray
- * read or write traps where it is made; it is noted with its stack, and then let through. */
+ * pages of their own, with a page behind them that no one may touch, and are untouchable once they are freed. So a
+ * stray read or write traps where it is made; it is noted with its stack, and then let through. */
 #include "recorder.h"
 
 #define MOST_SUSPECTS 64
@@ -50,7 +50,7 @@ int is_suspect(uint32_t site)
     return 0;
 }
 
-/* The block's own alignment, or without one the greatest power of two in its size, so that it ends where its pages end. */
+/* The block's own alignment, or else the greatest power of two in its size, so that it ends where its pages end. */
 static size_t alignment_of(size_t size, unsigned align)
 {
     size_t natural = size ? size & -size : USUAL_ALIGNMENT;
@@ -106,8 +106,8 @@ static void open_pages(struct guarded *one, enum rights rights)
     one->rights = rights;
 }
 
-/* Notes a touch of a guarded block, and lets it through; answers whether it was one. The first touch is let through as a
- * read. Where it is a write it comes again at once, and is noted as one. */
+/* Notes a touch of a guarded block, and lets it through; answers whether it was one. The first touch is let through as
+ * a read. Where it is a write it comes again at once, and is noted as one. */
 int let_touch(const unsigned char *address)
 {
     struct guarded *one = guarded_around(address);

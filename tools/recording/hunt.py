@@ -49,7 +49,7 @@ from stacks import shown, words_of
 
 RING_RECORDS = 1 << 19
 LONGEST_COMMAND = 60
-LONGEST_JOURNAL = 20000000
+MOST_ENTRIES = 50000
 NUMBERS = {'--last': 'last', '--seeds': 'seeds', '--frames': 'frames'}
 FILES = {'-o': 'folder', '--json': 'json', '--replayer': 'replayer'}
 
@@ -118,7 +118,8 @@ class Process:
 
     def name_sites(self):
         """Asks for all names that are needed, at once."""
-        wanted = {event.site for seen in self.notes.misuses for event in (seen.here, seen.given, seen.freed, seen.right)}
+        wanted = {event.site for seen in self.notes.misuses
+                  for event in (seen.here, seen.given, seen.freed, seen.right)}
         if self.sites and self.replay:
             self.sites.name(wanted | self.replay.sites())
 
@@ -142,7 +143,7 @@ class Process:
         for ending, text in texts.items():
             with open(base + ending, 'w', encoding='utf-8', errors='surrogateescape') as file:
                 file.write(text)
-        if len(texts['.journal']) > LONGEST_JOURNAL:
+        if texts['.journal'].count('\n') > MOST_ENTRIES:
             say('hunt: %s.journal is too long for a page' % base)
         elif texts['.journal']:
             subprocess.run([os.path.join(TOP, 'tools', 'picture'), '-o', base + '.html', base + '.journal'])
@@ -213,7 +214,7 @@ def look_again(program, faults, given, seconds, options):
 
 def summary(faults, processes):
     """The last line."""
-    calls = sum(process.notes.total for process in processes)
+    calls = sum(process.notes.calls for process in processes)
     threads = sum(process.notes.threads for process in processes)
     text = 'hunt: %s in %s of %s' % (count(len(faults), 'fault'), count(calls, 'call'), count(threads, 'thread'))
     if len(processes) > 1:
@@ -233,7 +234,7 @@ def tell(options, faults, processes):
         say(fault.paragraph(options.frames) + '\n')
     for process in processes:
         process.tell(options)
-    if faults and not any(frame.file for fault in faults for frames in fault.stacks.values() for frame in frames):
+    if faults and not any(fault.has_lines(options.frames) for fault in faults):
         say('hunt: compile with -g, and lines are named')
     if options.json:
         with open(options.json, 'w', encoding='utf-8') as file:

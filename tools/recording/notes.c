@@ -1,5 +1,5 @@
-/* The notes of a process: a file under NOTES_FOLDER that is mapped, so what was noted stays where the process is killed.
- * Behind its head stand misuses, each with what is known of its block, and then calls; notes.py reads it. */
+/* The notes of a process: a file under NOTES_FOLDER that is mapped, so what was noted stays where the process is
+ * killed. Behind its head stand misuses, each with what is known of its block, and then calls; notes.py reads it. */
 #include "recorder.h"
 
 #define MOST_FAULTS 4096
@@ -134,6 +134,8 @@ void note(struct record record)
     record.site = own.site;
     if (head->threads < own.thread)
         head->threads = own.thread;
+    if (record.kind == TAIL_WRITE || record.kind == FREED_WRITE)
+        head->stray_writes++;
     records[head->records % MOST_RECORDS] = record;
     __atomic_store_n(&head->records, head->records + 1, __ATOMIC_RELEASE);
 }

@@ -12,7 +12,7 @@ from collections import namedtuple
 INHERITED, INHERITED_FREE = 20, 21
 LIVE, KEPT, GONE = 1, 2, 3
 
-HEAD = struct.Struct('=11Q64s')
+HEAD = struct.Struct('=12Q64s')
 HEAD_BYTES = 4096
 FAULT = struct.Struct('=3B5x6Q' + 'QII' * 4 + '8x')
 MOST_FAULTS = 4096
@@ -43,16 +43,16 @@ def records_of(block):
 class Notes:
     """The notes of one process, from its first call to its end or to an exec.
 
-    `command` has its words, `total` counts what it noted, `count` what is kept of it, `left_out` what found no room in
-    the file; `first` is the number of the first note that is kept.
+    `command` has its words, `calls` counts its calls, `total` what it noted, stray writes too, `count` what is kept of
+    it, `left_out` what found no room in the file; `first` is the number of the first note that is kept.
     """
 
     def __init__(self, path):
         with open(path, 'rb') as file:
             self.bytes = mmap.mmap(file.fileno(), 0, access=mmap.ACCESS_READ)
         (self.total, self.left_out, self.started, self.process, is_fork, self.most, misuses, self.misuses_left_out,
-         self.ended_by, length, self.threads, sites) = HEAD.unpack_from(self.bytes)
-        self.path, self.is_fork = path, bool(is_fork)
+         self.ended_by, length, self.threads, stray_writes, sites) = HEAD.unpack_from(self.bytes)
+        self.path, self.is_fork, self.calls = path, bool(is_fork), self.total - stray_writes
         self.sites_path = os.path.join(os.path.dirname(path), sites.rstrip(b'\0').decode()) if sites[0] else None
         self.count = min(self.total, self.most)
         self.first = self.total - self.count

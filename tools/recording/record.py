@@ -118,10 +118,11 @@ def build_library(folder, settings=()):
     rights may write there too."""
     library = os.path.join(folder, 'noting.so')
     if any(sign in folder for sign in ' :"\\'):
-        raise Failed('the folder for temporary files may have no space, colon, quote or backslash in its path', 2)
-    words = [compiler(), '-std=gnu11', '-D_GNU_SOURCE', '-O2', '-shared', '-fPIC', '-ftls-model=initial-exec', '-pthread',
-             '-static-libgcc', '-DNOTES_FOLDER="%s"' % folder, *('-D' + setting for setting in settings),
-             '-o', library, *SOURCES, '-ldl']
+        raise Failed('the folder for temporary files may have no space, colon, quote or backslash in its path',
+                     STATUS_OF_WORDS)
+    settings = ['NOTES_FOLDER="%s"' % folder, '_GNU_SOURCE', *settings]
+    words = [compiler(), '-std=gnu11', '-O2', '-shared', '-fPIC', '-ftls-model=initial-exec', '-pthread',
+             '-static-libgcc', *('-D' + setting for setting in settings), '-o', library, *SOURCES, '-ldl']
     done = subprocess.run(words, capture_output=True, text=True)
     if done.returncode:
         raise Failed('the C compiler failed: %s' % (done.stderr.strip().splitlines() or ['no message'])[0], 2)
@@ -138,8 +139,8 @@ def surroundings(library):
 
 
 def run_program(words, library, given=None):
-    """Runs the program with the library in front, and answers its number and status. An interrupt is the program's to take. It
-    reads `given`, a file that is closed here then, or standard input."""
+    """Runs the program with the library in front, and answers its number and status. An interrupt is the program's to
+    take. It reads `given`, a file that is closed here then, or standard input."""
     try:
         program = subprocess.Popen(words, env=surroundings(library), stdin=given)
     except OSError as error:

@@ -105,8 +105,9 @@ struct head {
     uint64_t ended_by;   /* a signal */
     uint64_t command_bytes;
     uint64_t threads;
+    uint64_t stray_writes; /* that were noted beside calls */
     char sites[64];      /* the name of the file of the stacks */
-    char command[PAGE_BYTES - 152];
+    char command[PAGE_BYTES - 160];
 };
 
 _Static_assert(sizeof(struct record) == 64 && sizeof(struct fault) == 128 && sizeof(struct head) == PAGE_BYTES,
@@ -122,6 +123,7 @@ struct block {
     uint8_t state;
     uint8_t align;             /* a power of two */
     uint8_t is_guarded;
+    uint8_t is_overwritten;    /* its tail was, and it lives */
     struct event given, freed;
     struct event right;        /* the last call at which it was right, as far as is known */
     struct block *in_bucket;

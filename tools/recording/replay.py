@@ -13,8 +13,8 @@ from trace import MOST_STEPS, Maker, asked_of
 
 TOP = os.path.dirname(os.path.dirname(os.path.dirname(os.path.abspath(__file__))))
 # The marked texts of docs/TRACES.md.
-MARKED = re.compile(r'(\d+)\.(\d+)\.(\d+) ((?:overwritten|no slot|unused|double free|not live|outside|wrong size|canary|'
-                    r'trap|half moved).*)')
+MARKED = re.compile(r'(\d+)\.(\d+)\.(\d+) ((?:overwritten|no slot|unused|double free|not live|outside|wrong size|'
+                    r'canary|trap|half moved).*)')
 MOST_TRIES = 6
 MOST_UNPROVED_STEPS = 20000
 STATUS_OF_FINDINGS = 1
@@ -136,7 +136,8 @@ class Replay:
     def join(self, fault, sites):
         """Gives a fault what the replays say of it."""
         seen = fault.seen
-        if seen.here.call < self.maker.first:
+        fault.is_early = seen.here.call < self.maker.first
+        if fault.is_early:
             return
         fault.tried = sorted(self.findings)
         fault.passes = why_it_passes(seen, seen.block in self.releases)
@@ -148,8 +149,8 @@ class Replay:
                     break
 
     def is_of(self, seen, call, text):
-        """Whether a finding is of a misuse: of its own call, of the one that frees the block, or of a write to its freed
-        slot."""
+        """Whether a finding is of a misuse: of its own call, of the one that frees the block, or of a write to its
+        freed slot."""
         calls = {seen.here.call}
         if seen.kind == TAIL_WRITE:
             calls.add(self.releases.get(seen.block))

@@ -1,5 +1,5 @@
-"""A second run of a program, in which the blocks of suspect call sites lie on guarded pages, so that the line of a stray
-write or read is known."""
+"""A second run of a program, in which the blocks of suspect call sites lie on guarded pages, so that the line of a
+stray write or read is known."""
 
 import os
 import shutil
@@ -58,13 +58,15 @@ def same_write(first, second):
 
 
 def join(faults, second):
-    """Gives a stray write its line; what the first run did not see, as a read, is a fault of its own."""
+    """Gives a stray write its line: that of the same block, else of the same call site. What the first run did not see,
+    as a read, is a fault of its own."""
     same = [fault for fault in faults if same_write(fault, second)]
-    if any(fault.stacks.get('done') == second.stacks['here'] for fault in same):
-        return
+    same.sort(key=lambda fault: second.seen.block not in fault.blocks)
+    line = second.stacks['here']
     for fault in same:
-        if 'done' not in fault.stacks:
-            fault.stacks['done'], fault.done_by = second.stacks['here'], second.seen.here.thread
+        is_known = fault.stacks.setdefault('done', line) == line
+        if is_known:
+            fault.done_by = fault.done_by or second.seen.here.thread
             return
     faults.append(second)
 

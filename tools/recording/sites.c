@@ -139,7 +139,7 @@ __attribute__((noinline)) void take_backtrace(struct backtrace *trace)
     trace->hash = hash_of(trace);
 }
 
-/* ---- modules; in a turn, so without the loader's lock, which a thread may hold that waits for the turn ---- */
+/* ---- modules: in a turn, so without the loader's lock, as a thread that holds it may wait for the turn ---- */
 
 /* A line of the system's list of what is mapped. */
 struct mapping {
@@ -193,7 +193,7 @@ static struct mapping mapping_of(const char *line)
     return mapping;
 }
 
-/* Grows a module by a mapping of the same file, or begins another; its bias is the first mapping's place in the file. */
+/* Grows a module by a mapping of its file, or begins another; its bias is the first mapping's place in the file. */
 static void add_mapping(struct module *module, const struct mapping *mapping)
 {
     int goes_on = mapping->start == module->end || mapping->offset != 0;

@@ -6,6 +6,7 @@ import re
 # Modules that are no part of the program: the C and C++ libraries and the loader, and then interpreters.
 SYSTEM = re.compile(r'(ld-linux|ld-musl|lib(c|m|dl|rt|pthread|stdc\+\+|c\+\+|c\+\+abi|gcc_s)[-.])')
 INTERPRETER = re.compile(r'(lib)?(python|perl|ruby|node|lua|php|guile|tcl|bash|dash)[-\d.]*m?(\.so[\d.]*)?$')
+ENDS = ('exit', '_exit', '_dl_fini', '__run_exit_handlers', 'quick_exit')
 BEGINNINGS = ('_start', '__libc_start', 'start_thread', 'clone', '__clone', 'operator new', 'operator delete')
 
 
@@ -43,4 +44,6 @@ def lines_of(title, frames, most):
     """A stack with its title."""
     if not frames:
         return ['  %s: not known' % title]
+    if all(map(is_of_system, frames)) and any(frame.function in ENDS for frame in frames):
+        return ['  %s:' % title, '    at the end of the program']
     return ['  %s:' % title] + ['    ' + words_of(frame) for frame in shown(frames, most)]

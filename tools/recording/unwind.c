@@ -1,6 +1,6 @@
 /* Finds the frames of a call by the program's unwind tables (.eh_frame), so programs without frame pointers work. What
- * the tables say of a return address is read once and kept as a rule, so a frame costs one look-up; no lock is taken and
- * no memory. Where they say more than a rule holds, it answers that the tables were not enough.
+ * the tables say of a return address is read once and kept as a rule, so a frame costs one look-up; no lock is taken
+ * and no memory. Where they say more than a rule holds, it answers that the tables were not enough.
  *
  * For x86-64 with glibc from 2.35 on, which finds the table of an address without a lock. The forms are those of DWARF,
  * version 5, section 6.4, and of the Linux Standard Base's .eh_frame and .eh_frame_hdr.
@@ -407,7 +407,8 @@ struct registers {
 /* Goes on to the caller; answers whether there is one. */
 static int go_to_caller(struct registers *registers, struct rule rule)
 {
-    uint64_t frame = (rule.frame == BY_STACK ? registers->stack : registers->base) + (uint64_t)(int64_t)rule.frame_offset;
+    uint64_t frame = rule.frame == BY_STACK ? registers->stack : registers->base;
+    frame += (uint64_t)(int64_t)rule.frame_offset;
     if (rule.frame == FROM_BASE)
         frame = *(uint64_t *)frame;
     if (frame <= registers->stack || frame % 8 || frame - registers->stack > LARGEST_FRAME)
