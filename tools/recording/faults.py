@@ -139,12 +139,14 @@ class Fault:
             return 'It came before the calls that are replayed.'
         if not self.is_first or not self.tried:
             return ''
-        seeds = ' with %d of %d seeds' % (len(self.stops), len(self.tried)) if len(self.tried) > 1 else ''
         if not self.stops:
-            many = ' with any of %d seeds' % len(self.tried) if len(self.tried) > 1 else ''
-            return 'A hardened allocator would not stop it%s: %s.' % (many, self.passes)
+            seeds = ', with each of %d seeds' % len(self.tried) if len(self.tried) > 1 else ''
+            return 'A hardened allocator would let it pass%s: %s.' % (seeds, self.passes)
+        seeds = ' with %d of %d seeds' % (len(self.stops), len(self.tried)) if len(self.tried) > 1 else ''
         text, frames = self.stops[min(self.stops)]
         where = ', at ' + words_of(shown(frames, 1)[0]) if frames else ''
+        if self.is_write() and text.startswith('trap'):
+            where = ', at the write itself'
         return 'A hardened allocator stops it%s: "%s"%s.' % (seeds, text, where)
 
     def as_json(self):
@@ -178,7 +180,7 @@ def why_freed_passes(seen):
         return 'a freed slot is zero, as is the byte that was written'
     if seen.offset >= size:
         return 'the last 8 bytes of a freed slot are not compared'
-    return 'the slot still waited in quarantine, or was not given again before the end'
+    return 'its slot was not given again before the end'
 
 
 def why_it_passes(seen, was_freed):

@@ -5,6 +5,7 @@ import os
 import re
 import shlex
 import subprocess
+import sys
 
 from faults import why_it_passes
 from notes import FREE, FREED_WRITE, LIVE, REALLOC, SIZED_FREE, TAIL_WRITE
@@ -47,6 +48,8 @@ class Replayer:
 
     def run(self, text, seed):
         """The status, the report, and what it says of an error."""
+        if not self.is_proved and not self.command:
+            print('hunt: no program is proved yet, so an unproved one replays, in half a minute or two', file=sys.stderr)
         words = self.command or [self.program, 'run', '--seed', str(seed)]
         done = subprocess.run(words, input=text, stdout=subprocess.PIPE, stderr=subprocess.PIPE, text=True)
         return done.returncode, done.stdout, done.stderr

@@ -84,7 +84,7 @@ static void call_handler(const struct sigaction *action, int number, siginfo_t *
         action->sa_handler(number);
 }
 
-/* Compares the blocks, and does what the signal does. After a trap the instruction comes again, and ends the process. */
+/* Compares the blocks, and does what the signal does: after a trap the instruction comes again and ends it. */
 static void end_by(int number, const siginfo_t *info)
 {
     if (!own.has_turn)
