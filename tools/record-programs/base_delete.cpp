@@ -1,4 +1,4 @@
-// Deletes an object by its base class, which has no virtual destructor.
+// Deletes an object by its base class, which has no virtual destructor. @stops wrong size 112 16
 struct Base {
     int kind = 1;
 };

@@ -1,4 +1,4 @@
-/* Waits for a signal; a block that stays live was overflowed. Its child ends it by SIGTERM. */
+/* Waits for a signal; a block that stays live was overflowed. Its child ends it by SIGTERM. @passes */
 #include <signal.h>
 #include <stdlib.h>
 #include <string.h>

@@ -1,4 +1,4 @@
-/* Frees a block twice. */
+/* Frees a block twice. @stops double free */
 #include <stdlib.h>
 
 int main(void)

@@ -1,4 +1,5 @@
-/* One thread hands 5,000 blocks to another, which frees them; then the first frees the last one again. */
+/* One thread hands 5,000 blocks to another, which frees them; then the first frees the last one again.
+ * @stops double free */
 #include <pthread.h>
 #include <semaphore.h>
 #include <stdlib.h>

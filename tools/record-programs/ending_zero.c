@@ -1,4 +1,4 @@
-/* Copies a text without room for its terminating zero. */
+/* Copies a text without room for its terminating zero. @passes */
 #include <stdlib.h>
 #include <string.h>
 

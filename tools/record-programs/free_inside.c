@@ -1,4 +1,4 @@
-/* Frees an address inside a block: a text whose leading blanks were passed over. */
+/* Frees an address inside a block: a text whose leading blanks were passed over. @stops no slot */
 #include <stdlib.h>
 #include <string.h>
 

@@ -1,4 +1,4 @@
-/* Frees a block twice in the last of 700,000 calls. */
+/* Frees a block twice in the last of 700,000 calls. @stops double free */
 #include <stdlib.h>
 
 int main(void)

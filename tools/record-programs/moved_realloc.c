@@ -1,4 +1,4 @@
-/* Writes through a pointer to a block that realloc has moved. */
+/* Writes through a pointer to a block that realloc has moved. @passes */
 #include <stdlib.h>
 #include <string.h>
 

@@ -1,4 +1,4 @@
-/* Writes one byte behind a block of 20 bytes: the slot has 24, so the allocator lets it pass. */
+/* Writes one byte behind a block of 20 bytes: the slot has 24, so the allocator lets it pass. @passes */
 #include <stdlib.h>
 #include <string.h>
 

@@ -1,4 +1,4 @@
-/* Writes one byte behind a block of 24 bytes, which fills its slot. */
+/* Writes one byte behind a block of 24 bytes, which fills its slot. @stops canary at 0 */
 #include <stdlib.h>
 #include <string.h>
 

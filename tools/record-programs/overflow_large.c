@@ -1,4 +1,4 @@
-/* Writes one byte behind a large block. */
+/* Writes one byte behind a large block. @stops trap at +0 */
 #include <stdlib.h>
 
 int main(void)

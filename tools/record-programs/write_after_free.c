@@ -1,4 +1,4 @@
-/* Writes to a freed block, and goes on until its slot is given again. */
+/* Writes to a freed block, and goes on until its slot is given again. @stops overwritten at 8 found 41 */
 #include <stdlib.h>
 
 int main(void)

@@ -1,4 +1,5 @@
-/* Writes to a block that was freed long ago, and goes on until its slot is given again. */
+/* Writes to a block that was freed long ago, and goes on until its slot is given again.
+ * @stops overwritten at 8 found 41 */
 #include <stdlib.h>
 
 static void work(int turns)

@@ -1,4 +1,4 @@
-/* Writes to a freed block, and ends before its slot is given again. */
+/* Writes to a freed block, and ends before its slot is given again. @passes */
 #include <stdlib.h>
 
 int main(void)

@@ -1,4 +1,4 @@
-// Deletes a block of 100 bytes as one of 200, and then one with its own size.
+// Deletes a block of 100 bytes as one of 200, and then one with its own size. @stops wrong size 112 224
 #include <new>
 
 int main()

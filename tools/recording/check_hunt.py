@@ -4,8 +4,8 @@ Hunts in each program of a folder and compares the lines that are named with tho
 how it ends with how it ends by itself. tools/check calls it.
 
 A mark is in a comment: `@allocated`, `@freed`, `@here` (what a call did), `@write`, `@read` (by the second run),
-`@seen` (where a stray write was noticed; it is compared where there is such a mark). A program without marks has no
-fault.
+`@seen` (where a stray write was noticed; it is compared where there is such a mark). `@stops TEXT`, or `@passes`, says
+what the allocator does. A program without marks has no fault.
 """
 
 import json
@@ -19,6 +19,7 @@ from record import ending
 
 HUNT = os.path.join(os.path.dirname(os.path.dirname(os.path.abspath(__file__))), 'hunt')
 MARK = re.compile(r'@(allocated|freed|here|write|read|seen)\b')
+VERDICT = re.compile(r'@(stops (.*?)|passes) *(\*/)?$', re.MULTILINE)
 LIBRARIES = ['-pthread', '-ldl']
 COMPILERS = {'.c': ['cc'], '.cpp': ['c++', '-std=c++17', '-fsized-deallocation']}
 WAYS_OF_ENDING = ['exit', '_exit', '_Exit', 'quick_exit', 'abort', 'raise', 'exec', 'handler', 'null', 'divide', 'trap',
@@ -33,6 +34,17 @@ def marks(path):
             for mark in MARK.findall(line):
                 found.setdefault(mark, set()).add(number)
     return found
+
+
+def is_judged(path, faults):
+    """Whether the faults say of the allocator what the source says, where they were replayed."""
+    with open(path, encoding='utf-8') as file:
+        mark = VERDICT.search(file.read())
+    told = [fault['allocator'] for fault in faults if fault['allocator']]
+    if not mark or not told:
+        return True
+    return any('stops it' in text and '"%s"' % mark.group(2) in text if mark.group(2) else 'let it pass' in text
+               for text in told)
 
 
 def mark_of(fault, stack):
@@ -110,6 +122,8 @@ class Checker:
             self.differs(name, 'named %s, not %s:\n%s' % (found, wanted, text))
         elif ended not in text and not self.is_stopped_by_library(plain):
             self.differs(name, 'it does not end as by itself, with %s:\n%s' % (ending(plain.returncode), text))
+        elif not is_judged(path, faults):
+            self.differs(name, 'it says another thing of the allocator:\n%s' % text)
         else:
             lines = ', '.join('%s %s' % (mark, ' '.join(map(str, sorted(found[mark])))) for mark in sorted(found))
             print('hunt %s: as expected: %s' % (name, lines or 'no fault'), flush=True)
@@ -130,7 +144,7 @@ def main():
             program = checker.build(path)
             if program and file == 'ends.c':
                 for way in WAYS_OF_ENDING:
-                    checker.compare(path, program, [way], ['--once', '--seeds', '1'])
+                    checker.compare(path, program, [way], ['--once', '--seeds', '0'])
             elif program:
                 checker.compare(path, program)
         sys.exit(1 if checker.failed else 0)

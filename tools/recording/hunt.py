@@ -8,7 +8,7 @@ this goes to standard error; standard output, the status and the signals are the
   --once         it is not: by itself it is run again where a stray write was seen and the run took less than a minute
   --last N       so many calls at the end are replayed (as many as a trace takes, 400,000)
   --one-thread   they are replayed in one thread, in the order in which they were made
-  --seeds N      with so many seeds it is replayed where the first shows nothing (8)
+  --seeds N      with so many seeds it is replayed where the first shows nothing (8); with 0 it is not replayed
   --frames N     so many frames of a stack are shown (5)
   --look-at SIG  at this signal, as SIGUSR2, blocks are compared, and the program goes on
   --json FILE    each fault becomes a line of JSON
@@ -73,7 +73,7 @@ class Options:
             self.runs_again = word == '--again'
         elif word == '--one-thread':
             self.one_thread = True
-        elif word in NUMBERS and words and words[0].isdigit() and int(words[0]):
+        elif word in NUMBERS and words and words[0].isdigit() and (int(words[0]) or word == '--seeds'):
             setattr(self, NUMBERS[word], int(words.pop(0)))
         elif word in FILES and words:
             setattr(self, FILES[word], words.pop(0))
@@ -110,7 +110,7 @@ class Process:
         self.notes = notes
         self.sites = Sites(notes.sites_path) if notes.sites_path else None
         self.replay, self.faults = None, []
-        if notes.misuses or options.folder:
+        if (notes.misuses and options.seeds) or options.folder:
             self.replay = Replay(notes, options, replayer)
             self.replay.run(options.seeds if notes.misuses else 1)
         self.name_sites()
@@ -120,8 +120,8 @@ class Process:
         """Asks for all names that are needed, at once."""
         wanted = {event.site for seen in self.notes.misuses
                   for event in (seen.here, seen.given, seen.freed, seen.right)}
-        if self.sites and self.replay:
-            self.sites.name(wanted | self.replay.sites())
+        if self.sites:
+            self.sites.name(wanted | (self.replay.sites() if self.replay else set()))
 
     def make_faults(self):
         """Makes a fault of each misuse; the first of a block is the one of which the allocator is asked."""
@@ -130,7 +130,8 @@ class Process:
             fault = Fault(seen, self.sites)
             fault.is_first = not seen.block or seen.block not in seen_blocks
             seen_blocks.add(seen.block)
-            self.replay.join(fault, self.sites)
+            if self.replay:
+                self.replay.join(fault, self.sites)
             one = merged.setdefault(fault.key(), fault)
             if one is not fault:
                 one.take_in(fault)
@@ -181,7 +182,7 @@ def record_program(program, options, folder, given):
     except Failed as failed:
         raise Failed(str(failed), 3)
     say('hunt: %s ended with %s' % (program[0], record.ending(status)))
-    record.wait_for_others()
+    record.wait_for_others(lambda text: say('hunt: ' + text))
     return time.monotonic() - started
 
 
@@ -203,7 +204,7 @@ def look_again(program, faults, given, seconds, options):
         return faults
     try:
         second_run(program, faults, given.for_second_run(), seconds, options.look_at)
-    except OSError as error:
+    except (OSError, Failed) as error:
         say('hunt: the second run failed: %s' % error)
     faults = merge(faults)
     missing = sum(fault.is_write() and 'done' not in fault.stacks for fault in faults)

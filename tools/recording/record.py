@@ -158,14 +158,14 @@ def adopt_orphans():
     ctypes.CDLL(None).prctl(PR_SET_CHILD_SUBREAPER, 1, 0, 0, 0)
 
 
-def wait_for_others():
+def wait_for_others(tell_user=say):
     """Waits until all that the program has left behind has ended, or for an interrupt."""
     for number in (signal.SIGINT, signal.SIGTERM):
         signal.signal(number, signal.default_int_handler)
     try:
         while os.waitpid(-1, os.WNOHANG)[0]:
             pass
-        say('waiting for processes that the program has left behind (Ctrl-C ends this)')
+        tell_user('waiting for processes that the program has left behind (Ctrl-C ends this)')
         while True:
             os.wait()
     except (ChildProcessError, KeyboardInterrupt):

@@ -49,7 +49,8 @@ class Replayer:
     def run(self, text, seed):
         """The status, the report, and what it says of an error."""
         if not self.is_proved and not self.command:
-            print('hunt: no program is proved yet, so an unproved one replays, in half a minute or two', file=sys.stderr)
+            print('hunt: no program is proved yet, so an unproved one replays, in half a minute or two',
+                  file=sys.stderr)
         words = self.command or [self.program, 'run', '--seed', str(seed)]
         done = subprocess.run(words, input=text, stdout=subprocess.PIPE, stderr=subprocess.PIPE, text=True)
         return done.returncode, done.stdout, done.stderr

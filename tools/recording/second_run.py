@@ -7,6 +7,7 @@ import signal
 import struct
 import subprocess
 import tempfile
+import time
 
 import record
 from faults import Fault
@@ -18,6 +19,7 @@ MOST_RECORDS = 1024
 LONGEST_FIRST_RUN = 60
 SECONDS_MORE = 10
 SECONDS_TO_END = 5
+SECONDS_BETWEEN = 0.02
 
 
 def suspects_of(faults):
@@ -25,30 +27,49 @@ def suspects_of(faults):
     return sorted({fault.site_hash for fault in faults if fault.is_write() and fault.site_hash})[:MOST_SUSPECTS]
 
 
+def children():
+    """The processes that this one has started or adopted."""
+    found = []
+    for name in filter(str.isdigit, os.listdir('/proc')):
+        try:
+            with open('/proc/%s/stat' % name, encoding='latin-1') as file:
+                words = file.read().rpartition(')')[2].split()
+        except OSError:
+            continue
+        if int(words[1]) == os.getpid():
+            found.append(int(name))
+    return found
+
+
+def have_ended(until):
+    """Waits until all children have ended; answers whether they have by that time."""
+    while time.monotonic() < until:
+        try:
+            if os.waitpid(-1, os.WNOHANG)[0] == 0:
+                time.sleep(SECONDS_BETWEEN)
+        except ChildProcessError:
+            return True
+    return False
+
+
+def end_children():
+    """Ends them as a user would, and then for certain, also those that are adopted meanwhile."""
+    for number in (signal.SIGTERM, signal.SIGKILL, signal.SIGKILL):
+        for process in children():
+            os.kill(process, number)
+        if have_ended(time.monotonic() + SECONDS_TO_END):
+            return
+
+
 def run_guarded(program, folder, given, seconds, look_at):
-    """Runs the program in a session of its own, its output left out, for so many seconds at the most."""
+    """Runs the program in a session of its own, its output left out, for so many seconds at the most; what it leaves
+    behind, as a daemon, too."""
     library = record.build_library(folder, ['TAKES_STACKS=1', 'KEEPS_LAST=1', 'MOST_RECORDS=%d' % MOST_RECORDS,
                                             'LOOK_AT=%d' % look_at, 'SUSPECTS="%s/suspects"' % folder])
-    process = subprocess.Popen(program, env=record.surroundings(library), stdin=given, stdout=subprocess.DEVNULL,
-                               stderr=subprocess.DEVNULL, start_new_session=True)
-    try:
-        process.wait(seconds)
-    except subprocess.TimeoutExpired:
-        end_group(process)
-    try:
-        os.killpg(process.pid, signal.SIGKILL)
-    except ProcessLookupError:
-        pass
-
-
-def end_group(process):
-    """Ends it as a user would, and then for certain."""
-    os.killpg(process.pid, signal.SIGTERM)
-    try:
-        process.wait(SECONDS_TO_END)
-    except subprocess.TimeoutExpired:
-        os.killpg(process.pid, signal.SIGKILL)
-        process.wait()
+    subprocess.Popen(program, env=record.surroundings(library), stdin=given, stdout=subprocess.DEVNULL,
+                     stderr=subprocess.DEVNULL, start_new_session=True)
+    if not have_ended(time.monotonic() + seconds):
+        end_children()
 
 
 def same_write(first, second):

@@ -21,10 +21,13 @@ def is_of_system(frame):
 
 
 def shown(frames, most):
-    """The frames to show, at most so many: the program's own; where there is none, those of an interpreter too."""
+    """The frames to show, at most so many: the program's own, from the innermost that has a name on; where there is
+    none, those of an interpreter too."""
     outside = [frame for frame in frames if not is_of_system(frame)]
     own = [frame for frame in outside if not INTERPRETER.match(module_name(frame))]
-    return (own or outside or frames)[:most]
+    kept = own or outside or frames
+    first_named = next((place for place, frame in enumerate(kept) if frame.function), 0)
+    return kept[first_named:][:most]
 
 
 def words_of(frame):
