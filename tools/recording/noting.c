@@ -110,9 +110,12 @@ static int is_wrong_size(const struct block *block, const struct record *record)
     return record->kind == SIZED_FREE && block->size != record->first && !(record->first == 1 && block->size == 0);
 }
 
-/* Frees a live block, and notes and ignores every other call: the C library would end the process. The size that is
- * stated counts for blocks that C++ gave, as a program may have operators of its own. */
-static void free_noted(void *address, struct record record)
+/* Who states the size of a sized free. */
+enum stated_by { NO_ONE, CXX, C };
+
+/* Frees a live block, and notes and ignores every other call: the C library would end the process. The size that C++
+ * states counts for blocks that it gave, as a program may have operators of its own. */
+static void free_noted(void *address, struct record record, enum stated_by stated_by)
 {
     int error = errno;
     take_turn();
@@ -123,7 +126,7 @@ static void free_noted(void *address, struct record record)
     record.offset = place.offset;
     if (is_right)
         look_at_tail(block);
-    if (block && !is_of_cxx(block->given.site))
+    if (stated_by == CXX && block && !is_of_cxx(block->given.site))
         record.kind = FREE;
     if (is_right ? is_wrong_size(block, &record) : address != NULL)
         note_fault(block, record);
@@ -142,7 +145,8 @@ void free(void *address)
     int is_sized = address && own.deleted == address;
     if (is_sized)
         own.deleted = NULL;
-    free_noted(address, (struct record){ .kind = is_sized ? SIZED_FREE : FREE, .first = is_sized ? own.stated : 0 });
+    free_noted(address, (struct record){ .kind = is_sized ? SIZED_FREE : FREE, .first = is_sized ? own.stated : 0 },
+               is_sized ? CXX : NO_ONE);
 }
 
 /* Notes a realloc of what is no live block, which gives none, and gives a fresh one, with the old bytes if any. */
@@ -210,7 +214,7 @@ void *realloc(void *old, size_t size)
     if (!old)
         return note_given((struct record){ .kind = REALLOC, .first = size }, __libc_malloc(with_tail(size)), size);
     if (size == 0) {
-        free_noted(old, (struct record){ .kind = FREE });
+        free_noted(old, (struct record){ .kind = FREE }, NO_ONE);
         return NULL;
     }
     take_turn();
@@ -291,11 +295,11 @@ void _ZdaPvmSt11align_val_t(void *address, size_t size, size_t alignment)
 /* free_sized and free_aligned_sized of C23, which the C library may lack */
 void free_sized(void *address, size_t size)
 {
-    free_noted(address, (struct record){ .kind = FREE, .first = size });
+    free_noted(address, (struct record){ .kind = SIZED_FREE, .first = size }, C);
 }
 
 void free_aligned_sized(void *address, size_t alignment, size_t size)
 {
     (void)alignment;
-    free_noted(address, (struct record){ .kind = FREE, .first = size });
+    free_noted(address, (struct record){ .kind = SIZED_FREE, .first = size }, C);
 }
