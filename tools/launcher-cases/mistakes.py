@@ -5,7 +5,7 @@ WELL = f"{HEAD}malloc x 100\nfree x\nend\n"
 
 
 class Mistake:
-    """A call with its words and input, a text that standard error must have, and the words and input of the next try."""
+    """A call with its words and input, a text that standard error must have, and the words and input of the next one."""
 
     def __init__(self, words, given, told, next_words=None, next_given=None):
         self.words, self.given, self.told = words.split(" ") if words else [], given, told
@@ -20,7 +20,7 @@ def of_trace(given, told, next_given=WELL):
 WORDS = [
     Mistake("", WELL, "usage: ./hmreplay COMMAND", "run"),
     Mistake("--help", WELL, "example: ./hmreplay run --seed 7 < examples/", "run --seed 7"),
-    Mistake("run examples/first.hmtrace", WELL, "the trace comes by standard input: run < examples/first.hmtrace", "run"),
+    Mistake("run examples/first.hmtrace", WELL, "comes by standard input: run < examples/first.hmtrace", "run"),
     Mistake("examples/first.hmtrace", WELL, "the command comes first, and the trace by standard input: run <", "run"),
     Mistake("replay", WELL, "replay: no command has this name; commands are run, ", "run"),
     Mistake("--seed 1 run", WELL, "--seed 1 run: the command comes first", "run --seed 1"),
@@ -37,7 +37,7 @@ TRACES = [
     of_trace(f"\ufeff{WELL}", "it begins with a byte order mark"),
     of_trace("", "the trace comes by standard input, as in ./hmreplay run < FILE"),
     of_trace(WELL.replace("hmtrace 1\n", ""), "the first line of a trace is `hmtrace 1` or `hmtrace 2`"),
-    of_trace(WELL.replace("malloc", "mallc"), 'line 4 is "mallc x 100": no line has the word mallc first; steps are malloc,'),
+    of_trace(WELL.replace("malloc", "mallc"), 'line 4 is "mallc x 100": no line has the word mallc first; steps are'),
     of_trace(WELL.replace("thread 1\n", ""), "a line `thread T` must come before it"),
     of_trace(WELL.replace(" 100", ""), "malloc has 2 words behind it, NAME SIZE; here are 1"),
     of_trace(WELL.replace(" x 100", " x  100"), "words are separated by exactly one space"),

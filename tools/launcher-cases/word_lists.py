@@ -22,7 +22,8 @@ def by_hand():
     words = [*COMMANDS, *OPTIONS, *NUMBERS[:9], *NAMES[:3], *OTHERS]
     yield []
     yield from ([word] for word in words)
-    yield from (list(pair) for pair in itertools.product([*COMMANDS, *OPTIONS, "--", "x"], [*OPTIONS, *OTHERS, "run", "7"]))
+    pairs = itertools.product([*COMMANDS, *OPTIONS, "--", "x"], [*OPTIONS, *OTHERS, "run", "7"])
+    yield from (list(pair) for pair in pairs)
     yield from (["run", option, value] for option in OPTIONS for value in [*NUMBERS, *NAMES])
     yield from (["check", option, "1048576"] for option in OPTIONS)
     yield from (["stress", number] for number in NUMBERS if number not in ("0", "1", "7"))

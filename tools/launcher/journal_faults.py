@@ -2,7 +2,10 @@
 import re
 from lines import Text, quoted, spelling_fault
 
-CONFIG = "config ARENAS CLASS_REGION LARGE_SPACE GUARD_INTERVAL ARRAY_BASE RING_BASE PARK_LENGTH CHECK_REUSE RANDOM_SLOTS"
+CONFIG = (
+    "config ARENAS CLASS_REGION LARGE_SPACE GUARD_INTERVAL ARRAY_BASE RING_BASE PARK_LENGTH CHECK_REUSE RANDOM_SLOTS"
+)
+FIRST_LINES = ("`hmjournal 1` is wanted", f"`{CONFIG}` is wanted, of numbers that are valid", "`seed N` is wanted")
 ENTRY = "eighteen words, a call, a colon as a word, and the reply"
 # What is said of a fault alone, where the input is not known.
 FAULTS = {
@@ -55,9 +58,9 @@ def step_of(line):
 def bad_text(text, number, line):
     """Returns what is wrong with a line that no journal has there."""
     if number == 1 and line.startswith(b"hmtrace"):
-        return "this is a trace, which is run by ./hmreplay run < FILE; check reads a journal, as ./hmreplay journal writes it"
+        return "this is a trace, which is run by ./hmreplay run < FILE; check reads what ./hmreplay journal writes"
     if number == 1 and re.match(rb"[0-9]+(\.[0-9]+\.[0-9]+| note) ", line):
-        return "this is a report; check reads a journal, as ./hmreplay journal < TRACE writes it"
+        return "this is a report; check reads what ./hmreplay journal < TRACE writes"
     if number > len(text.lines):
         return "it has no line feed at its end, as where a text was cut off"
     return spelling_fault(line) or wanted(text, number)
@@ -66,7 +69,7 @@ def bad_text(text, number, line):
 def wanted(text, number):
     """Returns what has to stand in a line, by the lines before it."""
     if number <= 3:
-        return ("`hmjournal 1` is wanted", f"`{CONFIG}` is wanted, of numbers that are valid", "`seed N` is wanted")[number - 1]
+        return FIRST_LINES[number - 1]
     at, region = 4, None
     while at < number:
         words = text.line(at).split(b" ")

@@ -1,5 +1,6 @@
 """A run of a program: its words, standard input, output and status are its own, and nothing of them is changed."""
-import os, select, signal, subprocess
+import os, select, subprocess
+import signals
 
 PIECE = 1 << 20
 STEP_SECONDS = 0.5
@@ -14,33 +15,9 @@ class Ended:
         self.status, self.front = status, front
 
 
-class Stopped(Exception):
-    """A signal that ends the launcher."""
-
-    def __init__(self, number):
-        super().__init__(number)
-        self.number = number
-
-
-def stop(number, _frame):
-    raise Stopped(number)
-
-
-def watch_signals():
-    """Has a signal that would end the launcher raise Stopped, where it is not ignored."""
-    for number in (signal.SIGHUP, signal.SIGINT, signal.SIGTERM):
-        if signal.getsignal(number) != signal.SIG_IGN:
-            signal.signal(number, stop)
-
-
-def end_by(number):
-    """Ends the launcher by a signal, as it would have ended the program."""
-    signal.signal(number, signal.SIG_DFL)
-    os.kill(os.getpid(), number)
-
-
 def has_streams():
-    """Returns whether standard input, output and error are open. Else a file that is opened here would take their place."""
+    """Returns whether standard input, output and error are open. Else a file that is opened here would take the place of
+    one."""
     try:
         return all(os.fstat(descriptor) for descriptor in range(3))
     except OSError:
@@ -49,13 +26,15 @@ def has_streams():
 
 def run(program, words, given, progress):
     """Runs the program and hands on what it writes, as it comes."""
+    signals.hold()
     running = subprocess.Popen([program, *words], stdin=given.descriptor, stdout=subprocess.PIPE)
     progress.begin()
     try:
+        signals.release()
         front, is_written = hand_on(running, given, progress)
         running.stdout.close()
         status = running.wait()
-    except Stopped as stopped:
+    except signals.Stopped as stopped:
         running.send_signal(stopped.number)
         running.wait()
         raise

@@ -126,7 +126,8 @@ def unknown_word(first):
         return "the header stands in line 1 alone"
     near = difflib.get_close_matches(first.lower(), LINES, 1)
     meant = f"; is {near[0]} meant?" if near else ""
-    return f"no line has the word {first} first; steps are {', '.join(STEPS)}, other lines round, thread, note, end{meant}"
+    others = "other lines are round, thread, note, end"
+    return f"no line has the word {first} first; steps are {', '.join(STEPS)}, {others}{meant}"
 
 
 def wanted_words(first):

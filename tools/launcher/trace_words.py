@@ -18,8 +18,8 @@ STEPS = {
 A_NAME = "a letter a to z, then up to 31 letters a to z, digits or _, and not null"
 MEANING = {
     "NAME": f"a NAME is wanted: {A_NAME}",
-    "REF": f"a REF is wanted: null, @ and 1 to 16 lower-case hexadecimal digits, or a NAME ({A_NAME}), behind which + or - "
-    f"and a number from 1 to {MOST_OFFSET} may stand",
+    "REF": f"a REF is wanted: null, @ and 1 to 16 lower-case hexadecimal digits, or a NAME ({A_NAME}), behind which + or "
+    f"- and a number from 1 to {MOST_OFFSET} may stand",
     "SIZE": f"a SIZE is wanted: a number from 0 to {MOST_NUMBER}",
     "COUNT": f"a COUNT is wanted: a number from 0 to {MOST_NUMBER}",
     "ALIGN": f"an ALIGN is wanted: a number from 0 to {MOST_NUMBER}",

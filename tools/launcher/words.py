@@ -79,10 +79,9 @@ OPTIONS = {
 def are_readable(words):
     """Returns whether each word is UTF-8. Of others the program answers what it can take from the system."""
     try:
-        "".join(words).encode()
-    except UnicodeEncodeError:
+        return all(os.fsencode(word).decode() is not None for word in words)
+    except UnicodeDecodeError:
         return False
-    return True
 
 
 def asks_help(words):
