@@ -5,7 +5,7 @@ WELL = f"{HEAD}malloc x 100\nfree x\nend\n"
 
 
 class Mistake:
-    """A call with its words and input, a text that standard error must have, and the words and input of the next one."""
+    """A call's words and input, a text that standard error must have, and the words and input of the next call."""
 
     def __init__(self, words, given, told, next_words=None, next_given=None):
         self.words, self.given, self.told = words.split(" ") if words else [], given, told
@@ -28,9 +28,11 @@ WORDS = [
     Mistake("run --seed=1", WELL, "the value comes in the next word: --seed 1", "run --seed 1"),
     Mistake("run --seeds 1", WELL, "--seeds: no option has this name; options are ", "run --seed 1"),
     Mistake("run --config fast", WELL, "--config fast: standard or light is wanted", "run --config light"),
+    Mistake("run --seed --config light", WELL, "--seed: its value is missing; a number", "run --seed 1 --config light"),
+    Mistake("run --large-space 1G", WELL, "in plain decimal digits: 1073741824", "run --large-space 1073741824"),
     Mistake("run --class-region 2000000", WELL, "; 1998848 is the nearest", "run --class-region 1998848"),
     Mistake("check --seed 1", WELL, "nothing stands behind check, which takes no option", "run --seed 1"),
-    Mistake("stress 0x7", "", "is wanted behind stress, in decimal digits: 7", "stress 7"),
+    Mistake("stress 0x7", "", "is wanted behind stress, in plain decimal digits: 7", "stress 7"),
 ]
 TRACES = [
     of_trace(WELL.replace("\n", "\r\n"), "it ends with a carriage return (CRLF)"),
@@ -39,11 +41,13 @@ TRACES = [
     of_trace(WELL.replace("hmtrace 1\n", ""), "the first line of a trace is `hmtrace 1` or `hmtrace 2`"),
     of_trace(WELL.replace("malloc", "mallc"), 'line 4 is "mallc x 100": no line has the word mallc first; steps are'),
     of_trace(WELL.replace("thread 1\n", ""), "a line `thread T` must come before it"),
-    of_trace(WELL.replace(" 100", ""), "malloc has 2 words behind it, NAME SIZE; here are 1"),
+    of_trace(WELL.replace(" 100", ""), "malloc has 2 words behind it, NAME SIZE; found: 1"),
     of_trace(WELL.replace(" x 100", " x  100"), "words are separated by exactly one space"),
     of_trace(WELL.replace("x", "X"), "X: a NAME is wanted: a letter a to z, then up to 31 letters a to z, digits or _"),
-    of_trace(WELL.replace("100", "0x64"), "written in decimal digits without a leading zero: 100"),
-    of_trace(f"{HEAD}write null 1 FF\nend\n", "two digits of 0 to 9 and a to f: ff", f"{HEAD}write @0 1 ff\nend\n"),
+    of_trace(WELL.replace("100", "0x64"), "in plain decimal digits: 100"),
+    of_trace(WELL.replace("malloc x 100", "malloc x, 100"), "x,: a NAME is wanted: a letter a to z, then"),
+    of_trace(WELL.replace("free x", "free NULL"), "NULL: a REF is wanted: null,", WELL.replace("free x", "free null")),
+    of_trace(f"{HEAD}write @0 1 FF\nend\n", "two digits of 0 to 9 and a to f; ff is one", f"{HEAD}write @0 1 ff\nend\n"),
     of_trace(WELL.replace("free x\n", "# done\nfree x\n"), "a trace has no comments"),
     of_trace(WELL.replace("free x\n", "\nfree x\n"), "the line is empty; a trace has no empty lines"),
     of_trace(WELL.replace("thread", "note go\nthread"), "notes are of version 2, with `hmtrace 2` as line 1"),

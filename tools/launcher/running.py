@@ -16,8 +16,7 @@ class Ended:
 
 
 def has_streams():
-    """Returns whether standard input, output and error are open. Else a file that is opened here would take the place of
-    one."""
+    """Returns whether standard input, output and error are open: else a file that is opened would come in their place."""
     try:
         return all(os.fstat(descriptor) for descriptor in range(3))
     except OSError:

@@ -1,5 +1,6 @@
 """What `fault: trace line L KIND` means, in words, with what to do: by the line at fault where it is known."""
 import difflib
+import spellings
 from lines import Text, quoted, spelling_fault
 from trace_words import MEANING, STEPS, hint, is_well, number_in
 
@@ -68,7 +69,8 @@ def explain(text, number, line, kind):
     """Returns what is wrong with a line that stands there."""
     place, words = Place(text, number), line.decode("ascii", "replace").split(" ")
     if kind == "NoEnd":
-        return "it has no line feed at its end, and is the last; the last line must be `end` and a line feed"
+        no_text = f"; and {spelling_fault(line)}" if spelling_fault(line) else ""
+        return f"it has no line feed at its end, and is the last; the last line must be `end` and a line feed{no_text}"
     if kind == "NotAscii":
         return spelling_fault(line) or KINDS[kind]
     if kind == "BadHeader":
@@ -115,7 +117,7 @@ def bad_word(place, words):
         return "a thread stands in a round: a line `round` must come before it"
     if "" in words:
         return "words are separated by exactly one space, with none at the line's ends"
-    return f"{wanted_words(first)}; here are {len(words) - 1}"
+    return wanted_words(first, len(words) - 1)
 
 
 def unknown_word(first):
@@ -130,12 +132,12 @@ def unknown_word(first):
     return f"no line has the word {first} first; steps are {', '.join(STEPS)}, {others}{meant}"
 
 
-def wanted_words(first):
-    """Returns which words stand behind the first word of a line."""
+def wanted_words(first, found):
+    """Returns which words stand behind the first word of a line, where others, so many, are found."""
     wanted = STEPS.get(first, ("T",) if first == "thread" else ())
     if not wanted:
         return f"{first} stands alone in its line, with no word behind it"
-    return f"{first} has {len(wanted)} word{'s' * (len(wanted) > 1)} behind it, {' '.join(wanted)}"
+    return f"{first} has {len(wanted)} word{'s' * (len(wanted) > 1)} behind it, {' '.join(wanted)}; found: {found}"
 
 
 def bad_note(place):
@@ -161,4 +163,4 @@ def bad_thread(place, word):
     most = MOST_THREADS[place.version]
     if place.thread is not None and number_in(word, 1, most) is not None:
         return f"thread {place.thread} stands in line {place.thread_line}; in a round threads ascend, each at most once"
-    return f"thread T has a number from 1 to {most}{hint('SIZE', word)}"
+    return f"thread T has a number from 1 to {most}{spellings.hint(word)}"

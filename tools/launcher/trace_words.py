@@ -1,5 +1,6 @@
 """The words of a trace's lines, as docs/TRACES.md has them: which may stand where, and what may be one."""
 import re
+import spellings
 
 MOST_NUMBER = (1 << 64) - 1
 MOST_LENGTH = 1 << 20
@@ -18,8 +19,8 @@ STEPS = {
 A_NAME = "a letter a to z, then up to 31 letters a to z, digits or _, and not null"
 MEANING = {
     "NAME": f"a NAME is wanted: {A_NAME}",
-    "REF": f"a REF is wanted: null, @ and 1 to 16 lower-case hexadecimal digits, or a NAME ({A_NAME}), behind which + or "
-    f"- and a number from 1 to {MOST_OFFSET} may stand",
+    "REF": "a REF is wanted: null, @ and 1 to 16 lower-case hexadecimal digits, or a NAME, behind which + or - and a "
+    f"number from 1 to {MOST_OFFSET} may stand; a NAME is {A_NAME}",
     "SIZE": f"a SIZE is wanted: a number from 0 to {MOST_NUMBER}",
     "COUNT": f"a COUNT is wanted: a number from 0 to {MOST_NUMBER}",
     "ALIGN": f"an ALIGN is wanted: a number from 0 to {MOST_NUMBER}",
@@ -66,15 +67,17 @@ def is_well(kind, word):
 
 def hint(kind, word):
     """Returns what may help where a word is another spelling of what is wanted, or an empty text."""
-    if kind == "NAME" or kind == "REF" and not re.search("[+-]", word):
-        other = word.lower().replace("-", "_")
-        return f"; {other} is one" if other != word and is_name(other) else ""
     if kind == "BYTE":
-        other = word.lower().replace("0x", "", 1).zfill(2)
-        return f": {other}" if other != word and is_well(kind, other) else ""
-    digits = re.split("[+-]", word)[-1] if kind == "REF" else word
-    try:
-        number = int(digits, 0 if re.match("0[xob]", digits) else 10)
-    except ValueError:
+        return one_of(kind, word.lower().replace("0x", "", 1).zfill(2))
+    if word.startswith("@"):
+        return one_of(kind, "@" + (re.sub("^(0x)?0*", "", word[1:].lower()) or "0"))
+    if kind == "REF" and re.search("[+-]", word):
         return ""
-    return f", written in decimal digits without a leading zero: {number}" if str(number) != digits else ""
+    if kind in ("NAME", "REF"):
+        return one_of(kind, re.sub("[^a-z0-9_]", "", word.lower().replace("-", "_")))
+    return spellings.hint(word)
+
+
+def one_of(kind, other):
+    """Returns another word as one that may stand there, if it may."""
+    return f"; {other} is one" if is_well(kind, other) else ""

@@ -1,6 +1,7 @@
 """The words after the program's name, as the program reads them: whether they are accepted, and of refused ones which
 word is at fault, what stands there and what may. The program's own reading is crates/hm_run/src/words.rt."""
 import difflib, os, re
+import spellings
 
 MOST_NUMBER = (1 << 64) - 1
 PAGE, LEAST_SPACE = 4096, 1 << 20
@@ -36,7 +37,7 @@ class Number:
         return number_in(word) is not None
 
     def hint(self, word):
-        return number_hint(word)
+        return spellings.hint(word)
 
 
 class Space:
@@ -52,7 +53,7 @@ class Space:
     def hint(self, word):
         number = number_in(word)
         near = None if number is None else min(max(number // PAGE * PAGE, LEAST_SPACE), self.most)
-        return number_hint(word) if near is None else f"; {near} is the nearest"
+        return spellings.hint(word) if near is None else f"; {near} is the nearest"
 
 
 class Choice:
@@ -101,7 +102,7 @@ def refusal(words):
         return options_refusal(command, behind)
     if not behind or number_in(behind[0]) is None:
         found = f" {shown(behind[0])}" if behind else ""
-        return f"stress{found}: {Number.wanted} is wanted behind stress{number_hint(behind[0]) if behind else ''}"
+        return f"stress{found}: {Number.wanted} is wanted behind stress{spellings.hint(behind[0]) if behind else ''}"
     return options_refusal(command, behind[1:])
 
 
@@ -125,7 +126,10 @@ def no_command(words):
     """Returns what is wrong with a first word that is no command."""
     word = words[0]
     if word in OPTIONS or word == "--" or word.partition("=")[0] in OPTIONS:
-        return f"{' '.join(map(shown, words[:3]))}: the command comes first, then options"
+        found = " ".join(map(shown, words[:3]))
+        return f"{found}: the command comes first, then options, each value in a word of its own"
+    if os.path.basename(word) == "hmreplay":
+        return f"{shown(word)}: a command is wanted in its place; commands are {', '.join(COMMANDS)}"
     if is_file(word):
         return f"{shown(word)}: the command comes first, and the trace by standard input: run {input_from(word)}"
     return f"{shown(word)}: no command has this name; commands are {', '.join(COMMANDS)}{nearest(word, COMMANDS)}"
@@ -151,7 +155,7 @@ def options_refusal(command, words):
             return no_option(command, name)
         if name in given:
             return f"{name} {shown(value or '')}: {name} stands there twice; each option comes at most once"
-        if value is None:
+        if value is None or value in OPTIONS:
             return f"{name}: its value is missing; {OPTIONS[name].wanted} is wanted"
         if not OPTIONS[name].takes(value):
             return f"{name} {shown(value)}: {OPTIONS[name].wanted} is wanted{OPTIONS[name].hint(value)}"
@@ -169,13 +173,3 @@ def no_option(command, word):
     if is_file(word):
         return f"{command} {shown(word)}: the trace comes by standard input: {command} {input_from(word)}"
     return f"{shown(word)}: no option has this name; options are {', '.join(OPTIONS)}{nearest(word, OPTIONS)}"
-
-
-def number_hint(value):
-    """Returns what may help where a value is a number in another spelling than digits."""
-    try:
-        number = int(value, 0)
-    except ValueError:
-        return ""
-    is_other = number >= 0 and str(number) != value
-    return f", in decimal digits: {number}" if is_other else ""
