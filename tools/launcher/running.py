@@ -16,7 +16,7 @@ class Ended:
 
 
 def has_streams():
-    """Returns whether standard input, output and error are open: else a file that is opened would come in their place."""
+    """Returns whether standard input, output and error are open. Else an opened file would come in their place."""
     try:
         return all(os.fstat(descriptor) for descriptor in range(3))
     except OSError:
