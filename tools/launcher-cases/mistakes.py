@@ -47,7 +47,7 @@ TRACES = [
     of_trace(WELL.replace("100", "0x64"), "in plain decimal digits: 100"),
     of_trace(WELL.replace("malloc x 100", "malloc x, 100"), "x,: a NAME is wanted: a letter a to z, then"),
     of_trace(WELL.replace("free x", "free NULL"), "NULL: a REF is wanted: null,", WELL.replace("free x", "free null")),
-    of_trace(f"{HEAD}write @0 1 FF\nend\n", "two digits of 0 to 9 and a to f; ff is one", f"{HEAD}write @0 1 0f\nend\n"),
+    of_trace(f"{HEAD}write @0 1 FF\nend\n", "0 to 9 and a to f; ff is one", f"{HEAD}write @0 1 ff\nend\n"),
     of_trace(WELL.replace("free x\n", "# done\nfree x\n"), "a trace has no comments"),
     of_trace(WELL.replace("free x\n", "\nfree x\n"), "the line is empty; a trace has no empty lines"),
     of_trace(WELL.replace("thread", "note go\nthread"), "notes are of version 2, with `hmtrace 2` as line 1"),
