@@ -9,6 +9,23 @@ from states import (
     CANARY, FINDINGS, OVERWRITTEN, TRAP, WRONG_SIZE, ClassFollower, LargeFollower, Things)
 from model import first_difference
 
+HELP = """usage: tools/picture [JOURNAL] [-o FILE.html]
+
+Draws a journal, as `./hmreplay journal` writes it (docs/JOURNAL.md), as one page of HTML that needs no network. Without
+the names it reads standard input and writes standard output:
+
+    ./hmreplay journal < examples/write_after_free.hmtrace | tools/picture -o page.html
+
+What one sees: each slab with its slots, live, free or waiting in quarantine, and each large block, as they stand after
+any entry; a slider, which the arrow keys move by one entry; each finding with the number of its line in the report;
+and the live bytes after each entry. `page.html#1.1.8` opens at the entry of step 1.1.8.
+
+It takes about half a second, and three to five more for each 50,000 entries; so long a page also takes some seconds to
+open, and it is not meant for more. Steps that leave no entry are not shown, as one whose address lies outside.
+
+It ends with 0; with 1 where the text is no journal; with 2 where the words are not accepted or a file can't be read or
+written; and with 127 where Python is missing.
+"""
 TEMPLATE = Path(__file__).resolve().parent / 'page.html'
 LONGEST_TEXT = 60
 WORDS = {3: 'exhausted', 4: 'no space', 5: 'pages failed', 7: 'freed', 8: 'no slot', 9: 'unused', 10: 'double free',
@@ -119,6 +136,9 @@ def asked(words):
 
 def main(words):
     """Makes a page as the words ask for; answers the exit status."""
+    if words in (['--help'], ['-h']):
+        print(HELP, end='')
+        return 0
     try:
         source, target = asked(words)
         data = Path(source).read_bytes() if source else sys.stdin.buffer.read()

@@ -1,10 +1,10 @@
-/* Frees a block twice. */
+/* Frees a block twice. @stops double free */
 #include <stdlib.h>
 
 int main(void)
 {
-    char *volatile block = malloc(100);
-    free(block);
-    free(block);
+    char *volatile block = malloc(100); /* @allocated */
+    free(block); /* @freed */
+    free(block); /* @here */
     return 0;
 }

@@ -5,11 +5,11 @@
 
 int main(void)
 {
-    char *volatile block = malloc(100);
+    char *volatile block = malloc(100); /* @allocated */
     pid_t child = fork();
     if (child == 0) {
-        free(block);
-        free(block);
+        free(block); /* @freed */
+        free(block); /* @here */
         abort();
     }
     waitpid(child, NULL, 0);

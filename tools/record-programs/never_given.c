@@ -5,10 +5,10 @@ int main(void)
 {
     char array[64];
     char *volatile local = array + 16;
-    char *volatile block = malloc(100);
+    char *volatile block = malloc(100); /* @allocated */
     char *volatile inside = block + 16;
-    free(local);
-    free(inside);
+    free(local); /* @here */
+    free(inside); /* @here */
     free(block);
     return 0;
 }

@@ -4,7 +4,7 @@ another one named in the same round, so that the order of the two stays."""
 import string
 
 from notes import (ALIGNED, CALLOC, FREE, FREED_WRITE, INHERITED, INHERITED_FREE, MALLOC, REALLOC, SIZED_FREE,
-                   TAIL_WRITE, USABLE)
+                   TAIL_WRITE, USABLE, records_of)
 
 MOST_ROUNDS = 1024
 MOST_THREADS = {1: 16, 2: 64}
@@ -20,7 +20,11 @@ LARGE_REGION = range(2 ** 46, 2 ** 46 + 2 ** 40)
 
 
 class Cut(Exception):
-    """The trace ends here, for this reason."""
+    """The trace ends here, for this reason; `needs_steps` where it is that of steps."""
+
+    def __init__(self, reason, needs_steps=False):
+        super().__init__(reason)
+        self.needs_steps = needs_steps
 
 
 def short_name(number):
@@ -107,21 +111,29 @@ class Threads:
 
 
 class Rounds:
-    """The rounds of a trace, each with the steps of its threads. In a round a block is named by one thread alone."""
+    """The rounds of a trace, each with the steps of its threads. In a round a block is named by one thread alone.
+    `origins` has, for each step, the number of the note of which it is."""
 
     def __init__(self):
-        self.rounds, self.named_by, self.steps, self.threads = [{}], {}, 0, 0
+        self.rounds, self.named_by, self.steps, self.threads, self.origins = [{}], {}, 0, 0, {}
 
-    def add(self, thread, blocks, steps):
+    def add(self, thread, blocks, steps, origin=None):
         """Adds the steps of one call, which names these blocks."""
         if self.steps + len(steps) > MOST_STEPS[2]:
-            raise Cut('a trace has at most %d steps' % MOST_STEPS[2])
-        if any(self.named_by.get(block, thread) != thread for block in blocks):
-            self.begin_round()
-        self.named_by.update((block, thread) for block in blocks)
+            raise Cut('a trace has at most %d steps' % MOST_STEPS[2], needs_steps=True)
+        for block in blocks:
+            if self.named_by.setdefault(block, thread) != thread:
+                self.begin_round()
+                self.named_by = dict.fromkeys(blocks, thread)
+                break
         self.rounds[-1].setdefault(thread, []).extend(steps)
+        self.origins.setdefault((len(self.rounds), thread), []).extend([origin] * len(steps))
         self.steps += len(steps)
         self.threads = max(self.threads, thread)
+
+    def origin_of(self, place):
+        """The number of the note of a step, by its round, thread and number."""
+        return self.origins[place[:2]][place[2] - 1]
 
     def begin_round(self):
         """Begins a round, in which no block was named yet."""
@@ -146,46 +158,54 @@ class Rounds:
 
 
 class Maker:
-    """Makes a trace of notes, record by record.
+    """Makes a trace of notes, record by record: of all that are kept, or of so many of the last. It begins with the
+    blocks that were live before. With `one_thread` all calls stand in one thread, in their order. `first` is the number
+    of the first note that stands in it.
 
     `freed_writes` has, of each block, the stray writes that were found when it had been kept for a while. They stand
     right behind its free, where the slot still waits. `stray_writes` counts the writes that stand in the trace, and
     `without_memory` the calls that failed where the replayer would have served them, which are left out.
     """
 
-    def __init__(self, notes, touches):
-        self.notes, self.touches = notes, touches
-        self.threads, self.rounds, self.all_names = Threads(notes), Rounds(), all_names()
-        self.names, self.asked, self.freed_writes, self.named = {}, {}, {}, set()
-        self.stray_writes, self.without_memory, self.reason, self.left_out = 0, 0, None, notes.left_out
-        for record in notes:
+    def __init__(self, notes, touches, last=None, one_thread=False):
+        self.notes, self.touches, self.one_thread = notes, touches, one_thread
+        self.records = list(notes.kept(last))
+        self.first = notes.total - len(self.records)
+        self.rounds, self.all_names = Rounds(), all_names()
+        self.names, self.asked, self.freed_writes = {}, {}, {}
+        self.stray_writes, self.without_memory, self.left_out = 0, 0, notes.left_out
+        self.reason, self.needs_steps = None, False
+        self.start_blocks = notes.start_blocks(self.records)
+        self.starts = [record for block in self.start_blocks for record in records_of(block)]
+        self.threads = Threads(self.starts + self.records)
+        for record in self.starts + self.records:
             self.look_ahead(record)
 
     def look_ahead(self, record):
         """Gathers what is noted late."""
         if record.kind == FREED_WRITE:
             self.freed_writes.setdefault(record.reference, []).append(record)
-        if record.kind not in (INHERITED, INHERITED_FREE):
-            self.named.add(record.reference)
 
     def make(self):
         """Adds all records, up to a limit of traces."""
-        for place, record in enumerate(self.notes):
+        for place, record in enumerate(self.starts + self.records):
+            origin = place - len(self.starts) + self.first if place >= len(self.starts) else None
             try:
-                self.add(self.threads.number_of(record.thread, place), record)
+                thread = 1 if self.one_thread else self.threads.number_of(record.thread, place)
+                self.add(thread, record, origin)
             except Cut as cut:
-                self.reason = str(cut)
-                self.left_out += self.notes.count - place
+                self.reason, self.needs_steps = str(cut), cut.needs_steps
+                self.left_out += len(self.starts) + len(self.records) - place
                 return
 
-    def add(self, thread, record):
+    def add(self, thread, record, origin=None):
         """Adds the steps of one record."""
         if record.failed and not is_refused(record):
             self.without_memory += 1
             return
         steps = self.steps_of(record)
         if steps:
-            self.rounds.add(thread, {record.block, record.reference} - {0}, steps)
+            self.rounds.add(thread, {record.block, record.reference} - {0}, steps, origin)
 
     def steps_of(self, record):
         """The steps of one record."""
@@ -216,11 +236,10 @@ class Maker:
         return steps + self.touching_steps(name, record)
 
     def inherited_steps(self, record):
-        """A block that the process began with; one that is freed already only where it is named later."""
-        is_freed = record.second == 1
-        if is_freed and record.block not in self.named:
-            return []
+        """A block that the process or the window began with."""
         name = self.new_name(record)
+        if record.second > 4:
+            return ['aligned %s %d %d' % (name, 2 ** min(record.second, 21), record.first)]
         return ['malloc %s %d' % (name, record.first)] + self.touching_steps(name, record)
 
     def touching_steps(self, name, record):
@@ -249,7 +268,8 @@ class Maker:
         """Gives the record's block a name, and keeps what was asked for."""
         name = next(self.all_names)
         self.names[record.block] = name
-        self.asked[record.block] = (record.first if record.kind == ALIGNED else 1, asked_of(record))
+        align = record.first if record.kind == ALIGNED else 2 ** record.second if record.kind == INHERITED else 1
+        self.asked[record.block] = (align, asked_of(record))
         return name
 
     def place(self, record):

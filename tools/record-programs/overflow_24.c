@@ -1,0 +1,12 @@
+/* Writes one byte behind a block of 24 bytes, which fills its slot. @stops canary at 0 */
+#include <stdlib.h>
+#include <string.h>
+
+int main(void)
+{
+    volatile size_t length = 24;
+    char *text = malloc(length); /* @allocated */
+    memset(text, 'a', length + 1); /* @write */
+    free(text); /* @seen */
+    return 0;
+}
