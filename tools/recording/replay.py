@@ -17,7 +17,6 @@ TOP = os.path.dirname(os.path.dirname(os.path.dirname(os.path.abspath(__file__))
 MARKED = re.compile(r'(\d+)\.(\d+)\.(\d+) ((?:overwritten|no slot|unused|double free|not live|outside|wrong size|'
                     r'canary|trap|half moved).*)')
 MOST_TRIES = 6
-MOST_UNPROVED_STEPS = 20000
 STATUS_OF_FINDINGS = 1
 
 
@@ -37,20 +36,14 @@ class Replayer:
             stderr=subprocess.DEVNULL).returncode == 0
 
     def seeds(self, most):
-        """The seeds with which it may replay; an unproved program takes too long for several."""
+        """The seeds with which it may replay: only a proved program is asked for several."""
         return range(most) if self.is_proved else range(1)
-
-    def refusal(self, steps):
-        """Why it is not asked to replay so many steps, None where it is."""
-        if self.is_proved or self.command or steps <= MOST_UNPROVED_STEPS:
-            return None
-        return 'no program is proved yet (./prove makes it), and an unproved one takes too long for %d steps' % steps
 
     def run(self, text, seed):
         """The status, the report, and what it says of an error."""
         if not self.is_proved and not self.command:
-            print('hunt: no program is proved yet, so an unproved one replays, in half a minute or two',
-                  file=sys.stderr)
+            print('hunt: no program is proved yet (./prove makes it), so an unproved build replays, which is made once, '
+                  'in about a minute', file=sys.stderr)
         words = self.command or [self.program, 'run', '--seed', str(seed)]
         done = subprocess.run(words, input=text, stdout=subprocess.PIPE, stderr=subprocess.PIPE, text=True)
         return done.returncode, done.stdout, done.stderr
@@ -104,9 +97,6 @@ class Replay:
 
     def run(self, seeds):
         """Replays it with the first seed, and where nothing is found with all the others."""
-        self.failure = self.replayer.refusal(self.maker.rounds.steps)
-        if self.failure:
-            return
         self.run_once(0)
         if self.findings.get(0) == []:
             for seed in self.replayer.seeds(seeds)[1:]:
