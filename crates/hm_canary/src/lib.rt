@@ -65,8 +65,8 @@ pub fn first_nonzero(bytes: &[u8]) -> Option<usize>
     ensures { result ≡ first_nonzero bytes.now }
 {
     let skipped = skip_words(bytes, skip_lanes(bytes));
-    let place = first_by_bytes(&bytes[skipped..])?;
-    Some(skipped + place)
+    let index = first_by_bytes(&bytes[skipped..])?;
+    Some(skipped + index)
 }
 
 /// The same, byte by byte.

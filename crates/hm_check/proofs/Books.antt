@@ -14,11 +14,12 @@ use Rattle.hm_class_rules.proofs.NextEntry.{lists_are_kept, next_cells, one_less
 use Rattle.hm_class_book.specs.declared.class_book.ClassBook.{ClassBook}
 use Rattle.hm_class_book.specs.Reached.{Said, Takes}
 use Rattle.hm_class_book.specs.Said.{said}
-use Rattle.hm_large.specs.Draws as large_draws
-use Rattle.hm_large.specs.Rules as large
-use Rattle.hm_large.specs.State as large_state
-use Rattle.hm_large.proofs.Entries.{state_same}
-use Rattle.hm_large.proofs.Legal as large_legal
+use Rattle.hm_large_rules.specs.Drawn as large_drawn
+use Rattle.hm_large_rules.specs.Rules as large
+use Rattle.hm_large_rules.specs.State as large_state
+use Rattle.hm_large_rules.specs.Steps as large_steps
+use Rattle.hm_large_rules.proofs.Legal.{state_same}
+use Rattle.hm_large_rules.proofs.Legal as large_legal
 use Rattle.hm_large_book.specs.declared.book.LargeBook.{LargeBook}
 use Rattle.hm_large_book.specs.Judged.{terms_of}
 use Rattle.hm_large_book.specs.Reached.{IsBookOf}
@@ -132,12 +133,12 @@ module _ (c : Config) (seed : ℕ) (past : List Entry) where
 
   pub undrawn_large : (e : Entry) (old : LargeBook) → IsBookOf c seed past old
       → large.Allowed (terms_of c) (large.state (terms_of c) past) e
-      × (large_draws.Drawn seed (large.state (terms_of c) past) e → ⊥)
+      × (large_drawn.IsDrawnEntry seed (large.state (terms_of c) past) e → ⊥)
       → IsLegalHistory (told_origin c seed large_region_number) (past ++ e ∷ [])
       × (IsDrawnHistory (told_origin c seed large_region_number) (past ++ e ∷ []) → ⊥)
   undrawn_large e old is undrawn = (
     legal_large (past ++ e ∷ []) (large_legal.one_more (terms_of c) past e is.legal undrawn.0),
-    λ drawn. undrawn.1 (subst (λ (s : large_state.State). large_draws.Drawn seed s e)
-        (state_same (large_draws.Drawn seed) (large.Allowed (terms_of c)) large_state.start past)
-        (Legal_split large_state.step (large_draws.Drawn seed) large_state.start past (e ∷ []) (drawn.large refl)).1.0),
+    λ drawn. undrawn.1 (subst (λ (s : large_state.State). large_drawn.IsDrawnEntry seed s e)
+        (state_same (large_drawn.IsDrawnEntry seed) (large.Allowed (terms_of c)) large_state.start past)
+        (Legal_split large_steps.step (large_drawn.IsDrawnEntry seed) large_state.start past (e ∷ []) (drawn.large refl)).1.0),
   )

@@ -14,16 +14,16 @@ use Rattle.hm_check.specs.Verdicts.{IsDrawn, IsLegal, Judges, MayStand, Passes, 
 use Rattle.hm_check.proofs.OneSaid.{region_fits}
 use Rattle.hm_check.proofs.OneVerdict.{stays_valid}
 
--- it may stand here, and is legal and drawn
-pub record IsGood (r : Reader) (said : Said) : Type 0 where
+-- it may stand here, and is legal where L asks for that, and drawn where D does
+pub record IsGood (L D : Type 0) (r : Reader) (said : Said) : Type 0 where
   pub stands : MayStand r said
   pub fits : SaidFits said
-  pub legal : IsLegal r said
-  pub drawn : IsDrawn r said
+  pub legal : L → IsLegal r said
+  pub drawn : D → IsDrawn r said
 
-abbrev pub Chain : Reader → List Said → Type 0
-Chain r [] = Unit {0}
-Chain r (said ∷ more) = IsGood r said × Chain (read r said) more
+abbrev pub Chain : Type 0 → Type 0 → Reader → List Said → Type 0
+Chain L D r [] = Unit {0}
+Chain L D r (said ∷ more) = IsGood L D r said × Chain L D (read r said) more
 
 -- what was read after these, and the lines that say them
 abbrev pub after : Reader → List Said → Reader
@@ -34,11 +34,26 @@ abbrev pub text_of : Reader → List Said → List ℕ
 text_of r [] = []
 text_of r (said ∷ more) = line_of r said ++ text_of (read r said) more
 
-pub record IsSaid (r : Reader) (bytes : List ℕ) (n : ℕ) (all : List Said) : Type 0 where
-  pub chain : Chain r all
+pub record IsSaid (L D : Type 0) (r : Reader) (bytes : List ℕ) (n : ℕ) (all : List Said) : Type 0 where
+  pub chain : Chain L D r all
   pub ended : (after r all).stage ≡ Ended
   pub total : n ≡ (after r all).total
   pub text : bytes ≡ text_of r all
+
+-- what is asked of journals of legal and drawn histories
+abbrev pub Good : Reader → Said → Type 0
+Good r said = IsGood (Unit {0}) (Unit {0}) r said
+
+abbrev pub GoodChain : Reader → List Said → Type 0
+GoodChain r all = Chain (Unit {0}) (Unit {0}) r all
+
+pub good_passing : (r : Reader) (line : List ℕ) (said : Said) → Passes r line said → Good r said
+good_passing r line said h = record {
+  stands = h.says.stands;
+  fits = h.says.fits;
+  legal = λ asked. h.legal;
+  drawn = λ asked. h.drawn;
+}
 
 -- ---- from the verdict
 pub record IsLast (stage : Stage) (last : List ℕ) (n m : ℕ) : Type 0 where
@@ -46,7 +61,7 @@ pub record IsLast (stage : Stage) (last : List ℕ) (n m : ℕ) : Type 0 where
   pub empty : last ≡ []
   pub total : n ≡ m
 
-no_yes : (n k : ℕ) (fault : JournalFault) → Yes n ≡ No k fault → ⊥
+pub no_yes : (n k : ℕ) (fault : JournalFault) → Yes n ≡ No k fault → ⊥
 no_yes n k fault e = cc
 
 one_total : (n total : ℕ) → Yes n ≡ Yes total → n ≡ total
@@ -67,7 +82,7 @@ whole line said rest text e f =
     sym (append_assoc line (10 ∷ []) rest) ∙ (λ i. e i ++ f i)
 
 pub what_is_said : (r : Reader) (k n : ℕ) (pieces : List (List ℕ)) → Judges r k pieces (Yes n)
-    → (all : List Said) × IsSaid r (join_with_byte 10 pieces) n all
+    → (all : List Said) × IsSaid (Unit {0}) (Unit {0}) r (join_with_byte 10 pieces) n all
 unfolding Judges
 what_is_said r k n [] v = absurd v
 what_is_said r k n (last ∷ []) v =
@@ -79,7 +94,7 @@ what_is_said r k n (line ∷ next ∷ more) v =
       x.0 ∷ rest.0,
       record {
         chain = (
-          record { stands = x.1.says.stands; fits = x.1.says.fits; legal = x.1.legal; drawn = x.1.drawn },
+          good_passing r (line ++ 10 ∷ []) x.0 x.1,
           rest.1.chain,
         );
         ended = rest.1.ended;
@@ -92,7 +107,7 @@ what_is_said r k n (line ∷ next ∷ more) v =
     v
 
 -- ---- to the verdict
-clean : (r : Reader) (said : Said) → IsValid r.config → SaidFits said → IsLine (said_words r said)
+pub clean : (r : Reader) (said : Said) → IsValid r.config → SaidFits said → IsLine (said_words r said)
 clean r Header valid h = search rules
 clean r (Configured c) valid h = clean_config_line c h
 clean r (Seeded n) valid h = clean_seed n h
@@ -107,14 +122,14 @@ unfolding Judges
 passes_on r k line [] v said h g = absurd g
 passes_on r k line (next ∷ more) v said h g = inl (said, h, g)
 
-passes : (r : Reader) (said : Said) → IsGood r said → Passes r (line_of r said) said
+pub passes : (r : Reader) (said : Said) → Good r said → Passes r (line_of r said) said
 passes r said h = record {
   says = record { stands = h.stands; fits = h.fits; is = refl };
-  legal = h.legal;
-  drawn = h.drawn;
+  legal = h.legal tt;
+  drawn = h.drawn tt;
 }
 
-pub judged : (r : Reader) (k : ℕ) (all : List Said) → IsValid r.config → Chain r all → (after r all).stage ≡ Ended
+pub judged : (r : Reader) (k : ℕ) (all : List Said) → IsValid r.config → GoodChain r all → (after r all).stage ≡ Ended
     → Judges r k (lines_in (text_of r all)) (Yes (after r all).total)
 unfolding Judges
 judged r k [] valid h ended = sym (ap (λ (s : Stage). last_verdict s [] k r.total) ended)

@@ -1,10 +1,16 @@
+mod Beginnings
 mod Books
 mod Chains
+mod Finished
+mod FirstFaults
+mod Fronts
 mod Histories
+mod Idle
 mod Kept
 mod LineEnds
 mod OneSaid
 mod OneVerdict
+mod Pieces
 mod Spoken
 mod Steps
 mod YesIsJournal

@@ -49,13 +49,13 @@ said_by (AtEntry zero) line = Closed (number_at (word_at (words_at line) 1))
 said_by (AtEntry (suc left)) line = Made (entry_at (words_at line))
 said_by Ended line = End
 
-small : (b : Bool) (place : ℕ) → (b ≡ true → place < 2 ^ 32) → Fits32 (if b then place else 196)
-small true place h = h refl
-small false place h = omega arith
+small : (b : Bool) (index : ℕ) → (b ≡ true → index < 2 ^ 32) → Fits32 (if b then index else 196)
+small true index h = h refl
+small false index h = omega arith
 
-pub region_fits : (c : Config) (place : ℕ) → IsValid c → Fits32 (region_at c place)
-region_fits c place h =
-    small (ltb place (class_regions c)) place (λ (t : ltb place (class_regions c) ≡ true). omega (arith, h, ltb-true _ _ t))
+pub region_fits : (c : Config) (index : ℕ) → IsValid c → Fits32 (region_at c index)
+region_fits c index h =
+    small (ltb index (class_regions c)) index (λ (t : ltb index (class_regions c) ≡ true). omega (arith, h, ltb-true _ _ t))
 
 said_is : (r : Reader) (line : List ℕ) (said : Said) → IsValid r.config → Says r line said
     → said_by r.stage line ≡ said

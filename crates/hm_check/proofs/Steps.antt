@@ -1,13 +1,10 @@
 -- What a checker goes by from line to line: what it means that a line is none of those that may stand there, and what the
 -- verdict on the lines behind it says of it.
-use Rattle.std.proofs.Common.{◌≡◌, inr, ⊎_elim, ℕ, zero, suc, ◌+◌, ◌<◌, ◌≤◌, eqb, List, [], ◌∷◌, ◌++◌, length, refl, sym, ap, subst, arith}
+use Rattle.std.proofs.Common.{◌≡◌, inr, ⊎_elim, ℕ, suc, ◌+◌, ◌<◌, ◌≤◌, eqb, List, [], ◌∷◌, ◌++◌, length, refl, sym, ap, subst, arith}
 use Rattle.std.proofs.lemmas.List.Splits.{length-slice_split}
-use Rattle.hm_sizes.specs.declared.config.Config.{Config}
-use Rattle.hm_sizes.specs.Configs.{IsValid}
 use Rattle.hm_model.specs.declared.entry.Entry.{Entry}
 use Rattle.hm_journal.specs.Entries.{entry_words}
-use Rattle.hm_journal.specs.Journals.{config_words}
-use Rattle.hm_journal.specs.Lines.{closed_line, end_line, header_line, region_line, seed_line}
+use Rattle.hm_journal.specs.Lines.{end_line, region_line}
 use Rattle.hm_journal.specs.Ranges.{EntryFits, Fits64}
 use Rattle.hm_journal.specs.Runs.{EntryRuns}
 use Rattle.hm_journal.specs.Words.{line_text}
@@ -15,33 +12,12 @@ use Rattle.hm_check.specs.declared.verdict.JournalFault.{JournalFault}
 use Rattle.hm_check.specs.declared.verdict.JournalFault.TheVariants.{BadText}
 use Rattle.hm_check.specs.declared.verdict.Verdict.{Verdict}
 use Rattle.hm_check.specs.declared.verdict.Verdict.TheVariants.{Yes, No}
-use Rattle.hm_check.specs.Readers.{Stage, AtHeader, AtConfig, AtSeed, AtRegion, AtEntry, Ended, Said, Header, Configured, Seeded, Region, Made, Closed, End, Reader, read, region_at, region_count}
+use Rattle.hm_check.specs.Readers.{Stage, AtHeader, AtConfig, AtSeed, AtRegion, AtEntry, Ended, Said, Region, Made, End, Reader, read, region_at, region_count}
 use Rattle.hm_check.specs.Verdicts.{IsFault, Judges, Passes, Says, last_verdict, lines_in}
 use Rattle.hm_check.proofs.Chains.{passes_on}
 use Rattle.hm_check.proofs.Histories.{shape}
 
 -- ---- a line that says nothing
-pub no_header : (r : Reader) (line : List ℕ) → r.stage ≡ AtHeader → (line ≡ line_text header_line → ⊥)
-    → IsFault r line BadText
-no_header r line at none = λ said h.
-    let g : Says r line Header =
-    subst (λ (s : Said). Says r line s) (shape AtHeader r said at h.stands) h in
-    none g.is
-
-pub no_config : (r : Reader) (line : List ℕ) → r.stage ≡ AtConfig
-    → ((c : Config) → IsValid c → line ≡ line_text (config_words c) → ⊥) → IsFault r line BadText
-no_config r line at none = λ said h.
-    let is = shape AtConfig r said at h.stands in
-    let g : Says r line (Configured is.0) = subst (λ (s : Said). Says r line s) is.1 h in
-    none is.0 g.fits g.is
-
-pub no_seed : (r : Reader) (line : List ℕ) → r.stage ≡ AtSeed
-    → ((n : ℕ) → Fits64 n → line ≡ line_text (seed_line n) → ⊥) → IsFault r line BadText
-no_seed r line at none = λ said h.
-    let is = shape AtSeed r said at h.stands in
-    let g : Says r line (Seeded is.0) = subst (λ (s : Said). Says r line s) is.1 h in
-    none is.0 g.fits g.is
-
 pub no_region : (r : Reader) (line : List ℕ) → r.stage ≡ AtRegion → r.regions < region_count r.config
     → ((first count : ℕ) → Fits64 first → Fits64 count
     → line ≡ line_text (region_line (region_at r.config r.regions) first count) → ⊥)
@@ -69,16 +45,6 @@ no_entry r line left at none = λ said h.
     let is = shape (AtEntry (suc left)) r said at h.stands in
     let g : Says r line (Made is.0) = subst (λ (s : Said). Says r line s) is.1 h in
     none is.0 g.fits.0 g.fits.1 g.is
-
-pub no_closed : (r : Reader) (line : List ℕ) → r.stage ≡ AtEntry zero
-    → ((n : ℕ) → Fits64 n → line ≡ line_text (closed_line n) → ⊥) → IsFault r line BadText
-no_closed r line at none = λ said h.
-    let is = shape (AtEntry zero) r said at h.stands in
-    let g : Says r line (Closed is.0) = subst (λ (s : Said). Says r line s) is.1 h in
-    none is.0 g.fits g.is
-
-pub none_behind_end : (r : Reader) (line : List ℕ) → r.stage ≡ Ended → IsFault r line BadText
-none_behind_end r line at = λ said h. shape Ended r said at h.stands
 
 -- ---- verdicts
 faulty : (r : Reader) (k : ℕ) (line : List ℕ) (pieces : List (List ℕ)) (fault : JournalFault) → 1 ≤ length pieces

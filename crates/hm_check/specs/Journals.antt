@@ -19,7 +19,7 @@ region_numbers c = map (region_at c) (range_with_len 0 (region_count c))
 
 -- the region of a history, in a run that tells
 abbrev pub origin_in : Config → ℕ → History → Origin
-origin_in c n h = record { config = c; number = n; region = h.region.0; told = true }
+origin_in c n h = record { config = c; seed = n; region = h.region.0; told = true }
 
 -- how many entries the histories have together
 abbrev pub entry_count : List History → ℕ

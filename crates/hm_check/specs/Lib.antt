@@ -1,5 +1,6 @@
 pub mod Readers
 pub mod Verdicts
 pub mod Journals
+pub mod FirstFaults
 pub mod RegionBooks
 pub mod Progress

@@ -10,7 +10,7 @@ use Rattle.hm_journal.specs.Journals.{config_words}
 use Rattle.hm_journal.specs.Lines.{header_line, seed_line, region_line, closed_line, end_line}
 use Rattle.hm_journal.specs.Words.{line_text}
 
--- what the next line is to be: the header, the configuration, the number, a region or the end, so many entries and then
+-- what the next line is to be: the header, the configuration, the seed, a region or the end, so many entries and then
 -- how the region was closed, nothing
 pub data Stage : Type 0 where
   AtHeader : Stage
@@ -53,13 +53,13 @@ region_count c = class_regions c + 1
 
 -- the number of the region before which so many stand
 abbrev pub region_at : Config → ℕ → ℕ
-region_at c place = if nat_lt place (class_regions c) then place else large_region_number
+region_at c index = if nat_lt index (class_regions c) then index else large_region_number
 
 -- the open region, or the one that is opened next. A journal counts as told
 abbrev pub origin_of : Reader → Origin
 origin_of r = record {
   config = r.config;
-  number = r.seed;
+  seed = r.seed;
   region = region_at r.config r.regions;
   told = true;
 }

@@ -18,7 +18,7 @@ use Rattle.hm_check.specs.Verdicts.{IsDrawnHistory, IsLegalHistory}
 
 -- a region of a journal, which counts as told
 abbrev pub told_origin : Config → ℕ → ℕ → Origin
-told_origin c seed region = record { config = c; number = seed; region = region; told = true }
+told_origin c seed region = record { config = c; seed = seed; region = region; told = true }
 
 abbrev pub terms_at : Config → ℕ → ℕ → Terms
 terms_at c seed region = class_terms (told_origin c seed region)

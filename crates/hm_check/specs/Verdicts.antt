@@ -6,8 +6,8 @@ use Rattle.hm_sizes.specs.Configs.{IsValid}
 use Rattle.hm_sizes.specs.Origins.{Origin, large_region_number}
 use Rattle.hm_class_rules.specs.Drawn as class_draws
 use Rattle.hm_class_rules.specs.Rules as class
-use Rattle.hm_large.specs.Draws as large_draws
-use Rattle.hm_large.specs.Rules as large
+use Rattle.hm_large_rules.specs.Drawn as large_drawn
+use Rattle.hm_large_rules.specs.Rules as large
 use Rattle.hm_heap.specs.Lawful.{arena_of, class_terms, fault_count, first_address, large_terms}
 use Rattle.hm_journal.specs.Ranges.{EntryFits, Fits64}
 use Rattle.hm_journal.specs.Runs.{EntryRuns}
@@ -50,8 +50,8 @@ pub record IsLegalHistory (o : Origin) (history : List Entry) : Type 0 where
 
 pub record IsDrawnHistory (o : Origin) (history : List Entry) : Type 0 where
   pub class : o.region < large_region_number
-      → class_draws.IsDrawn o.number (arena_of o.region) (class_terms o) history
-  pub large : o.region ≡ large_region_number → large_draws.IsDrawn o.number history
+      → class_draws.IsDrawn o.seed (arena_of o.region) (class_terms o) history
+  pub large : o.region ≡ large_region_number → large_drawn.IsDrawn o.seed history
 
 -- the region's history is legal with the entry; it is closed with its last count of page faults
 abbrev pub IsLegal : Reader → Said → Type 0

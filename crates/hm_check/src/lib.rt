@@ -9,7 +9,7 @@ mod region_book;
 mod verdict;
 
 pub use checking::check_journal;
-pub use laws::{one_verdict, yes_is_journal};
+pub use laws::{no_is_first_fault, one_verdict, yes_is_journal};
 pub use verdict::{JournalFault, Verdict};
 
 #[cfg(test)]

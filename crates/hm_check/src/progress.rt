@@ -1,5 +1,5 @@
 //! What is kept of a journal while it is read line by line, and what each line comes to.
-ghost use Rattle.std.specs.Prelude.{◌≡◌, ◌+◌, ◌<◌, ◌≤◌, ◌^◌, ◌⊎◌, ℕ, List, [], ◌∷◌, IfOk};
+ghost use Rattle.std.specs.Prelude.{◌≡◌, ◌+◌, ◌<◌, ◌≤◌, ◌^◌, List, [], ◌∷◌, IfOk};
 ghost use Rattle.hm_model.specs.declared.entry.Entry.{Entry};
 ghost use Rattle.hm_sizes.specs.Configs.{IsValid, standard};
 ghost use Rattle.hm_check.specs.Progress.{reader_of, region_of, Knows, IsReady, Comes};
@@ -26,7 +26,7 @@ pub(crate) enum Next {
     Nothing,
 }
 
-/// What is kept of the lines so far. Until a line has said it, the configuration and the number are any.
+/// What is kept of the lines so far. Until a line has said it, the configuration and the seed are any.
 #[derive(Drop)]
 pub(crate) struct Progress {
     pub(crate) next: Next,

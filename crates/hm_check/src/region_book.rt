@@ -72,7 +72,7 @@ fn take_large(book: &mut LargeBook, entry: &Entry) -> Result<Option<JournalFault
 }
 
 impl RegionBook {
-    /// The book of a region with no entries, in the run of this number.
+    /// The book of a region with no entries, of this seed.
     pub(crate) fn build(
         alloc: Global,
         config: &Config,

@@ -7,7 +7,7 @@ pub enum JournalFault {
     BadText,
     /// The entry is not allowed after those before it, or the region's last count of page faults is another.
     NotLegal,
-    /// The words or the choices of the entry, or where the region begins, are not those of the run's number.
+    /// The words or the choices of the entry, or where the region begins, are not those of the seed.
     NotDrawn,
 }
 

@@ -3,19 +3,19 @@ use Rattle.std.specs.Prelude.{◌≡◌, ℕ, ◌+◌, ◌-◌, ◌*◌, ◌/◌
 use Rattle.std.specs.Int.{w64, to_le_bytes}
 use Rattle.rand_chacha.specs.ChaCha.{word_at, key_of}
 
--- a stream of ChaCha: the eight words of its key, its number, and the place of its next word, below 2 ^ 68
+-- a stream of ChaCha: the eight words of its key, its number, and the position of its next word, below 2 ^ 68
 pub record Words : Type 0 where
   pub key : List ℕ
   pub number : ℕ
   pub place : ℕ
 
--- the key of a run: its number as 8 bytes, the lowest first, and 24 zero bytes
-abbrev pub key_of_run : ℕ → List ℕ
-key_of_run seed = key_of (to_le_bytes w64 seed ++ replicate 24 0)
+-- the key of a seed: it as 8 bytes, the lowest first, and 24 zero bytes
+abbrev pub key_of_seed : ℕ → List ℕ
+key_of_seed seed = key_of (to_le_bytes w64 seed ++ replicate 24 0)
 
 -- a stream of a run, of which no word is taken
 abbrev pub start_of : ℕ → ℕ → Words
-start_of seed number = record { key = key_of_run seed; number = number; place = 0 }
+start_of seed number = record { key = key_of_seed seed; number = number; place = 0 }
 
 -- ChaCha with 8 rounds has 4 double rounds
 abbrev pub double_rounds : ℕ

@@ -1,5 +1,5 @@
-//! One stream of random words. Its key is the run's number and its own number tells it from the run's other
-//! streams; words are taken in order, and nothing is ever reseeded.
+//! One stream of random words. Its key is the seed, and its number tells it from the other streams of that seed;
+//! words are taken in order, and nothing is ever reseeded.
 ghost use Rattle.std.specs.Prelude.{◌≡◌, ◌^◌, ◌<◌, ◌≤◌};
 ghost use Rattle.hm_choice.specs.Stream.{start_of, next_word, after_word, before_word, drawn, canary_of};
 
@@ -8,8 +8,8 @@ use rand_core::SeedableRng;
 use rand_core::utils::NextWord;
 use std::marker::Model;
 
-// The last place of a stream.
-const LAST_PLACE: u128 = (1 << 68) - 1;
+// The last position of a stream.
+const LAST_POSITION: u128 = (1 << 68) - 1;
 
 /// A stream of 32-bit words. It repeats after 2^68 words.
 #[derive(Drop)]
@@ -26,7 +26,7 @@ impl Model for Stream {
 }
 
 impl Stream {
-    /// The stream of this number in the run of this seed.
+    /// The stream of this number, of this seed.
     pub fn start(seed: u64, number: u64) -> Stream
         ensures { result ≡ start_of seed number }
     {
@@ -82,7 +82,7 @@ impl Stream {
     pub fn back(&mut self)
         ensures { self.new ≡ before_word self.old }
     {
-        let place = self.words.get_word_pos();
-        self.words.set_word_pos(place + LAST_PLACE);
+        let position = self.words.get_word_pos();
+        self.words.set_word_pos(position + LAST_POSITION);
     }
 }

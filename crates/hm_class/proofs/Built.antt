@@ -19,7 +19,7 @@ use Rattle.hm_class.proofs.Listed.{same_cells}
 use Rattle.hm_class.proofs.Paged.{holds_nothing}
 
 pub kept_built : {told : Bool} {owner : Option ℕ} (runs : PageRuns) {faults : ℕ} (region : Identity) {es : List Entry} (store : Store) → (IsTrue told → runs ≡ map.empty) → faults ≡ 0 → IsOwned owner (class_region_number region.arena region.shape.class) → es ≡ []
-    → store.slabs ≡ no_slabs (numbers_of region.shape) region.config.park_length → store.stream ≡ after_word (stream_of region.number region.arena region.shape.class)
+    → store.slabs ≡ no_slabs (numbers_of region.shape) region.config.park_length → store.stream ≡ after_word (stream_of region.seed region.arena region.shape.class)
     → store.quarantine ≡ nothing_kept region.shape.array region.shape.ring → IsKept told owner runs faults region es store
 kept_built {told = told} {owner = owner} runs {faults = faults} region store nothing count owned no_entries none taken empty =
     subst (λ (l : List Entry). IsKept told owner runs faults region l store) (sym no_entries)
@@ -33,7 +33,7 @@ kept_built {told = told} {owner = owner} runs {faults = faults} region store not
           slots = λ n b e. absurd (none-some b e);
           canary = λ n. refl;
           live = λ n i lt. refl;
-          held = λ n i lt. refl;
+          quarantined = λ n i lt. refl;
           condemned = λ n i lt. refl;
           given = λ n i lt. refl;
           parked = λ n e. absurd (true≢false (sym e));

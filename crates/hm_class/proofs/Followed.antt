@@ -19,8 +19,8 @@ use Rattle.hm_class_rules.proofs.Delay.{among_here}
 use Rattle.hm_class_rules.proofs.Fronts.{among_filter}
 use Rattle.hm_class_rules.proofs.Whole.{at_removed}
 use Rattle.hm_slab_meta.specs.Uses.{SlotUse}
-use Rattle.hm_slab_meta.specs.Uses.{Never, Free, Live, Held, Condemned, was_given}
-use Rattle.hm_class.specs.Uses.{numbers_of, Uses, SlabUse, lives, is_condemned, is_held, occupied, slab_in, use_at, passes_at, changed, with_use, with_open, with_shut, with_slab, with_slot, opened_slab, shut_slab, fresh_slab, taken_uses}
+use Rattle.hm_slab_meta.specs.Uses.{Never, Free, Live, Quarantined, Condemned, was_given}
+use Rattle.hm_class.specs.Uses.{numbers_of, Uses, SlabUse, lives, is_condemned, is_quarantined, occupied, slab_in, use_at, passes_at, changed, with_use, with_open, with_shut, with_slab, with_slot, opened_slab, shut_slab, fresh_slab, taken_uses}
 use Rattle.hm_class.specs.Kept.{Shows}
 use Rattle.hm_class.proofs.Entered.{has_removed_same, has_removed_other, has_put_same, has_put_other, at_put_same, at_put_other, has_overlaid, canary_overlaid}
 use Rattle.hm_class.proofs.Places.{place_same}
@@ -33,7 +33,7 @@ shows_count p uses s faults h = record {
   slots = h.slots;
   canary = h.canary;
   live = h.live;
-  held = h.held;
+  quarantined = h.quarantined;
   condemned = h.condemned;
   given = h.given;
   parked = h.parked;
@@ -111,8 +111,8 @@ pub record IsChanged (a : ℕ) (u : SlotUse) (s s' : State) : Type 0 where
   pub canary : (n : ℕ) → option_map_or (λ (b : Slab). b.canary) (at n s'.opens) 0 ≡ option_map_or (λ (b : Slab). b.canary) (at n s.opens) 0
   pub live_here : is_live s' a ≡ lives u
   pub live_there : (q : ℕ) → a ≢ q → is_live s' q ≡ is_live s q
-  pub held_here : among a s'.held ≡ is_held u
-  pub held_there : (q : ℕ) → a ≢ q → among q s'.held ≡ among q s.held
+  pub quarantined_here : among a s'.quarantined ≡ is_quarantined u
+  pub quarantined_there : (q : ℕ) → a ≢ q → among q s'.quarantined ≡ among q s.quarantined
   pub condemned_here : among a s'.condemned ≡ is_condemned u
   pub condemned_there : (q : ℕ) → a ≢ q → among q s'.condemned ≡ among q s.condemned
   pub given_here : among a s'.given ≡ was_given u
@@ -130,7 +130,7 @@ shows_changed {p = p} {uses = uses} {s = s} {s' = s'} {n = n} {i = i} {u = u} {b
       slots = whole_changed uses n f is p.slots (length-set b.slots i u) h.slots;
       canary = λ m. c.canary m ∙ h.canary m ∙ sym (told_changed uses n f is (λ (b : SlabUse). b.canary) 0 refl m);
       live = each_place slot u lives (λ q. is_live s' q) (λ q. is_live s q) c.live_here c.live_there h.live;
-      held = each_place slot u is_held (λ q. among q s'.held) (λ q. among q s.held) c.held_here c.held_there h.held;
+      quarantined = each_place slot u is_quarantined (λ q. among q s'.quarantined) (λ q. among q s.quarantined) c.quarantined_here c.quarantined_there h.quarantined;
       condemned = each_place slot u is_condemned (λ q. among q s'.condemned) (λ q. among q s.condemned) c.condemned_here c.condemned_there h.condemned;
       given = each_place slot u was_given (λ q. among q s'.given) (λ q. among q s.given) c.given_here c.given_there h.given;
       parked = λ m e. some_changed uses n f is m ∙ h.parked m (ap (λ (l : List ℕ). among m l) (sym c.parked) ∙ e);
@@ -139,25 +139,25 @@ shows_changed {p = p} {uses = uses} {s = s} {s' = s'} {n = n} {i = i} {u = u} {b
     }
 
 -- ---- the slot of an address
-pub available_is : (u : SlotUse) → occupied u ≡ false → (lives u ≡ false) × (is_held u ≡ false) × (is_condemned u ≡ false)
+pub available_is : (u : SlotUse) → occupied u ≡ false → (lives u ≡ false) × (is_quarantined u ≡ false) × (is_condemned u ≡ false)
 available_is Never e = (refl, refl, refl)
 available_is Free e = (refl, refl, refl)
 available_is Live e = absurd (true≢false e)
-available_is Held e = absurd (true≢false e)
+available_is Quarantined e = absurd (true≢false e)
 available_is (Condemned g) e = absurd (true≢false e)
 
 -- what is said of a slot that is there
 pub at_place : (uses : Uses) (n i : ℕ) (u : SlotUse) (test : SlotUse → Bool) (said : Bool) → use_at uses n i ≡ Some u → said ≡ passes_at test uses n i → said ≡ test u
 at_place uses n i u test said is says = says ∙ ap (λ (o : Option SlotUse). option_map_or test o false) is
 
-gives_changed : (p : Shape) (s : State) (a asked : ℕ) → among a s.held ≡ false → among a s.condemned ≡ false → IsChanged a Live s (gives p a asked s)
-gives_changed p s a asked held condemned = record {
+gives_changed : (p : Shape) (s : State) (a asked : ℕ) → among a s.quarantined ≡ false → among a s.condemned ≡ false → IsChanged a Live s (gives p a asked s)
+gives_changed p s a asked quarantined condemned = record {
   opens = λ n. has_overlaid p (a + usable p) (to_le_bytes w64 (kept_canary p s a)) n s.opens;
   canary = λ n. canary_overlaid p (a + usable p) (to_le_bytes w64 (kept_canary p s a)) n s.opens;
   live_here = has_put_same a asked s.live;
   live_there = λ q ne. has_put_other q a asked s.live ne;
-  held_here = held;
-  held_there = λ q ne. refl;
+  quarantined_here = quarantined;
+  quarantined_there = λ q ne. refl;
   condemned_here = condemned;
   condemned_there = λ q ne. refl;
   given_here = among_here a s.given;
@@ -167,14 +167,14 @@ gives_changed p s a asked held condemned = record {
   shut = refl;
 }
 
-condemns_changed : (s : State) (a : ℕ) (given : Bool) → is_live s a ≡ false → among a s.held ≡ false → among a s.given ≡ given → IsChanged a (Condemned given) s (condemns a s)
-condemns_changed s a given live held was = record {
+condemns_changed : (s : State) (a : ℕ) (given : Bool) → is_live s a ≡ false → among a s.quarantined ≡ false → among a s.given ≡ given → IsChanged a (Condemned given) s (condemns a s)
+condemns_changed s a given live quarantined was = record {
   opens = λ n. refl;
   canary = λ n. refl;
   live_here = live;
   live_there = λ q ne. refl;
-  held_here = held;
-  held_there = λ q ne. refl;
+  quarantined_here = quarantined;
+  quarantined_there = λ q ne. refl;
   condemned_here = among_here a s.condemned;
   condemned_there = λ q ne. among_apart a q s.condemned ne;
   given_here = was;
@@ -184,14 +184,14 @@ condemns_changed s a given live held was = record {
   shut = refl;
 }
 
-holds_changed : (p : Shape) (s : State) (a : ℕ) → among a s.condemned ≡ false → among a s.given ≡ true → IsChanged a Held s (takes_back p a s)
+holds_changed : (p : Shape) (s : State) (a : ℕ) → among a s.condemned ≡ false → among a s.given ≡ true → IsChanged a Quarantined s (takes_back p a s)
 holds_changed p s a condemned given = record {
   opens = λ n. has_overlaid p a (zeros (usable p)) n s.opens;
   canary = λ n. canary_overlaid p a (zeros (usable p)) n s.opens;
   live_here = has_removed_same a s.live;
   live_there = λ q ne. has_removed_other q a s.live ne;
-  held_here = among_here a s.held;
-  held_there = λ q ne. among_apart a q s.held ne;
+  quarantined_here = among_here a s.quarantined;
+  quarantined_there = λ q ne. among_apart a q s.quarantined ne;
   condemned_here = condemned;
   condemned_there = λ q ne. refl;
   given_here = given;
@@ -207,8 +207,8 @@ released_changed s b live condemned given = record {
   canary = λ n. refl;
   live_here = live;
   live_there = λ q ne. refl;
-  held_here = among_filter b b s.held ∙ ap (λ (c : Bool). cond c false (among b s.held)) (same_eq b b refl);
-  held_there = λ q ne. among_filter b q s.held ∙ ap (λ (c : Bool). cond c false (among q s.held)) (other_eq q b (λ e. ne (sym e)));
+  quarantined_here = among_filter b b s.quarantined ∙ ap (λ (c : Bool). cond c false (among b s.quarantined)) (same_eq b b refl);
+  quarantined_there = λ q ne. among_filter b q s.quarantined ∙ ap (λ (c : Bool). cond c false (among q s.quarantined)) (other_eq q b (λ e. ne (sym e)));
   condemned_here = condemned;
   condemned_there = λ q ne. refl;
   given_here = given;
@@ -226,24 +226,24 @@ module _ {p : Shape} {uses : Uses} {s : State} {n i : ℕ} {b : SlabUse} {v : Sl
   shows_given asked free =
       let off = available_is v free in
       shows_changed slot h
-      (gives_changed p s (place p n i) asked (at_place uses n i v is_held _ was (h.held n i lt) ∙ off.1) (at_place uses n i v is_condemned _ was (h.condemned n i lt) ∙ off.2))
+      (gives_changed p s (place p n i) asked (at_place uses n i v is_quarantined _ was (h.quarantined n i lt) ∙ off.1) (at_place uses n i v is_condemned _ was (h.condemned n i lt) ∙ off.2))
 
   pub shows_condemned : occupied v ≡ false → Shows p (with_use uses n i (Condemned (was_given v))) (condemns (place p n i) s)
   shows_condemned free =
       let off = available_is v free in
       shows_changed slot h
-      (condemns_changed s (place p n i) (was_given v) (at_place uses n i v lives _ was (h.live n i lt) ∙ off.0) (at_place uses n i v is_held _ was (h.held n i lt) ∙ off.1) (at_place uses n i v was_given _ was (h.given n i lt)))
+      (condemns_changed s (place p n i) (was_given v) (at_place uses n i v lives _ was (h.live n i lt) ∙ off.0) (at_place uses n i v is_quarantined _ was (h.quarantined n i lt) ∙ off.1) (at_place uses n i v was_given _ was (h.given n i lt)))
 
-  pub shows_held : v ≡ Live → Shows p (with_use uses n i Held) (takes_back p (place p n i) s)
-  shows_held live =
+  pub shows_quarantined : v ≡ Live → Shows p (with_use uses n i Quarantined) (takes_back p (place p n i) s)
+  shows_quarantined live =
       shows_changed slot h
       (holds_changed p s (place p n i) (at_place uses n i v is_condemned _ was (h.condemned n i lt) ∙ ap is_condemned live) (at_place uses n i v was_given _ was (h.given n i lt) ∙ ap was_given live))
 
-  pub shows_released : v ≡ Held → Shows p (with_use uses n i Free) (releases (Some (place p n i)) s)
-  shows_released held =
+  pub shows_released : v ≡ Quarantined → Shows p (with_use uses n i Free) (releases (Some (place p n i)) s)
+  shows_released quarantined =
       shows_changed slot h
-      (released_changed s (place p n i) (at_place uses n i v lives _ was (h.live n i lt) ∙ ap lives held) (at_place uses n i v is_condemned _ was (h.condemned n i lt) ∙ ap is_condemned held)
-      (at_place uses n i v was_given _ was (h.given n i lt) ∙ ap was_given held))
+      (released_changed s (place p n i) (at_place uses n i v lives _ was (h.live n i lt) ∙ ap lives quarantined) (at_place uses n i v is_condemned _ was (h.condemned n i lt) ∙ ap is_condemned quarantined)
+      (at_place uses n i v was_given _ was (h.given n i lt) ∙ ap was_given quarantined))
 
 -- ---- bytes are written
 pub shows_written : (p : Shape) (uses : Uses) (s : State) (a : ℕ) (w : List ℕ) → Shows p uses s → Shows p uses (write p a w s)
@@ -252,7 +252,7 @@ shows_written p uses s a w h = record {
   slots = h.slots;
   canary = λ n. canary_overlaid p a w n s.opens ∙ h.canary n;
   live = h.live;
-  held = h.held;
+  quarantined = h.quarantined;
   condemned = h.condemned;
   given = h.given;
   parked = h.parked;
@@ -276,7 +276,7 @@ module _ {p : Shape} {uses : Uses} {s : State} (n : ℕ) (f : SlabUse → SlabUs
     canary = each_slab uses n f b is (λ m o. option_map_or (λ (b : Slab). b.canary) (at m opens) 0 ≡ option_map_or (λ (b : SlabUse). b.canary) o 0) canary
         (λ m ne. ap (λ (o : Option Slab). option_map_or (λ (b : Slab). b.canary) o 0) (there m ne) ∙ h.canary m);
     live = λ m j lt. h.live m j lt ∙ kept_places lives m j;
-    held = λ m j lt. h.held m j lt ∙ kept_places is_held m j;
+    quarantined = λ m j lt. h.quarantined m j lt ∙ kept_places is_quarantined m j;
     condemned = λ m j lt. h.condemned m j lt ∙ kept_places is_condemned m j;
     given = λ m j lt. h.given m j lt ∙ kept_places was_given m j;
     parked = λ m e. some_changed uses n f is m ∙ h.parked m e;
@@ -308,7 +308,7 @@ shows_retired p uses s n b is h =
       slots = h'.slots;
       canary = h'.canary;
       live = h'.live;
-      held = h'.held;
+      quarantined = h'.quarantined;
       condemned = h'.condemned;
       given = h'.given;
       parked = λ m e. ⊎_elim
@@ -334,7 +334,7 @@ shows_unparked p uses s (Some u) was h = record {
   slots = h.slots;
   canary = h.canary;
   live = h.live;
-  held = h.held;
+  quarantined = h.quarantined;
   condemned = h.condemned;
   given = h.given;
   parked = λ m e. h.parked m (left (m == u) (among m s.parked) (sym (among_filter u m s.parked) ∙ e));
@@ -369,7 +369,7 @@ shows_fresh p uses s h =
       slots = each (λ m o. (y : SlabUse) → o ≡ Some y → length y.slots ≡ p.slots) (λ y e. ap (λ (z : SlabUse). length z.slots) (sym (same_Some x y e)) ∙ length-replicate p.slots Never) (λ m ne. h.slots m);
       canary = each (λ m o. option_map_or (λ (b : Slab). b.canary) (at m s.opens) 0 ≡ option_map_or (λ (b : SlabUse). b.canary) o 0) (h.canary n ∙ ap (λ (o : Option SlabUse). option_map_or (λ (b : SlabUse). b.canary) o 0) past) (λ m ne. h.canary m);
       live = λ m j lt. h.live m j lt ∙ same_at lives refl m j lt;
-      held = λ m j lt. h.held m j lt ∙ same_at is_held refl m j lt;
+      quarantined = λ m j lt. h.quarantined m j lt ∙ same_at is_quarantined refl m j lt;
       condemned = λ m j lt. h.condemned m j lt ∙ same_at is_condemned refl m j lt;
       given = λ m j lt. h.given m j lt ∙ same_at was_given refl m j lt;
       parked = λ m e. there m (h.parked m e);
@@ -384,7 +384,7 @@ shows_taken p uses s (m ∷ ms) e h = record {
   slots = h.slots;
   canary = h.canary;
   live = h.live;
-  held = h.held;
+  quarantined = h.quarantined;
   condemned = h.condemned;
   given = h.given;
   parked = h.parked;

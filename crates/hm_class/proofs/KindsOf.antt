@@ -9,7 +9,7 @@ use Rattle.hm_slab_lists.specs.Named.{list_named}
 use Rattle.hm_slab_meta.specs.declared.slab_meta.SlotState.{SlotState}
 use Rattle.hm_slab_meta.specs.declared.slab_meta.SlotState.TheVariants as state
 use Rattle.hm_slab_meta.specs.Uses as meta
-use Rattle.hm_slab_meta.specs.Uses.{SlotUse, Never, Free, Live, Held, Condemned, state_of, was_given}
+use Rattle.hm_slab_meta.specs.Uses.{SlotUse, Never, Free, Live, Quarantined, Condemned, state_of, was_given}
 use Rattle.hm_class.specs.Slabs.{shown, list_of}
 use Rattle.hm_class.specs.Uses.{lives, has_occupied, has_available, kind_of}
 use Rattle.hm_class.proofs.Shown.{all_available, unused_is}
@@ -19,14 +19,14 @@ abbrev pub is_live_state : SlotState → Bool
 is_live_state state.Never = false
 is_live_state state.Free = false
 is_live_state state.Live = true
-is_live_state state.Held = false
+is_live_state state.Quarantined = false
 is_live_state state.Condemned = false
 
 lives_by : (u : SlotUse) → lives u ≡ is_live_state (state_of u)
 lives_by Never = refl
 lives_by Free = refl
 lives_by Live = refl
-lives_by Held = refl
+lives_by Quarantined = refl
 lives_by (Condemned given) = refl
 
 pub live_by : (o : Option SlotUse) (s : SlotState) → option_map state_of o ≡ Some s → is_live_state s ≡ option_map_or lives o false
@@ -37,7 +37,7 @@ pub not_live : (s : SlotState) → (s ≡ state.Live → ⊥) → is_live_state 
 not_live state.Never ne = refl
 not_live state.Free ne = refl
 not_live state.Live ne = absurd (ne refl)
-not_live state.Held ne = refl
+not_live state.Quarantined ne = refl
 not_live state.Condemned ne = refl
 
 pub given_by : (o : Option SlotUse) (b : Bool) → option_map was_given o ≡ Some b → b ≡ option_map_or was_given o false

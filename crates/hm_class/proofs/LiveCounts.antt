@@ -53,7 +53,7 @@ module _ {P : Type 0} (meaning : pages.Ghosts P) (region : Identity) (store₁ s
   served_live next.Exhausted e can v = omega (arith, ap live_count v.1.0.slabs)
   served_live next.PagesFailed e can v = omega (arith, ap live_count v.1.0.slabs)
 
--- the pages stay alike, and none fails as a slot is given
+-- the pages stay alike, and no page fault occurs as a slot is given
 module _ {P : Type 0} (meaning : pages.Ghosts P) (region : Identity) (store store₁ : Store) (begun mid : P) where
   pub found_alike : (n : NextSlab) → Finds meaning store store₁ begun mid region.shape n → AreAlike meaning begun mid
   found_alike (next.Open n) f = (f.1.0.told_same, f.1.0.owner_same)

@@ -97,13 +97,13 @@ source_serves p all s n shape h source =
 -- an address of a slab that is not open is not taken
 taken_used : (s : State) (a : ℕ) → is_taken s a ≡ true → 1 ≤ uses s a
 taken_used s a e =
-    of (is_live s a) (among a s.held) (among a s.condemned) refl refl refl e
+    of (is_live s a) (among a s.quarantined) (among a s.condemned) refl refl refl e
   where
-    of : (x y z : Bool) → is_live s a ≡ x → among a s.held ≡ y → among a s.condemned ≡ z → (x || (y || z)) ≡ true → 1 ≤ uses s a
-    of true y z live held condemned e = omega (arith, has_times a s.live live)
-    of false true z live held condemned e = omega (arith, times_among a s.held held)
-    of false false true live held condemned e = omega (arith, times_among a s.condemned condemned)
-    of false false false live held condemned e = absurd (true≢false (sym e))
+    of : (x y z : Bool) → is_live s a ≡ x → among a s.quarantined ≡ y → among a s.condemned ≡ z → (x || (y || z)) ≡ true → 1 ≤ uses s a
+    of true y z live quarantined condemned e = omega (arith, has_times a s.live live)
+    of false true z live quarantined condemned e = omega (arith, times_among a s.quarantined quarantined)
+    of false false true live quarantined condemned e = omega (arith, times_among a s.condemned condemned)
+    of false false false live quarantined condemned e = absurd (true≢false (sym e))
 
 pub not_taken : (p : Shape) (s : State) (n i : ℕ) → IsShape p → IsSound p s → is_open s n ≡ false → i < p.slots → is_taken s (place p n i) ≡ false
 not_taken p s n i shape h off lt = by_false (is_taken s (place p n i)) (λ e.

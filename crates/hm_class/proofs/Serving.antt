@@ -42,7 +42,7 @@ module _ {P : Type 0} {meaning : pages.Ghosts P} {region : Identity} {n : ℕ} {
     quarantine_same = quarantine;
   }
 
--- the pages tell as before, and none failed
+-- the pages tell as before, and no page fault occurred
 pub gives_pages : {P : Type 0} (meaning : pages.Ghosts P) (region : Identity) (n i : ℕ) (old new : Slabs) (before now : P) (o : Reply) → Gives meaning region old new before now (slot_in n i) o
     → KeepsPages meaning before now
 gives_pages meaning region n i old new before now (reply.Given a size) g = g.written.pages

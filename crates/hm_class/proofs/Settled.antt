@@ -28,7 +28,7 @@ use Rattle.hm_class_rules.proofs.Alike.{drawn_below}
 use Rattle.hm_class_rules.proofs.Streams.{next_below}
 use Rattle.hm_class.specs.declared.event.Emptied.{Emptied}
 use Rattle.hm_class.specs.declared.event.Emptied.TheVariants as emptied
-use Rattle.hm_slab_meta.specs.Uses.{Free, Live, Held}
+use Rattle.hm_slab_meta.specs.Uses.{Free, Live, Quarantined}
 use Rattle.hm_class.specs.Slabs.{Slabs}
 use Rattle.hm_class.specs.declared.slabs.Slot.{Slot}
 use Rattle.hm_class.specs.Uses.{numbers_of, open_at, Uses, SlabUse, lives, kind_at, slab_in, use_at, with_slot, with_use, with_shut, shut_slab, live_count}
@@ -39,7 +39,7 @@ use Rattle.hm_class.proofs.Filing.{Stands, Relisted, with_unparked, placed_relis
 use Rattle.hm_model.specs.Calls.{entry_of, no_choices}
 use Rattle.hm_class.specs.Events.{freed_choices, freed_draws}
 use Rattle.hm_class.specs.Frees as frees
-use Rattle.hm_class.specs.Frees.{array_word, index_of_word, array_stream, Holds, Settles, is_surplus, freed_uses}
+use Rattle.hm_class.specs.Frees.{array_word, index_of_word, array_stream, Quarantines, Settles, is_surplus, freed_uses}
 use Rattle.hm_class.specs.Region.{HoldsSlabs}
 use Rattle.hm_class.specs.declared.identity.Identity.{Identity}
 use Rattle.hm_class.specs.declared.store.Store.{Store}
@@ -53,7 +53,7 @@ use Rattle.hm_class.proofs.Paged.{holds_retired, holds_purged}
 use Rattle.hm_class.proofs.Permitted.{allowed_of, told_pair}
 use Rattle.hm_class.proofs.Shown.{kind_is, kind_shut}
 use Rattle.hm_class.proofs.Used.{found, counted, count_changed, use_here, slab_beside, open_changed}
-use Rattle.hm_class.proofs.Returned.{was_live, held_shows, held_slabs, kind_then, release_now, IsReleased, is_released}
+use Rattle.hm_class.proofs.Returned.{was_live, quarantined_shows, quarantined_slabs, kind_then, release_now, IsReleased, is_released}
 use Rattle.hm_class.proofs.Permitted.{live_block, canary_found, live_open}
 use Rattle.hm_class.specs.Judgements.{Accepts}
 use Rattle.hm_class.proofs.Entries.{pushed, stands_now, sound_now, allows_now, kept_now}
@@ -63,8 +63,8 @@ first_of true y e = refl
 first_of false y e = e
 
 -- the slot that is free is there
-freed_use : (all : Uses) (n i : ℕ) → use_at all n i ≡ Some Held → use_at (with_use all n i Free) n i ≡ Some Free
-freed_use all n i was = let f = found all n i Held was in use_here all n i Free f.slab f.is_slab (slice_get_within f.slab.slots i Held f.is_use)
+freed_use : (all : Uses) (n i : ℕ) → use_at all n i ≡ Some Quarantined → use_at (with_use all n i Free) n i ≡ Some Free
+freed_use all n i was = let f = found all n i Quarantined was in use_here all n i Free f.slab f.is_slab (slice_get_within f.slab.slots i Quarantined f.is_use)
 
 was_parked : (most : ℕ) (parked : List ℕ) (u : Option ℕ) → Unparks most parked u → (m : ℕ) → u ≡ Some m → among m parked ≡ true
 was_parked most parked None allowed m e = absurd (none-some m e)
@@ -100,7 +100,7 @@ clean_without p s a off = ap (λ (b : Bool). cond (b && not (found_canary p s a 
 -- and f' after it
 pub record IsFree {P : Type 0} (meaning : pages.Ghosts P) (region : Identity) (store store₁ : Store) (begun half : P) (a : ℕ) (slot : Slot) (stated : Option ℕ) (result : Option ℕ × Option ℕ) (f f' : ℕ) : Type 0 where
   pub accepts : Accepts meaning region.shape store.slabs begun a stated slot
-  pub holds : Holds meaning store store₁ begun half region.shape a slot result
+  pub quarantines : Quarantines meaning store store₁ begun half region.shape a slot result
   pub count : f ≡ meaning.faults begun
   pub later : f ≤ f'
 
@@ -160,7 +160,7 @@ module _ {P : Type 0} {meaning : pages.Ghosts P} {begun half : P} {region : Iden
       let x : Entry = entry_freed region.shape store.stream who a stated released e f f' in
       let same : (freed_choices released e).released ≡ released = released_is released e in
       let release : Releases region.shape taken released = subst (λ (o : Option ℕ). Releases region.shape taken o) (sym s.let_is)
-      (release_now kept refl refl free.accepts.judged free.holds) in
+      (release_now kept refl refl free.accepts.judged free.quarantines) in
       pushed kept store' x
       (allowed_of (GiveBack a stated) reply.Freed (freed_choices released e) (freed_draws (array_word region.shape (next_word store.stream)) e) (draws_are region.shape store.stream e) tt (free.count ∙ kept.count) free.later (record {
         block = live_block region.shape store.slabs.slabs first a region.served.shape kept.follows.shows slot free.accepts.judged;
@@ -190,21 +190,21 @@ module _ {P : Type 0} {meaning : pages.Ghosts P} {begun half : P} {region : Iden
         parking = s.parking;
       }))
 
-  -- the slots with the freed one held
+  -- the slots with the freed one quarantined
   shows₁ : Shows region.shape store₁.slabs.slabs taken
-  shows₁ = held_shows kept refl refl free.accepts.judged free.holds
+  shows₁ = quarantined_shows kept refl refl free.accepts.judged free.quarantines
 
   slabs₁ : IsTrue (meaning.told begun) → HoldsSlabs region.shape taken.opens (meaning.runs half)
-  slabs₁ = held_slabs kept refl refl free.accepts.judged free.holds
+  slabs₁ = quarantined_slabs kept refl refl free.accepts.judged free.quarantines
 
   kind₁ : (m : ℕ) → kind region.shape first m ≡ kind_at store₁.slabs.slabs m
-  kind₁ = kind_then kept refl refl free.accepts.judged free.holds
+  kind₁ = kind_then kept refl refl free.accepts.judged free.quarantines
 
   live : is_live first a ≡ true
-  live = was_live kept refl refl free.accepts.judged free.holds
+  live = was_live kept refl refl free.accepts.judged free.quarantines
 
   live_taken : length taken.live ≤ live_count store₁.slabs.slabs
-  live_taken = omega (arith, kept.follows.live_all, ap live_count free.holds.slabs, counted lives store.slabs.slabs slot.slab slot.index Held Live free.accepts.judged.1, length_taken a first.live live)
+  live_taken = omega (arith, kept.follows.live_all, ap live_count free.quarantines.slabs, counted lives store.slabs.slabs slot.slab slot.index Quarantined Live free.accepts.judged.1, length_taken a first.live live)
 
   -- what was open is open, and slabs are what they were
   open₁ : (m : ℕ) → is_open taken m ≡ is_open first m
@@ -219,12 +219,12 @@ module _ {P : Type 0} {meaning : pages.Ghosts P} {begun half : P} {region : Iden
       (sym (shows₁.opens m) ∙ open₁ m ∙ kept.follows.shows.opens m ∙ is.0, sym (same_kind₁ m) ∙ is.1)
 
   -- nothing left the quarantine
-  pub kept_held : (e : Emptied) → None ≡ let_go store.quarantine a (index_of_word region.shape (next_word store.stream)) → e ≡ emptied.Kept → store'.slabs.slabs ≡ store₁.slabs.slabs → SameLists store₁.slabs store'.slabs → (IsTrue (meaning.told begun) → meaning.runs now ≡ meaning.runs half) → store'.stream ≡ array_stream region.shape store.stream → store'.slabs.parking ≡ store.slabs.parking
+  pub kept_quarantined : (e : Emptied) → None ≡ let_go store.quarantine a (index_of_word region.shape (next_word store.stream)) → e ≡ emptied.Kept → store'.slabs.slabs ≡ store₁.slabs.slabs → SameLists store₁.slabs store'.slabs → (IsTrue (meaning.told begun) → meaning.runs now ≡ meaning.runs half) → store'.stream ≡ array_stream region.shape store.stream → store'.slabs.parking ≡ store.slabs.parking
       → store'.quarantine ≡ store₁.quarantine → Ends None e
-  kept_held e none e_is same same_lists same_runs words parking quarantine =
+  kept_quarantined e none e_is same same_lists same_runs words parking quarantine =
       let m : ℕ = slab_of region.shape a in
       let ka : Kind = kind region.shape first m in
-      let all_lists : store'.slabs.lists ≡ store.slabs.lists = same_lists.lists ∙ free.holds.lists.lists in
+      let all_lists : store'.slabs.lists ≡ store.slabs.lists = same_lists.lists ∙ free.quarantines.lists.lists in
       subst (λ (x : Emptied). Ends None x) (sym e_is)
       (finish {e = emptied.Kept} {last = taken} {m = m} (record {
         let_is = none;
@@ -235,7 +235,7 @@ module _ {P : Type 0} {meaning : pages.Ghosts P} {begun half : P} {region : Iden
         shows = subst (λ (u : Uses). Shows region.shape u taken) (sym same) shows₁;
         shut = ap (λ (l : Lists). l.retired) all_lists ∙ kept.follows.shut;
         full = same_full store₁.slabs.slabs store'.slabs.slabs store.slabs.lists.full store'.slabs.lists.full same (ap (λ (l : Lists). l.full) all_lists) full₁;
-        numbers = same_lists.numbers ∙ free.holds.lists.numbers ∙ kept.follows.numbers;
+        numbers = same_lists.numbers ∙ free.quarantines.lists.numbers ∙ kept.follows.numbers;
         live = omega (arith, live_taken, ap live_count same);
         slabs = λ y. subst (λ (r : PageRuns). HoldsSlabs region.shape taken.opens r) (sym (same_runs y)) (slabs₁ y);
         slab = refl;
@@ -245,7 +245,7 @@ module _ {P : Type 0} {meaning : pages.Ghosts P} {begun half : P} {region : Iden
         empty = ap (λ (l : Lists). l.empty) all_lists ∙ sym (listed_same Empty ka m store.slabs.lists.empty);
         stream = words;
         parking = parking;
-        quarantine = quarantine ∙ free.holds.quarantine_is;
+        quarantine = quarantine ∙ free.quarantines.quarantine_is;
       }))
 
   -- ---- slot b left the quarantine
@@ -261,15 +261,15 @@ module _ {P : Type 0} {meaning : pages.Ghosts P} {begun half : P} {region : Iden
 
     release : Releases region.shape taken (Some b)
     release = subst (λ (o : Option ℕ). Releases region.shape taken o) (sym let_is)
-        (release_now kept refl refl free.accepts.judged free.holds)
+        (release_now kept refl refl free.accepts.judged free.quarantines)
 
-    place_b : IsReleased kept refl refl free.accepts.judged free.holds b
-    place_b = is_released kept refl refl free.accepts.judged free.holds b release.0
+    place_b : IsReleased kept refl refl free.accepts.judged free.quarantines b
+    place_b = is_released kept refl refl free.accepts.judged free.quarantines b release.0
 
     shows₂ : Shows region.shape uses₂ freed
     shows₂ =
         let r = place_b in
-        let g = found store₁.slabs.slabs m (slot_of region.shape b) Held r.used in
+        let g = found store₁.slabs.slabs m (slot_of region.shape b) Quarantined r.used in
         subst (λ (q : ℕ). Shows region.shape uses₂ (releases (Some q) taken)) (sym r.is_place) (shows_released (slot_shown region.served.shape shows₁ g.is_slab r.slot) r.used shows₁ refl)
 
     -- whether the slab is one too many
@@ -283,14 +283,14 @@ module _ {P : Type 0} {meaning : pages.Ghosts P} {begun half : P} {region : Iden
 
         of : (x : Bool) → is_empty region.shape freed m ≡ x → (x && nat_lt 131072 ((length store₁.slabs.lists.empty + 1) * region.shape.slab)) ≡ (x && nat_lt 131072 (length (empty_slabs region.shape freed) * region.shape.slab))
         of true e = ap (λ (n : ℕ). nat_lt 131072 (n * region.shape.slab))
-            (omega (arith, one_more_empty region.shape first a b region.served.shape (sound_now kept) live release e, now_kept.empty_count, ap (λ (l : Lists). length l.empty) free.holds.lists.lists))
+            (omega (arith, one_more_empty region.shape first a b region.served.shape (sound_now kept) live release e, now_kept.empty_count, ap (λ (l : Lists). length l.empty) free.quarantines.lists.lists))
         of false e = refl
 
     surplus_when : (x : Bool) → is_surplus region.shape uses₂ (length store₁.slabs.lists.empty) m ≡ x → surplus region.shape freed (Some b) ≡ cond x (Some m) None
     surplus_when x e = ap (λ (y : Bool). cond y (Some m) None) (sym surplus_is ∙ e)
 
     free_live : live_count uses₂ ≡ live_count store₁.slabs.slabs
-    free_live = omega (arith, counted lives store₁.slabs.slabs m (slot_of region.shape b) Free Held place_b.used)
+    free_live = omega (arith, counted lives store₁.slabs.slabs m (slot_of region.shape b) Free Quarantined place_b.used)
 
     -- where the slab stands
     stands : Stands store.slabs.lists m (kind_at store₁.slabs.slabs m)
@@ -299,16 +299,16 @@ module _ {P : Type 0} {meaning : pages.Ghosts P} {begun half : P} {region : Iden
     -- the slabs before the lists follow
     module _ (mid : Slabs) (mid_slabs : mid.slabs ≡ uses₂) (mid_lists : SameLists store₁.slabs mid) where
       all_mid : mid.lists ≡ store.slabs.lists
-      all_mid = mid_lists.lists ∙ free.holds.lists.lists
+      all_mid = mid_lists.lists ∙ free.quarantines.lists.lists
 
       beside₂ : (n : ℕ) → n ≢ m → slab_in uses₂ n ≡ slab_in store₁.slabs.slabs n
       beside₂ n ne =
-          let g = found store₁.slabs.slabs m (slot_of region.shape b) Held place_b.used in
+          let g = found store₁.slabs.slabs m (slot_of region.shape b) Quarantined place_b.used in
           slab_beside store₁.slabs.slabs m (with_slot (slot_of region.shape b) Free) g.slab g.is_slab n ne
 
       open₂ : open_at uses₂ m ≡ true
       open₂ =
-          let g = found store₁.slabs.slabs m (slot_of region.shape b) Held place_b.used in
+          let g = found store₁.slabs.slabs m (slot_of region.shape b) Quarantined place_b.used in
           open_changed store₁.slabs.slabs m (with_slot (slot_of region.shape b) Free) g.slab g.is_slab refl ∙ sym (shows₁.opens m) ∙ place_b.open_slab
 
       -- it goes to the list of its kind
@@ -337,7 +337,7 @@ module _ {P : Type 0} {meaning : pages.Ghosts P} {begun half : P} {region : Iden
         joined_empty = ap (λ (l : Lists). l.empty) lists_are ∙ relisted.empty
 
         joined_numbers : store'.slabs.numbers ≡ numbers_of region.shape
-        joined_numbers = joins.numbers ∙ mid_lists.numbers ∙ free.holds.lists.numbers ∙ kept.follows.numbers
+        joined_numbers = joins.numbers ∙ mid_lists.numbers ∙ free.quarantines.lists.numbers ∙ kept.follows.numbers
 
       -- it is retired
       module _ (w : ℕ) (u : Option ℕ) (parks : Parks m (drawn (length mid.parking) w) mid store'.slabs) (was_there : u ≡ slice_index_or mid.parking (drawn (length mid.parking) w) None) where
@@ -360,7 +360,7 @@ module _ {P : Type 0} {meaning : pages.Ghosts P} {begun half : P} {region : Iden
             ∙ ap (λ (l : List ℕ). with_unparked l u) kept.follows.shut
 
         parked_numbers : store'.slabs.numbers ≡ numbers_of region.shape
-        parked_numbers = parks.numbers ∙ mid_lists.numbers ∙ free.holds.lists.numbers ∙ kept.follows.numbers
+        parked_numbers = parks.numbers ∙ mid_lists.numbers ∙ free.quarantines.lists.numbers ∙ kept.follows.numbers
 
     pub kept_released : (e : Emptied) → frees.Releases meaning store₁ store' half now region.shape b e → f' ≡ meaning.faults now → Ends (Some b) e
     kept_released e v now_is = by_end e v.empties
@@ -369,7 +369,7 @@ module _ {P : Type 0} {meaning : pages.Ghosts P} {begun half : P} {region : Iden
         mid = v.mid
 
         parking : mid.parking ≡ store.slabs.parking
-        parking = v.lists.parking ∙ free.holds.lists.parking
+        parking = v.lists.parking ∙ free.quarantines.lists.parking
 
         over : Bool → Type 0
         over x = is_surplus region.shape mid.slabs (length mid.lists.empty) m ≡ x
@@ -394,15 +394,15 @@ module _ {P : Type 0} {meaning : pages.Ghosts P} {begun half : P} {region : Iden
               full = joined_full mid v.slabs v.lists ka j refl;
               numbers = joined_numbers mid v.slabs v.lists ka j refl;
               live = omega (arith, live_taken, ap live_count (slabs_are mid v.slabs v.lists ka j refl), free_live);
-              slabs = λ y. subst (λ (r : PageRuns). HoldsSlabs region.shape taken.opens r) (sym (q.page_runs_same (free.holds.cleared.pages.told ∙ y))) (slabs₁ y);
+              slabs = λ y. subst (λ (r : PageRuns). HoldsSlabs region.shape taken.opens r) (sym (q.page_runs_same (free.quarantines.cleared.pages.told ∙ y))) (slabs₁ y);
               slab = refl;
               was = kind₁ m;
               is = kind_is region.shape uses₂ freed m region.served.shape shows₂;
               partial = joined_partial mid v.slabs v.lists ka j refl;
               empty = joined_empty mid v.slabs v.lists ka j refl;
-              stream = q.stream_is ∙ free.holds.stream_is;
+              stream = q.stream_is ∙ free.quarantines.stream_is;
               parking = q.parking_is ∙ parking;
-              quarantine = q.quarantine_same ∙ free.holds.quarantine_is;
+              quarantine = q.quarantine_same ∙ free.quarantines.quarantine_is;
             })
         by_end (emptied.Retired d w u) x =
             let j = x.1 in
@@ -425,30 +425,30 @@ module _ {P : Type 0} {meaning : pages.Ghosts P} {begun half : P} {region : Iden
               let_is = let_is;
               after = refl;
               empties = subst (λ (o : Option ℕ). Empties t freed f f' (freed_choices (Some b) (emptied.Retired m w u)) o) (sym (surplus_when true (surplus_by true x.0))) (inl (refl, refl, allowed));
-              word = j.word_is ∙ ap next_word free.holds.stream_is;
+              word = j.word_is ∙ ap next_word free.quarantines.stream_is;
               unparked = here;
               shows = subst (λ (x : Uses). Shows region.shape x (retires (Some m) s₃)) (sym slabs) (shows_retired region.shape uses₂ s₃ m g.slab g.is_slab shows₃);
               shut = parked_shut mid v.slabs v.lists w u j.parks j.unparked_is ∙ shut_with u freed;
               full = parked_full mid v.slabs v.lists w u j.parks j.unparked_is;
               numbers = parked_numbers mid v.slabs v.lists w u j.parks j.unparked_is;
               live = omega (arith, live_taken, ap live_count slabs, shut_live uses₂ m g.slab g.is_slab, free_live, ap (λ (l : List (ℕ × ℕ)). length l) (unparked_live u freed));
-              slabs = λ y. subst (λ (r : PageRuns). HoldsSlabs region.shape (retires (Some m) s₃).opens r) (sym (j.dropped.0 (free.holds.cleared.pages.told ∙ y)))
+              slabs = λ y. subst (λ (r : PageRuns). HoldsSlabs region.shape (retires (Some m) s₃).opens r) (sym (j.dropped.0 (free.quarantines.cleared.pages.told ∙ y)))
                   (subst (λ (l : List (ℕ × Slab)). HoldsSlabs region.shape (removed m l) (cond (has_bytes region.shape) (map.remove (meaning.runs half) (slab_at region.shape m)) (meaning.runs half))) (sym (unparked_opens u freed)) (holds_retired region.shape taken.opens m (meaning.runs half) region.served.shape (slabs₁ y)));
               slab = refl;
               was = kind₁ m;
               is = kind_shut region.shape (retires (Some m) s₃) m region.served.shape (has_removed_same m s₃.opens);
               partial = ap (λ (l : Lists). l.partial) all ∙ retired_partial store.slabs.lists m u (kind_at store₁.slabs.slabs m) stands;
               empty = ap (λ (l : Lists). l.empty) all ∙ retired_empty store.slabs.lists m u (kind_at store₁.slabs.slabs m) stands;
-              stream = j.stream_is ∙ ap after_word free.holds.stream_is;
+              stream = j.stream_is ∙ ap after_word free.quarantines.stream_is;
               parking = j.parks.parking ∙ ap (λ (x : ℕ). slice_set mid.parking (drawn x w) (Some m)) length_is ∙ ap (λ (l : List (Option ℕ)). slice_set l (drawn region.config.park_length w) (Some m)) parking
                   ∙ ap (λ (i : ℕ). slice_set store.slabs.parking i (Some m)) (sym (parking_drawn t store.stream m w u));
-              quarantine = j.quarantine_same ∙ free.holds.quarantine_is;
+              quarantine = j.quarantine_same ∙ free.quarantines.quarantine_is;
             }))
         by_end (emptied.Purged d) w =
             let q = w.1 in
             let j = q.joins in
             let final : State = purges region.shape (Some m) freed in
-            let rose : f < f' = omega (arith, q.dropped.2, (free.count ∙ sym free.holds.cleared.pages.count), now_is) in
+            let rose : f < f' = omega (arith, q.dropped.2, (free.count ∙ sym free.quarantines.cleared.pages.count), now_is) in
             let shows₃ : Shows region.shape uses₂ final = shows_written region.shape uses₂ freed (slab_at region.shape m) (zeros region.shape.slab) shows₂ in
             let empty₂ : kind region.shape freed m ≡ Empty = kind_empty region.shape freed m (first_of _ _ (sym surplus_is ∙ surplus_by true w.0)) in
             let is : kind_at uses₂ m ≡ Empty = sym (kind_is region.shape uses₂ freed m region.served.shape shows₂) ∙ empty₂ in
@@ -464,27 +464,27 @@ module _ {P : Type 0} {meaning : pages.Ghosts P} {begun half : P} {region : Iden
               full = joined_full mid v.slabs v.lists Empty j is;
               numbers = joined_numbers mid v.slabs v.lists Empty j is;
               live = omega (arith, live_taken, ap live_count (slabs_are mid v.slabs v.lists Empty j is), free_live);
-              slabs = λ y. subst (λ (r : PageRuns). HoldsSlabs region.shape final.opens r) (sym (q.dropped.1 (free.holds.cleared.pages.told ∙ y))) (holds_purged region.shape taken.opens m (meaning.runs half) region.served.shape q.dropped.0 place_b.open_slab (slabs₁ y));
+              slabs = λ y. subst (λ (r : PageRuns). HoldsSlabs region.shape final.opens r) (sym (q.dropped.1 (free.quarantines.cleared.pages.told ∙ y))) (holds_purged region.shape taken.opens m (meaning.runs half) region.served.shape q.dropped.0 place_b.open_slab (slabs₁ y));
               slab = refl;
               was = kind₁ m;
               is = kind_is region.shape uses₂ final m region.served.shape shows₃ ∙ is;
               partial = joined_partial mid v.slabs v.lists Empty j is;
               empty = joined_empty mid v.slabs v.lists Empty j is;
-              stream = q.stream_is ∙ free.holds.stream_is;
+              stream = q.stream_is ∙ free.quarantines.stream_is;
               parking = q.parking_is ∙ parking;
-              quarantine = q.quarantine_same ∙ free.holds.quarantine_is;
+              quarantine = q.quarantine_same ∙ free.quarantines.quarantine_is;
             }))
 
   -- what was released, if anything
   pub kept_ended : (released : Option ℕ) (e : Emptied) → released ≡ let_go store.quarantine a (index_of_word region.shape (next_word store.stream)) → Settles meaning store₁ store' half now region.shape released e
       → f' ≡ meaning.faults now → Ends released e
-  kept_ended None e let_is v now_is = kept_held e let_is v.0 v.1 v.2 (λ y. v.3.page_runs_same (free.holds.cleared.pages.told ∙ y)) (v.3.stream_is ∙ free.holds.stream_is) (v.3.parking_is ∙ free.holds.lists.parking) v.3.quarantine_same
+  kept_ended None e let_is v now_is = kept_quarantined e let_is v.0 v.1 v.2 (λ y. v.3.page_runs_same (free.quarantines.cleared.pages.told ∙ y)) (v.3.stream_is ∙ free.quarantines.stream_is) (v.3.parking_is ∙ free.quarantines.lists.parking) v.3.quarantine_same
   kept_ended (Some b) e let_is v now_is = kept_released b let_is e v now_is
 
   -- what is released was not live, and no fault is taken back
   pub live_ended : (released : Option ℕ) (e : Emptied) → released ≡ let_go store.quarantine a (index_of_word region.shape (next_word store.stream)) → Settles meaning store₁ store' half now region.shape released e
       → live_count store'.slabs.slabs + 1 ≡ live_count store.slabs.slabs
-  live_ended released e let_is v = omega (arith, same released e let_is v, ap live_count free.holds.slabs, counted lives store.slabs.slabs slot.slab slot.index Held Live free.accepts.judged.1)
+  live_ended released e let_is v = omega (arith, same released e let_is v, ap live_count free.quarantines.slabs, counted lives store.slabs.slabs slot.slab slot.index Quarantined Live free.accepts.judged.1)
     where
       same : (released : Option ℕ) (e : Emptied) → released ≡ let_go store.quarantine a (index_of_word region.shape (next_word store.stream)) → Settles meaning store₁ store' half now region.shape released e → live_count store'.slabs.slabs ≡ live_count store₁.slabs.slabs
       same None e let_is v = ap live_count v.1

@@ -12,17 +12,17 @@ use Rattle.hm_class_rules.proofs.Changes.{kind_neither}
 use Rattle.hm_class_rules.proofs.Legal.{empty_open}
 use Rattle.hm_class_rules.proofs.Listed.{any_none}
 use Rattle.hm_slab_meta.specs.Uses.{SlotUse}
-use Rattle.hm_slab_meta.specs.Uses.{Never, Free, Live, Held, Condemned, is_available}
-use Rattle.hm_class.specs.Uses.{Uses, SlabUse, lives, is_condemned, is_held, occupied, has_occupied, has_available, is_partly, is_unused, kind_of, kind_at, slab_in, use_at, passes_at}
+use Rattle.hm_slab_meta.specs.Uses.{Never, Free, Live, Quarantined, Condemned, is_available}
+use Rattle.hm_class.specs.Uses.{Uses, SlabUse, lives, is_condemned, is_quarantined, occupied, has_occupied, has_available, is_partly, is_unused, kind_of, kind_at, slab_in, use_at, passes_at}
 use Rattle.hm_class.specs.Kept.{Shows}
 
 -- ---- one slot
-occupied_is : (o : Option SlotUse) → (option_map_or lives o false || (option_map_or is_held o false || option_map_or is_condemned o false)) ≡ option_map_or occupied o false
+occupied_is : (o : Option SlotUse) → (option_map_or lives o false || (option_map_or is_quarantined o false || option_map_or is_condemned o false)) ≡ option_map_or occupied o false
 occupied_is None = refl
 occupied_is (Some Never) = refl
 occupied_is (Some Free) = refl
 occupied_is (Some Live) = refl
-occupied_is (Some Held) = refl
+occupied_is (Some Quarantined) = refl
 occupied_is (Some (Condemned given)) = refl
 
 -- a slot is available where it is not occupied
@@ -30,15 +30,15 @@ pub available_test : (u : SlotUse) → not (occupied u) ≡ is_available u
 available_test Never = refl
 available_test Free = refl
 available_test Live = refl
-available_test Held = refl
+available_test Quarantined = refl
 available_test (Condemned given) = refl
 
 -- a place is taken where its slot is occupied
 pub taken_is : (p : Shape) (uses : Uses) (s : State) (n i : ℕ) → Shows p uses s → i < p.slots → is_taken s (place p n i) ≡ passes_at occupied uses n i
 taken_is p uses s n i h lt =
-    ap (λ (b : Bool). b || (among (place p n i) s.held || among (place p n i) s.condemned)) (h.live n i lt)
-    ∙ ap (λ (b : Bool). passes_at lives uses n i || (b || among (place p n i) s.condemned)) (h.held n i lt)
-    ∙ ap (λ (b : Bool). passes_at lives uses n i || (passes_at is_held uses n i || b)) (h.condemned n i lt)
+    ap (λ (b : Bool). b || (among (place p n i) s.quarantined || among (place p n i) s.condemned)) (h.live n i lt)
+    ∙ ap (λ (b : Bool). passes_at lives uses n i || (b || among (place p n i) s.condemned)) (h.quarantined n i lt)
+    ∙ ap (λ (b : Bool). passes_at lives uses n i || (passes_at is_quarantined uses n i || b)) (h.condemned n i lt)
     ∙ occupied_is (use_at uses n i)
 
 open_is : (p : Shape) (uses : Uses) (s : State) (n : ℕ) (b : SlabUse) → Shows p uses s → slab_in uses n ≡ Some b → is_open s n ≡ b.opened
@@ -69,7 +69,7 @@ all_range f g k (x ∷ xs) same =
 pub all_available : (us : List SlotUse) → list_all is_available us ≡ not (has_occupied us)
 all_available [] = refl
 all_available (Live ∷ us) = refl
-all_available (Held ∷ us) = refl
+all_available (Quarantined ∷ us) = refl
 all_available (Condemned g ∷ us) = refl
 all_available (Free ∷ us) = all_available us
 all_available (Never ∷ us) = all_available us
@@ -111,7 +111,7 @@ itself false = refl
 pub unused_is : (us : List SlotUse) → 1 ≤ length us → not (has_occupied us) ≡ (not (has_occupied us) && has_available us)
 unused_is [] some = absurd (omega arith)
 unused_is (Live ∷ us) some = refl
-unused_is (Held ∷ us) some = refl
+unused_is (Quarantined ∷ us) some = refl
 unused_is (Condemned g ∷ us) some = refl
 unused_is (Free ∷ us) some = itself (not (has_occupied us))
 unused_is (Never ∷ us) some = itself (not (has_occupied us))

@@ -17,7 +17,7 @@ use Rattle.hm_slab_lists.specs.Table.{Table, new_table, is_open}
 use Rattle.hm_slab_lists.specs.TableLending.{with_meta_of}
 use Rattle.hm_slab_lists.proofs.ByNumber.{is_tie, no_tie}
 use Rattle.hm_slab_meta.specs.Uses as meta
-use Rattle.hm_slab_meta.specs.Uses.{Never, Free, Live, Held, Condemned, was_given}
+use Rattle.hm_slab_meta.specs.Uses.{Never, Free, Live, Quarantined, Condemned, was_given}
 use Rattle.hm_class.specs.Slabs.{Slabs, shown, slab_in_table, uses_of, slabs_of, IsFiled}
 use Rattle.hm_class.specs.Uses.{Uses, SlabUse, kind_of, kind_at, occupied, passes_at, slab_in, use_at, open_at, canary_at, changed, with_slab}
 use Rattle.hm_class.specs.Sources.{IsWithin}
@@ -192,7 +192,7 @@ module _ (t : Table) (n i : ℕ) (slab : meta.SlabUse) (filed : IsFiled t) (is :
       of (Some Never) e = refl
       of (Some Free) e = refl
       of (Some Live) e = absurd (true≢false (same_Some true false e))
-      of (Some Held) e = absurd (true≢false (same_Some true false e))
+      of (Some Quarantined) e = absurd (true≢false (same_Some true false e))
       of (Some (Condemned given)) e = absurd (true≢false (same_Some true false e))
 
   pub given_slot : was_given (meta.use_at slab i) ≡ passes_at was_given (uses_of t) n i

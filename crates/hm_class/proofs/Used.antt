@@ -7,7 +7,7 @@ use Rattle.std.proofs.lemmas.List.Sums.{sum_by-set, sum_by-cons, sum_by_push, su
 use Rattle.std.proofs.lemmas.Option.{slice_get_within, get_or_from_slice_get, slice_get-get_or, slice_get_past, none-some}
 use Rattle.hm_sizes.specs.Guards.{is_guard, after}
 use Rattle.hm_slab_meta.specs.Uses.{SlotUse}
-use Rattle.hm_slab_meta.specs.Uses.{Never, Free, Live, Held, Condemned}
+use Rattle.hm_slab_meta.specs.Uses.{Never, Free, Live, Quarantined, Condemned}
 use Rattle.hm_class.specs.Uses.{Uses, SlabUse, Numbers, lives, occupied, live_count, slab_in, open_at, use_at, changed, with_slot, with_use, with_slab, with_canary, with_canary_at, with_open, opened_slab, fresh_slab, taken_uses, count_in}
 use Rattle.hm_class.proofs.Counts.{mapped, weight, count_set}
 use Rattle.hm_class.proofs.Found.{slab_there}
@@ -145,7 +145,7 @@ free_weighs : (u : SlotUse) → occupied u ≡ false → weight lives u ≡ 0
 free_weighs Never e = refl
 free_weighs Free e = refl
 free_weighs Live e = absurd (true≢false e)
-free_weighs Held e = absurd (true≢false e)
+free_weighs Quarantined e = absurd (true≢false e)
 free_weighs (Condemned given) e = absurd (true≢false e)
 
 module _ (uses : Uses) (n i : ℕ) where
@@ -159,11 +159,11 @@ module _ (uses : Uses) (n i : ℕ) where
       let v = mapped occupied (use_at uses n i) false free in
       omega (arith, counted lives uses n i (Condemned given) v.0 v.1, free_weighs v.0 v.2)
 
-  pub live_held : use_at uses n i ≡ Some Live → live_count (with_use uses n i Held) + 1 ≡ live_count uses
-  live_held was = omega (arith, counted lives uses n i Held Live was)
+  pub live_quarantined : use_at uses n i ≡ Some Live → live_count (with_use uses n i Quarantined) + 1 ≡ live_count uses
+  live_quarantined was = omega (arith, counted lives uses n i Quarantined Live was)
 
-  pub live_freed : use_at uses n i ≡ Some Held → live_count (with_use uses n i Free) ≡ live_count uses
-  live_freed was = omega (arith, counted lives uses n i Free Held was)
+  pub live_freed : use_at uses n i ≡ Some Quarantined → live_count (with_use uses n i Free) ≡ live_count uses
+  live_freed was = omega (arith, counted lives uses n i Free Quarantined was)
 
 -- ---- a slab is opened
 slab_guard : (uses : Uses) (m : ℕ) → slab_in (uses ++ None ∷ []) m ≡ slab_in uses m

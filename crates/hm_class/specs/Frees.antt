@@ -1,4 +1,4 @@
--- What taking a block back changes: the slot that is held, and the one that is released.
+-- What taking a block back changes: the slot that is quarantined, and the one that is released.
 use Rattle.std.specs.Prelude.{◌≡◌, ℕ, ◌+◌, ◌*◌, ◌<◌, ◌≤◌, ◌==◌, ◌&&◌, nat_lt, Bool, true, false, IsTrue, if◌then◌else◌, length, slice_index_or, Option, Some, None}
 use Rattle.std.specs.FinMap as map
 use Rattle.hm_choice.specs.Stream.{Words, next_word, after_word, drawn}
@@ -8,12 +8,13 @@ use Rattle.hm_base.specs.Lists.{zeros}
 use Rattle.hm_outside.specs.PageRuns.{PageRuns, IsHeld, IsPageRun, Writes}
 use Rattle.hm_sizes.specs.declared.shape.Shape.{Shape}
 use Rattle.hm_sizes.specs.Shapes.{slab_at, slab_of, slot_of, has_bytes, usable}
+use Rattle.hm_class_rules.specs.Rules.{empty_bytes}
 use Rattle.hm_class_rules.specs.Kinds.{Empty, same_kind}
 use Rattle.hm_slab_lists.specs.Lists.{placed}
 use Rattle.hm_class.specs.declared.identity.Identity.{Identity}
 use Rattle.hm_class.specs.declared.event.Emptied.{Emptied}
 use Rattle.hm_class.specs.declared.event.Emptied.TheVariants.{Kept, Retired, Purged}
-use Rattle.hm_slab_meta.specs.Uses.{Free, Held, Live}
+use Rattle.hm_slab_meta.specs.Uses.{Free, Quarantined, Live}
 use Rattle.hm_class.specs.declared.slabs.Slot.{Slot}
 use Rattle.hm_class.specs.declared.store.Store.{Store}
 use Rattle.hm_class.specs.SlotBytes.{KeepsPages}
@@ -34,7 +35,7 @@ array_stream p stream = if p.array == 0 then stream else after_word stream
 -- ---- emptying
 -- slab n is empty, and with so many others the empty slabs come to more than they may
 abbrev pub is_surplus : Shape → Uses → ℕ → ℕ → Bool
-is_surplus p uses others n = same_kind (kind_at uses n) Empty && nat_lt 131072 ((others + 1) * p.slab)
+is_surplus p uses others n = same_kind (kind_at uses n) Empty && nat_lt empty_bytes ((others + 1) * p.slab)
 
 -- slab n went to the list of its kind
 pub record Joins (n : ℕ) (uses : Uses) (old new : Slabs) : Type 0 where
@@ -52,7 +53,7 @@ freed_uses p b uses = with_use uses (slab_of p b) (slot_of p b) Free
 
 -- ---- holding
 -- slot s can go into quarantine
-pub record CanHold (p : Shape) (store : Store) (s : Slot) : Type 0 where
+pub record CanQuarantine (p : Shape) (store : Store) (s : Slot) : Type 0 where
   pub array : length store.quarantine.array ≡ p.array
   pub live : use_at store.slabs.slabs s.slab s.index ≡ Some Live
 
@@ -75,7 +76,7 @@ module _ {P : Type 0} (meaning : pages.Ghosts P) where
   -- the slot at a can be released
   pub record CanRelease (region : Identity) (k : Slabs) (pages : P) (a : ℕ) : Type 0 where
     pub from : region.shape.first ≤ a
-    pub held : use_at k.slabs (slab_of region.shape a) (slot_of region.shape a) ≡ Some Held
+    pub quarantined : use_at k.slabs (slab_of region.shape a) (slot_of region.shape a) ≡ Some Quarantined
     pub slab : CanRetire region k pages (slab_of region.shape a)
 
   -- the pages of slab n went, where it has any; or their bytes were made zero
@@ -94,9 +95,9 @@ module _ {P : Type 0} (meaning : pages.Ghosts P) where
 -- ---- what was and what is: the store and the pages, each before and after
 module _ {P : Type 0} (meaning : pages.Ghosts P) (old new : Store) (before now : P) where
   -- the slot s at a goes into quarantine: what leaves that, and the word that names an index of its array
-  pub record Holds (p : Shape) (a : ℕ) (s : Slot) (result : Option ℕ × Option ℕ) : Type 0 where
+  pub record Quarantines (p : Shape) (a : ℕ) (s : Slot) (result : Option ℕ × Option ℕ) : Type 0 where
     pub cleared : Clears meaning p before now a
-    pub slabs : new.slabs.slabs ≡ with_use old.slabs.slabs s.slab s.index Held
+    pub slabs : new.slabs.slabs ≡ with_use old.slabs.slabs s.slab s.index Quarantined
     pub lists : SameLists old.slabs new.slabs
     pub released : result.0 ≡ let_go old.quarantine a (index_of_word p (next_word old.stream))
     pub word : result.1 ≡ array_word p (next_word old.stream)

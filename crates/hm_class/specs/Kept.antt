@@ -17,7 +17,7 @@ use Rattle.hm_slab_meta.specs.Uses.{was_given}
 use Rattle.hm_class.specs.declared.identity.Identity.{Identity}
 use Rattle.hm_class.specs.declared.store.Store.{Store}
 use Rattle.hm_class.specs.Slabs.{Slabs}
-use Rattle.hm_class.specs.Uses.{Uses, SlabUse, lives, is_condemned, is_held, slab_in, open_at, kind_at, passes_at, canary_at, live_count, numbers_of}
+use Rattle.hm_class.specs.Uses.{Uses, SlabUse, lives, is_condemned, is_quarantined, slab_in, open_at, kind_at, passes_at, canary_at, live_count, numbers_of}
 use Rattle.hm_class.specs.Region.{HoldsSlabs}
 
 -- the slots say what the state says
@@ -26,7 +26,7 @@ pub record Shows (p : Shape) (uses : Uses) (s : State) : Type 0 where
   pub slots : (n : ℕ) (b : SlabUse) → slab_in uses n ≡ Some b → length b.slots ≡ p.slots
   pub canary : (n : ℕ) → option_map_or (λ (b : Slab). b.canary) (at n s.opens) 0 ≡ canary_at uses n
   pub live : (n i : ℕ) → i < p.slots → is_live s (place p n i) ≡ passes_at lives uses n i
-  pub held : (n i : ℕ) → i < p.slots → among (place p n i) s.held ≡ passes_at is_held uses n i
+  pub quarantined : (n i : ℕ) → i < p.slots → among (place p n i) s.quarantined ≡ passes_at is_quarantined uses n i
   pub condemned : (n i : ℕ) → i < p.slots → among (place p n i) s.condemned ≡ passes_at is_condemned uses n i
   pub given : (n i : ℕ) → i < p.slots → among (place p n i) s.given ≡ passes_at was_given uses n i
   -- the retired slabs are there
@@ -70,10 +70,10 @@ terms_in told region = terms_of told region.config region.shape
 pub record IsKept (told : Bool) (owner : Option ℕ) (runs : PageRuns) (faults : ℕ) (region : Identity)
     (es : List Entry) (store : Store) : Type 0 where
   pub legal : IsLegal (terms_in told region) es
-  pub stepped : IsStepped region.number region.arena (terms_in told region) es
+  pub stepped : IsStepped region.seed region.arena (terms_in told region) es
   pub count : faults ≡ (state (terms_in told region) es).faults
   pub follows : Follows region.shape (state (terms_in told region) es) store.slabs
   pub slabs : IsTrue told → HoldsSlabs region.shape (state (terms_in told region) es).opens runs
-  pub lists : cells region.number region.arena (terms_in told region) es
+  pub lists : cells region.seed region.arena (terms_in told region) es
       ≡ cells_of (state (terms_in told region) es) store
   pub owned : IsOwned owner (class_region_number region.arena region.shape.class)

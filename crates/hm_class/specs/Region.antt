@@ -1,10 +1,12 @@
 -- A class region as callers see it.
 use Rattle.std.specs.Prelude.{◌≡◌, ℕ, ◌<◌, ◌≤◌, Bool, true, IsTrue, List, length, Option, Some, None}
 use Rattle.std.specs.FinMap as map
+use Rattle.std.specs.List.{All}
 use Rattle.hm_outside.specs.declared.pages.Pages as pages
 use Rattle.hm_outside.specs.Makers.{IsOwned}
 use Rattle.hm_outside.specs.PageRuns.{PageRuns}
 use Rattle.hm_model.specs.declared.entry.Entry.{Entry}
+use Rattle.hm_model.specs.Typed.{IsTyped}
 use Rattle.hm_sizes.specs.declared.class.ClassId.{ClassId}
 use Rattle.hm_sizes.specs.declared.config.Config.{Config}
 use Rattle.hm_sizes.specs.declared.shape.Shape.{Shape}
@@ -21,7 +23,7 @@ use Rattle.hm_class_rules.specs.Rules.{Terms, IsLegal, state, IsLiveBlock, wrong
 
 pub record Region (P : Type 0) : Type 0 where
   pub config : Config
-  pub number : ℕ
+  pub seed : ℕ
   pub arena : ℕ
   pub class : ClassId
   pub entries : List Entry
@@ -32,13 +34,13 @@ pub record Region (P : Type 0) : Type 0 where
 module _ {P : Type 0} where
   -- the region begins where its first word says
   abbrev pub region_shape : Region P → Shape
-  region_shape r = drawn_shape r.number r.config r.arena r.class
+  region_shape r = drawn_shape r.seed r.config r.arena r.class
 
   -- the region that it is
   abbrev pub origin : (P → Bool) → Region P → Origin
   origin told r = record {
     config = r.config;
-    number = r.number;
+    seed = r.seed;
     region = class_region_number r.arena r.class;
     told = told r.pages;
   }
@@ -66,15 +68,16 @@ pub record HoldsSlabs (p : Shape) (opens : List (ℕ × Slab)) (runs : PageRuns)
   pub only : (q : ℕ) (bytes : List ℕ) → map.get runs q ≡ Some bytes → IsSlab p opens q bytes
   pub whole : AllWhole (bytes_of_slab p) opens
 
--- the region is one of a valid configuration, its history is legal, its choices are drawn, the pages are its own, and
--- they and the room for entries are what it says
+-- the region is one of a valid configuration, its history is legal, its choices are drawn, what the types of its entries
+-- promise holds, the pages are its own, and they and the room for entries are what it says
 pub record IsRegion {P : Type 0} (meaning : pages.Ghosts P) (r : Region P) : Type 0 where
   pub valid : IsValid r.config
   pub arena_below : r.arena < r.config.arenas
   pub class_below : r.class.0 < class_count
   pub shape : IsShape (region_shape r)
   pub legal : IsLegal (terms meaning.told r) r.entries
-  pub drawn : IsDrawn r.number r.arena (terms meaning.told r) r.entries
+  pub drawn : IsDrawn r.seed r.arena (terms meaning.told r) r.entries
+  pub typed : All IsTyped r.entries
   pub count : meaning.faults r.pages ≡ (region_state meaning.told r).faults
   pub slabs : IsTrue (meaning.told r.pages)
       → HoldsSlabs (region_shape r) (region_state meaning.told r).opens (meaning.runs r.pages)

@@ -4,7 +4,7 @@ use Rattle.hm_outside.specs.declared.pages.Pages as pages
 use Rattle.hm_outside.specs.PageRuns.{IsHeld, Writes}
 
 module _ {P : Type 0} (meaning : pages.Ghosts P) (before now : P) where
-  -- the pages tell as before and belong to the same region, and none failed
+  -- the pages tell as before and belong to the same region, and no page fault occurred
   pub record KeepsPages : Type 0 where
     pub told : meaning.told now ≡ meaning.told before
     pub owner : meaning.owner now ≡ meaning.owner before

@@ -5,31 +5,31 @@ use Rattle.std.specs.Option.{option_and_then, option_map_or}
 use Rattle.hm_sizes.specs.declared.shape.Shape.{Shape}
 use Rattle.hm_class_rules.specs.Kinds.{Kind, Partial, Empty, Neither}
 use Rattle.hm_sizes.specs.Guards.{is_guard}
-use Rattle.hm_slab_meta.specs.Uses.{SlotUse, Never, Free, Live, Held, Condemned, was_given, is_available, first_from}
+use Rattle.hm_slab_meta.specs.Uses.{SlotUse, Never, Free, Live, Quarantined, Condemned, was_given, is_available, first_from}
 
 -- ---- one slot
 abbrev pub lives : SlotUse → Bool
 lives Never = false
 lives Free = false
 lives Live = true
-lives Held = false
+lives Quarantined = false
 lives (Condemned given) = false
 
 abbrev pub is_condemned : SlotUse → Bool
 is_condemned Never = false
 is_condemned Free = false
 is_condemned Live = false
-is_condemned Held = false
+is_condemned Quarantined = false
 is_condemned (Condemned given) = true
 
-abbrev pub is_held : SlotUse → Bool
-is_held Never = false
-is_held Free = false
-is_held Live = false
-is_held Held = true
-is_held (Condemned given) = false
+abbrev pub is_quarantined : SlotUse → Bool
+is_quarantined Never = false
+is_quarantined Free = false
+is_quarantined Live = false
+is_quarantined Quarantined = true
+is_quarantined (Condemned given) = false
 
--- it is live, held or condemned
+-- it is live, quarantined or condemned
 abbrev pub occupied : SlotUse → Bool
 occupied u = not (is_available u)
 

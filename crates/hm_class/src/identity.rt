@@ -7,9 +7,9 @@ use hm_sizes::{Config, Shape};
 #[derive(Clone, Copy, Drop)]
 pub struct Identity {
     pub config: Config,
-    /// The number of the run.
-    pub number: u64,
+    /// The seed of all random words.
+    pub seed: u64,
     pub arena: u32,
     pub shape: Shape,
-    ghost served: { IsServed config number arena shape },
+    ghost served: { IsServed config seed arena shape },
 }

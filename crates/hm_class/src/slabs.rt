@@ -4,7 +4,7 @@ ghost use Rattle.std.specs.Prelude.{◌≡◌, ℕ, ◌+◌, ◌<◌, ◌≤◌,
 ghost use Rattle.hm_sizes.specs.Shapes.{place, slab_of, slot_of};
 ghost use Rattle.hm_class_rules.specs.Kinds.{Empty, same_kind};
 ghost use Rattle.hm_slab_lists.specs.Lists.{placed};
-ghost use Rattle.hm_slab_meta.specs.Uses.{Live, Held, Free, was_given};
+ghost use Rattle.hm_slab_meta.specs.Uses.{Live, Quarantined, Free, was_given};
 ghost use Rattle.hm_class.specs.Slabs.{HasRoom, no_slabs, with_spare, list_of, OpensSlab, SameLists, SameSlots, Parks};
 ghost use Rattle.hm_class.specs.Sources.{IsAvailable, IsWithin, AreWhole, CanTake, OpensNext, Sources, Judges};
 ghost use Rattle.hm_class.specs.Uses.{numbers_of, open_at, kind_at, use_at, passes_at, lives, canary_at, first_at, with_use, with_condemned, with_canary_at, live_count};
@@ -256,20 +256,20 @@ impl Slabs {
     }
 
     /// A live slot goes into quarantine.
-    pub fn hold(&mut self, slot: Slot)
+    pub fn quarantine(&mut self, slot: Slot)
         requires live { use_at self.old.slabs slot.slab slot.index ≡ Some Live }
-        ensures slabs { self.new.slabs ≡ with_use self.old.slabs slot.slab slot.index Held }
+        ensures slabs { self.new.slabs ≡ with_use self.old.slabs slot.slab slot.index Quarantined }
         ensures lists { SameLists self.old self.new }
     {
         self.live -= 1;
         if let Some(meta) = self.lists.meta_mut(slot.slab) {
-            meta.hold(slot.index);
+            meta.quarantine(slot.index);
         }
     }
 
     /// A slot in quarantine is available again.
     pub fn release(&mut self, slot: Slot)
-        requires held { use_at self.old.slabs slot.slab slot.index ≡ Some Held }
+        requires quarantined { use_at self.old.slabs slot.slab slot.index ≡ Some Quarantined }
         ensures slabs { self.new.slabs ≡ with_use self.old.slabs slot.slab slot.index Free }
         ensures lists { SameLists self.old self.new }
     {

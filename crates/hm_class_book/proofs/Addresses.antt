@@ -1,10 +1,10 @@
 -- Places as the test of an address finds them.
-use Rattle.std.proofs.Common.{◌≡◌, ℕ, Bool, cond, nat_lt, List, [], ◌∷◌, length, ◌+◌, ◌-◌, ◌*◌, ◌/◌, ◌%◌, ◌<◌, ◌≤◌, ◌^◌, true, false, Option, Some, None, is_some, sym, ◌∙◌, ap, refl, arith, true≢false}
+use Rattle.std.proofs.Common.{◌≡◌, ℕ, Bool, cond, nat_lt, List, [], ◌∷◌, length, ◌-◌, ◌%◌, ◌<◌, ◌≤◌, ◌^◌, true, false, Option, Some, None, is_some, sym, refl, arith, true≢false}
 use Rattle.std.proofs.lemmas.Nat.{div-add-mod'}
 use Rattle.std.proofs.lemmas.Bool.{ltb-true}
 use Rattle.hm_class_rules.specs.State.{unopened}
 use Rattle.hm_sizes.specs.declared.shape.Shape.{Shape}
-use Rattle.hm_sizes.specs.Shapes.{IsShape, IsPlace, PlaceGives, has_bytes, usable, slab_of, slot_of, slab_at, place}
+use Rattle.hm_sizes.specs.Shapes.{IsShape, IsPlace, PlaceGives, has_bytes, usable, slab_of, slot_of, slab_at}
 use Rattle.hm_sizes.proofs.PlaceTest.{place_is, place_tested, shape_places, slot_row}
 
 pub tested : (p : Shape) (a : ℕ) (r : Option (ℕ × ℕ)) → IsShape p → PlaceGives p a r → (is_some r ≡ true → IsPlace p a) × (IsPlace p a → is_some r ≡ true)

@@ -1,5 +1,5 @@
 -- Choices that are the same field by field.
-use Rattle.std.proofs.Common.{◌≡◌, Bool, true, ◌&&◌, Option, ℕ, ap, refl}
+use Rattle.std.proofs.Common.{◌≡◌, Bool, true, ◌&&◌, ap}
 use Rattle.std.proofs.lemmas.Bool.{and_parts}
 use Rattle.hm_model.specs.declared.entry.Choices.{Choices}
 

@@ -1,14 +1,13 @@
 -- What taking a block back needs of a state.
-use Rattle.std.proofs.Common.{◌≡◌, ◌⊎◌, ⊎_elim, ℕ, ◌+◌, ◌<◌, ◌≤◌, true, List, length, Option, Some, None, sym, ◌∙◌, ap, subst, refl, arith}
+use Rattle.std.proofs.Common.{◌≡◌, ◌⊎◌, ⊎_elim, ℕ, ◌+◌, ◌<◌, true, length, Option, Some, None, sym, ◌∙◌, ap, subst, arith}
 use Rattle.std.specs.Prelude.{IfSome}
-use Rattle.hm_model.specs.Maps.{keys, times}
 use Rattle.hm_model.specs.declared.entry.Choices.{Choices}
 use Rattle.hm_sizes.specs.declared.shape.Shape.{Shape}
 use Rattle.hm_sizes.specs.Shapes.{IsShape, slab_of}
 use Rattle.hm_class_rules.specs.State.{State, is_open, is_live, is_empty, empty_slabs}
 use Rattle.hm_class_rules.specs.Steps.{takes_back, releases}
-use Rattle.hm_class_rules.specs.Rules.{Terms, Releases, surplus, Unparks, Empties}
-use Rattle.hm_class_rules.specs.Laws.{IsSound, slab_uses}
+use Rattle.hm_class_rules.specs.Rules.{Terms, Releases, surplus, Empties}
+use Rattle.hm_class_rules.specs.Laws.{IsSound}
 use Rattle.hm_class_rules.proofs.Sound.{has_times, sound_takes_back, sound_releases}
 use Rattle.hm_class_rules.proofs.Legal.{surplus_empty, empty_open}
 use Rattle.hm_class_rules.proofs.Emptied.{one_more_empty}

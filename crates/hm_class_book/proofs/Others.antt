@@ -1,9 +1,9 @@
 -- Replies that a call never has.
-use Rattle.std.proofs.Common.{◌≡◌, ◌≢◌, ℕ, List, Option, refl}
+use Rattle.std.proofs.Common.{◌≢◌, ℕ, List, Option, refl}
 use Rattle.hm_model.specs.declared.entry.Choices.{Choices}
 use Rattle.hm_model.specs.declared.entry.Call.TheVariants.{Allot, GiveBack, Measure, Fetch, Fill}
 use Rattle.hm_model.specs.declared.entry.Reply.{Reply}
-use Rattle.hm_model.specs.declared.entry.Reply.TheVariants.{Given, Overwritten, Exhausted, NoSpace, PagesFailed, Freed, NoSlot, Unused, DoubleFree, WrongSize, Canary, Usable, Bytes, Filled, Trap, NotLive}
+use Rattle.hm_model.specs.declared.entry.Reply.TheVariants.{Given, Overwritten, Exhausted, PagesFailed, Freed, NoSlot, Unused, DoubleFree, WrongSize, Canary, Usable, Bytes, Filled, Trap}
 use Rattle.hm_class_rules.specs.State.{State}
 use Rattle.hm_class_rules.specs.Rules.{Terms, Allows}
 

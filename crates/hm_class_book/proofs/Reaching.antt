@@ -1,22 +1,11 @@
 -- What holds of a region after a legal and drawn history, and that an entry that may come next leads to such a one.
-use Rattle.std.proofs.Common.{◌≡◌, ℕ, zero, suc, ◌+◌, ◌<◌, ◌≤◌, ◌==◌, Bool, true, false, cond, not, ◌&&◌, List, [], ◌∷◌, ◌++◌, length, sym, ◌∙◌, ap, subst, refl, arith}
-use Rattle.hm_model.specs.Maps.{among, times, has}
+use Rattle.std.proofs.Common.{◌≡◌, ℕ, ◌+◌, Bool, true, false, cond, List, [], ◌∷◌, ◌++◌, length, sym, ◌∙◌, ap, subst, arith}
+use Rattle.hm_model.specs.Maps.{among, times}
 use Rattle.hm_model.proofs.Lists.{among_times, among_none}
 use Rattle.hm_model.specs.declared.entry.Entry.{Entry}
-use Rattle.hm_model.specs.declared.entry.Call.{Call}
-use Rattle.hm_model.specs.declared.entry.Call.TheVariants.{Allot, GiveBack, Measure, Fetch, Fill}
-use Rattle.hm_model.specs.declared.entry.Reply.{Reply}
-use Rattle.hm_model.specs.declared.entry.Reply.TheVariants.{Given, Overwritten, Freed, Filled}
-use Rattle.hm_model.specs.Runs.{expand}
-use Rattle.hm_sizes.specs.declared.shape.Shape.{Shape}
-use Rattle.hm_sizes.specs.Shapes.{IsShape, place}
-use Rattle.hm_class_rules.specs.State.{State, is_open, is_taken, is_partial, is_empty, empty_slabs}
-use Rattle.hm_class_rules.specs.Steps.{changed, step}
-use Rattle.hm_class_rules.specs.Rules.{Terms, Allowed, IsLegal, state}
-use Rattle.hm_class_rules.specs.Laws.{IsSound, AllWhole, bytes_of_slab}
-use Rattle.hm_class_rules.specs.Draws.{Event, Picked, Returned, Undrawn, event, event_of, after_words}
-use Rattle.hm_class_rules.specs.Kinds.{Kind, Partial, Empty, kind}
-use Rattle.hm_class_rules.specs.Stepped.{Cells, cells, next, IsSteppedEntry, IsStepped, listed}
+use Rattle.hm_class_rules.specs.State.{State, is_partial, is_empty, empty_slabs}
+use Rattle.hm_class_rules.specs.Rules.{Terms, Allowed, state}
+use Rattle.hm_class_rules.specs.Stepped.{Cells, next, IsSteppedEntry}
 use Rattle.hm_class_rules.specs.DrawnLaws.{AreKept}
 use Rattle.hm_class_rules.proofs.Legal.{sound, one_more}
 use Rattle.hm_class_rules.proofs.Whole.{whole_run}

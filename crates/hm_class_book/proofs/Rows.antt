@@ -48,11 +48,11 @@ none_marked zero i = refl
 none_marked (suc n) zero = refl
 none_marked (suc n) (suc i) = none_marked n i
 
-pub marked_is : (count i : ℕ) (x y z live held condemned : Bool) → x ≡ (get_or (replicate count false) i false || live) → y ≡ (x || held) → z ≡ (y || condemned)
-    → z ≡ (live || (held || condemned))
-marked_is count i x y z live held condemned a b c =
+pub marked_is : (count i : ℕ) (x y z live quarantined condemned : Bool) → x ≡ (get_or (replicate count false) i false || live) → y ≡ (x || quarantined) → z ≡ (y || condemned)
+    → z ≡ (live || (quarantined || condemned))
+marked_is count i x y z live quarantined condemned a b c =
     let first : x ≡ live = a ∙ ap (λ (w : Bool). w || live) (none_marked count i) in
-    c ∙ ap (λ (w : Bool). w || condemned) (b ∙ ap (λ (w : Bool). w || held) first) ∙ joined live held condemned
+    c ∙ ap (λ (w : Bool). w || condemned) (b ∙ ap (λ (w : Bool). w || quarantined) first) ∙ joined live quarantined condemned
   where
     joined : (p q r : Bool) → ((p || q) || r) ≡ (p || (q || r))
     joined true q r = refl

@@ -1,10 +1,10 @@
 -- What a book says after an entry that is allowed and drawn.
-use Rattle.std.proofs.Common.{◌≡◌, ◌≢◌, ℕ, ◌+◌, ◌<◌, ◌≤◌, ◌==◌, Bool, true, false, cond, not, ◌&&◌, ◌||◌, List, [], ◌∷◌, length, take, Option, Some, None, IsTrue, sym, ◌∙◌, ap, subst, refl, arith, true≢false}
+use Rattle.std.proofs.Common.{◌≡◌, ◌≢◌, ℕ, ◌+◌, Bool, true, false, cond, not, ◌&&◌, List, [], ◌∷◌, take, Option, Some, None, sym, ◌∙◌, ap, subst, refl, true≢false}
 use Rattle.std.specs.Prelude.{IfSome, slice_index_or}
 use Rattle.hm_model.specs.declared.entry.Entry.{Entry}
 use Rattle.hm_model.specs.declared.entry.Choices.{Choices}
 use Rattle.hm_model.specs.declared.entry.Call.{Call}
-use Rattle.hm_model.specs.declared.entry.Call.TheVariants.{Allot, GiveBack, Measure, Fetch, Fill}
+use Rattle.hm_model.specs.declared.entry.Call.TheVariants.{Allot, GiveBack, Fill}
 use Rattle.hm_model.specs.declared.entry.Reply.{Reply}
 use Rattle.hm_model.specs.declared.entry.Reply.TheVariants.{Given, Overwritten, Freed, Filled}
 use Rattle.hm_model.specs.Maps.{without}
@@ -12,17 +12,16 @@ use Rattle.hm_model.specs.Runs.{expand}
 use Rattle.hm_choice.specs.Stream.{Words, canary_of}
 use Rattle.hm_quarantine.specs.Quarantine.{Kept, kept_with, let_go}
 use Rattle.hm_sizes.specs.declared.shape.Shape.{Shape}
-use Rattle.hm_sizes.specs.Shapes.{IsShape, slab_of, place}
+use Rattle.hm_sizes.specs.Shapes.{slab_of, place}
 use Rattle.hm_class_rules.specs.State.{State, is_taken}
 use Rattle.hm_class_rules.specs.Bytes.{write}
 use Rattle.hm_class_rules.specs.Steps.{changed, step}
-use Rattle.hm_class_rules.specs.Rules.{Terms, Allowed, Allows}
+use Rattle.hm_class_rules.specs.Rules.{Terms, Allowed}
 use Rattle.hm_class_rules.specs.Draws.{Event, Picked, Returned, Undrawn, event, event_of, word_count, words_of, words_from, after_words, canary_words, start_words, array_words, parking_words, array_index, parking_index}
 use Rattle.hm_class_rules.specs.Kinds.{Kind, Partial, Empty, Neither, kind, same_kind}
 use Rattle.hm_class_rules.specs.Stepped.{Cells, next, touched, listed, front, quarantine_with, parking_with, parking_after, IsSteppedEntry, IsSteppedEvent}
 use Rattle.hm_class_rules.specs.Drawn.{unparked_by}
 use Rattle.hm_class_rules.proofs.Changes.{kind_alike, open_write}
-use Rattle.hm_class_book.specs.Picks.{IsFirst, Judges}
 use Rattle.hm_class_book.specs.Reached.{Said, at_state, IsReached, Takes, Found, FoundPicked, FoundFreed}
 use Rattle.hm_class_book.proofs.Reaching.{next_reached}
 

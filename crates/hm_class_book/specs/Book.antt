@@ -19,7 +19,7 @@ slabs_in opens = map (λ e. (e.0, slab_in e.1)) opens
 abbrev pub state_in : Book → State
 state_in b = record {
   live = b.live.items;
-  held = b.held.items;
+  quarantined = b.quarantined.items;
   condemned = b.condemned.items;
   given = b.given.items;
   frees = b.frees.items;

@@ -1,12 +1,11 @@
 -- What a picking answers: nothing, where it is not allowed; else whether the slot is the first available one.
-use Rattle.std.specs.Prelude.{◌≡◌, ◌↔◌, ℕ, Bool, true, Option, Some, None, IsTrue}
+use Rattle.std.specs.Prelude.{◌≡◌, ◌↔◌, ℕ, Bool, Option, Some, None, IsTrue}
 use Rattle.hm_model.specs.declared.entry.Choices.{Choices}
 use Rattle.hm_sizes.specs.declared.shape.Shape.{Shape}
 use Rattle.hm_sizes.specs.Shapes.{slab_of}
 use Rattle.hm_class_rules.specs.State.{State}
 use Rattle.hm_class_rules.specs.Steps.{opened}
 use Rattle.hm_class_rules.specs.Drawn.{first_free}
-use Rattle.hm_class_rules.specs.Rules.{Picks}
 
 -- with a slab opened, if one is said to be
 abbrev pub with_opened : Shape → Choices → State → State

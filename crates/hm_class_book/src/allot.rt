@@ -1,10 +1,10 @@
 //! Giving a slot, or finding it overwritten, or having none to give.
-ghost use Rattle.std.specs.Prelude.{◌≡◌, ◌≢◌, ◌+◌, ◌<◌, ◌^◌, ◌↔◌, ◌&&◌, ℕ, IsTrue, IsSome, IfOk, IfSome, OnOk, Some, None, true, is_some, unwrap_or};
+ghost use Rattle.std.specs.Prelude.{◌≡◌, ◌≢◌, ◌+◌, ◌<◌, ◌^◌, ◌↔◌, ◌&&◌, ℕ, IsTrue, IfOk, IfSome, OnOk, Some, None, true, is_some, unwrap_or};
 ghost use Rattle.hm_model.specs.Calls.{no_choices};
 ghost use Rattle.hm_sizes.specs.Shapes.{IsShape, IsPlace, has_bytes, usable, slab_of, after};
 ghost use Rattle.hm_class_rules.specs.State.{is_partial, is_empty, unopened};
 ghost use Rattle.hm_class_rules.specs.Steps.{opened, taken_new, new_slab, gives, condemns};
-ghost use Rattle.hm_class_rules.specs.Rules.{Allows, AllowsGiven, AllowsOverwritten, AllowsExhausted, AllowsPagesFailed, NoneServes, Picks, Source, reuse_finds};
+ghost use Rattle.hm_class_rules.specs.Rules.{Allows, AllowsGiven, AllowsOverwritten, NoneServes, Picks, Source, reuse_finds};
 ghost use Rattle.hm_class_book.specs.Book.{state_in, slab_in, terms};
 ghost use Rattle.hm_class_book.specs.Sources.{Holds};
 ghost use Rattle.hm_class_book.specs.Picks.{with_opened, IsFirst, Judges};
@@ -20,7 +20,7 @@ use crate::slabs::write_slabs;
 use crate::sources::opens;
 use hm_base::NoMemory;
 use hm_model::{Call, Choices, Reply};
-use hm_sizes::{Config, Shape};
+use hm_sizes::Shape;
 use std::alloc::Global;
 
 // The least number above this one that is no guard.
@@ -308,7 +308,7 @@ impl Book {
         serves & unopened & none
     }
 
-    fn says_failed(
+    fn says_fault(
         &self,
         shape: &Shape,
         lists: &Lists,
@@ -351,7 +351,7 @@ impl Book {
         match reply {
             Reply::Exhausted => self.says_exhausted(&region.shape, lists, choices),
             Reply::PagesFailed => {
-                self.says_failed(&region.shape, lists, choices, counts.0, counts.1)
+                self.says_fault(&region.shape, lists, choices, counts.0, counts.1)
             }
             _ => false,
         }

@@ -1,5 +1,5 @@
 //! What is asked of an entry whatever its reply.
-ghost use Rattle.std.specs.Prelude.{◌≡◌, ◌↔◌, IsTrue};
+ghost use Rattle.std.specs.Prelude.{◌↔◌, IsTrue};
 ghost use Rattle.hm_model.specs.Calls.{IsRange};
 ghost use Rattle.hm_class_rules.specs.Rules.{Asks};
 ghost use Rattle.hm_class_book.specs.Book.{state_in};

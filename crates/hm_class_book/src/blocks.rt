@@ -37,10 +37,10 @@ impl Book {
         has_block(&self.live, addr)
     }
 
-    fn is_held(&self, addr: u64) -> bool
-        ensures { result ≡ among addr (state_in self.now).held }
+    fn is_quarantined(&self, addr: u64) -> bool
+        ensures { result ≡ among addr (state_in self.now).quarantined }
     {
-        is_among(&self.held, addr)
+        is_among(&self.quarantined, addr)
     }
 
     fn is_condemned(&self, addr: u64) -> bool
@@ -54,9 +54,9 @@ impl Book {
         ensures { result ≡ is_taken (state_in self.now) addr }
     {
         let live = self.is_live(addr);
-        let held = self.is_held(addr);
+        let quarantined = self.is_quarantined(addr);
         let condemned = self.is_condemned(addr);
-        live | (held | condemned)
+        live | (quarantined | condemned)
     }
 
     /// Whether an address is no place.

@@ -25,7 +25,7 @@ pub struct OpenSlab {
 #[derive(Drop)]
 pub struct Book {
     pub live: Vec<(u64, u64)>,
-    pub held: Vec<u64>,
+    pub quarantined: Vec<u64>,
     pub condemned: Vec<u64>,
     pub given: VecDeque<u64>,
     pub frees: VecDeque<u64>,
@@ -219,7 +219,7 @@ impl Book {
     {
         Book {
             live: Vec::new(alloc),
-            held: Vec::new(alloc),
+            quarantined: Vec::new(alloc),
             condemned: Vec::new(alloc),
             given: VecDeque::new(alloc),
             frees: VecDeque::new(alloc),
@@ -239,7 +239,7 @@ impl Book {
     {
         let mut marks = [false; MOST_SLOTS];
         mark_live(&mut marks, shape, slab, &self.live);
-        mark(&mut marks, shape, slab, &self.held);
+        mark(&mut marks, shape, slab, &self.quarantined);
         mark(&mut marks, shape, slab, &self.condemned);
         marks
     }
@@ -288,7 +288,7 @@ impl Book {
         ensures { IsTrue result ↔ Releases shape.now (state_in self.now) released }
     {
         match released {
-            None => self.held.len() as u64 <= most_held(shape),
+            None => self.quarantined.len() as u64 <= most_quarantined(shape),
             Some(slot) => self.may_leave(shape, slot),
         }
     }
@@ -296,15 +296,15 @@ impl Book {
     fn may_leave(&self, shape: &Shape, slot: u64) -> bool
         ensures { IsTrue result ↔ Releases shape.now (state_in self.now) (Some slot) }
     {
-        let held = is_among(&self.held, slot);
+        let quarantined = is_among(&self.quarantined, slot);
         let late = is_among_first(&self.frees, delay_of(shape), slot);
-        let left = count_without(&self.held, slot) as u64;
-        held && !late && left <= most_held(shape)
+        let left = count_without(&self.quarantined, slot) as u64;
+        quarantined && !late && left <= most_quarantined(shape)
     }
 }
 
 // How many slots the quarantine holds at most.
-fn most_held(shape: &Shape) -> u64
+fn most_quarantined(shape: &Shape) -> u64
     ensures { result ≡ shape.now.array + shape.now.ring }
 {
     u64::from(shape.array) + u64::from(shape.ring)

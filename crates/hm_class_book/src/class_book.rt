@@ -1,5 +1,5 @@
 //! The book of a class region. It takes one entry after another, and judges each while it takes it.
-ghost use Rattle.std.specs.Prelude.{◌≡◌, ◌≢◌, ◌↔◌, ◌<◌, ◌≤◌, ℕ, IsTrue, IfOk, Some, None, length, slice_index_or};
+ghost use Rattle.std.specs.Prelude.{◌≡◌, ◌↔◌, ◌<◌, ◌≤◌, IsTrue, IfOk, Some, None, length, slice_index_or};
 ghost use Rattle.hm_choice.specs.Stream.{after_word};
 ghost use Rattle.hm_sizes.specs.Classes.{class_count};
 ghost use Rattle.hm_sizes.specs.Configs.{IsValid};
@@ -27,7 +27,7 @@ use hm_base::NoMemory;
 use hm_choice::Stream;
 use hm_model::{Call, Choices, Entry, Judgement, Reply, Runs};
 use hm_quarantine::Quarantine;
-use hm_sizes::{CLASSES, ClassId, Config, PAGE, Shape, raised, shape_of};
+use hm_sizes::{CLASSES, ClassId, Config, PAGE, Shape, shape_of};
 use std::alloc::Global;
 /// The book of a class region whose pages tell their bytes.
 #[derive(Drop)]
@@ -60,7 +60,7 @@ fn begin(config: &Config, seed: u64, arena: u32, class: ClassId) -> (Stream, Sha
 }
 
 impl ClassBook {
-    /// A book of no entries. `seed` is the number of the run.
+    /// A book of no entries. Its words follow from the seed.
     pub fn build(
         alloc: Global,
         config: &Config,

@@ -1,5 +1,5 @@
 //! The words that an entry says, against those of the stream, and what they draw.
-ghost use Rattle.std.specs.Prelude.{◌≡◌, ◌+◌, ◌<◌, ◌≤◌, ◌^◌, ◌↔◌, IsTrue, IfSome};
+ghost use Rattle.std.specs.Prelude.{◌≡◌, ◌+◌, ◌<◌, ◌≤◌, ◌↔◌, IsTrue, IfSome};
 ghost use Rattle.hm_choice.specs.Stream.{drawn, canary_of};
 ghost use Rattle.hm_quarantine.specs.Quarantine.{IsArrayIndex};
 ghost use Rattle.hm_sizes.specs.Shapes.{IsShape};

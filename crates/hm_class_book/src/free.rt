@@ -1,11 +1,10 @@
 //! A live block is taken back: what leaves the quarantine, and what becomes of a slab that this empties.
-ghost use Rattle.std.specs.Prelude.{◌≡◌, ◌∷◌, ◌+◌, ◌<◌, ◌^◌, ◌↔◌, ℕ, IsTrue, IfOk, IfSome, OnOk, Some, None, true, length};
+ghost use Rattle.std.specs.Prelude.{◌≡◌, ◌+◌, ◌<◌, ◌^◌, ◌↔◌, IsTrue, IfOk, IfSome, OnOk, Some, None, true, length};
 ghost use Rattle.hm_model.specs.Calls.{no_choices};
 ghost use Rattle.hm_sizes.specs.Shapes.{IsShape, usable, slab_of, has_bytes};
 ghost use Rattle.hm_class_rules.specs.State.{is_empty, empty_slabs};
 ghost use Rattle.hm_class_rules.specs.Steps.{takes_back, releases, unparks, retires, purges, changed};
 ghost use Rattle.hm_class_rules.specs.Rules.{Releases, surplus, Unparks, Empties, IsLiveBlock, wrong_size, wrong_canary, AllowsFreed};
-ghost use Rattle.hm_class_rules.specs.Laws.{AllWhole, bytes_of_slab};
 ghost use Rattle.hm_class_book.specs.Book.{state_in, terms, IsKept};
 
 use crate::book::{Book, count_without, is_among};
@@ -32,7 +31,7 @@ impl Book {
         fill_slabs(&mut self.opens, shape, addr, 0, shape.usable());
         remove_block(&mut self.live, addr);
         put_front(&mut self.frees, addr)?;
-        put_first(&mut self.held, addr)?;
+        put_first(&mut self.quarantined, addr)?;
         Ok(())
     }
 
@@ -45,7 +44,7 @@ impl Book {
             return false;
         }
         if let Some(slot) = released {
-            remove_number(&mut self.held, slot);
+            remove_number(&mut self.quarantined, slot);
         }
         true
     }

@@ -1,5 +1,5 @@
 //! Giving back and measuring, where nothing changes but the count of page faults.
-ghost use Rattle.std.specs.Prelude.{◌≡◌, ◌≢◌, ◌+◌, ◌<◌, ◌^◌, ◌↔◌, ℕ, IsTrue, Some, None, true};
+ghost use Rattle.std.specs.Prelude.{◌≡◌, ◌≢◌, ◌<◌, ◌↔◌, ℕ, IsTrue, Some, None, true};
 ghost use Rattle.hm_model.specs.Calls.{no_choices};
 ghost use Rattle.hm_sizes.specs.Shapes.{IsShape, usable, has_bytes};
 ghost use Rattle.hm_class_rules.specs.Rules.{Allows, IsNoSlot, IsUnused, IsDoubleFree, IsLiveBlock, wrong_size, wrong_canary};

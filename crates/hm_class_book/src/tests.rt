@@ -1,6 +1,6 @@
 //! Entries by hand, and what a book says of the last of them. The addresses, the canary and the words of class 7 were
 //! computed by another program; they are those of `first_entries` and `light_entries` in `hm_class_rules`.
-ghost use Rattle.std.specs.Prelude.{◌≡◌, ◌<◌};
+ghost use Rattle.std.specs.Prelude.{◌<◌};
 ghost use Rattle.hm_sizes.specs.Classes.{class_count};
 ghost use Rattle.hm_sizes.specs.Configs.{IsValid};
 
@@ -11,7 +11,7 @@ use hm_sizes::{ClassId, Config};
 use std::alloc::Global;
 use std::test::Fail;
 
-/// Where slab 0 of class 7 begins in arena 0 of run 0, the first block there, and the slab's canary.
+/// Where slab 0 of class 7 begins in arena 0 of seed 0, the first block there, and the slab's canary.
 const FIRST: u64 = 1_592_101_122_048;
 
 const BLOCK: u64 = 1_592_101_124_736;

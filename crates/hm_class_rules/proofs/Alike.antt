@@ -87,7 +87,7 @@ pub record Shown (t : Terms) (past : List Entry) (c : Cells) : Type 0 where
   pub state_is : c.state ≡ state_after_past t past
   pub partial : Shows Partial (kinds_after t past) c.partial
   pub empty : Shows Empty (kinds_after t past) c.empty
-  pub places : AreIndices t.shape.array (frees_of t past)
+  pub indices : AreIndices t.shape.array (frees_of t past)
   pub quarantine : c.quarantine ≡ kept_after t.shape.array t.shape.ring (frees_of t past)
   pub parking : c.parking ≡ parked_after t.config.park_length (retirements_of t past)
 
@@ -96,7 +96,7 @@ first_shown seed arena t = record {
   state_is = refl;
   partial = record { has = λ n. refl; falls = tt };
   empty = record { has = λ n. refl; falls = tt };
-  places = tt;
+  indices = tt;
   quarantine = refl;
   parking = refl;
 }
@@ -115,10 +115,10 @@ list_shown t past c e wanted list shape is allowed shows =
     (λ m ne. changes_one t s e.faults_before e.faults_after e.choices e.call e.reply shape allowed.allows m ne ∙ sym (now_is t shape past m))
     shows)
 
-with_places : (p : Shape) (d : Draws) (ev : Event) (frees : List Free) → IsArrayIndex p.array (array_index p d) → AreIndices p.array frees → AreIndices p.array (with_free p d ev frees)
-with_places p d (Picked a) frees is places = places
-with_places p d (Returned a) frees is places = (is, places)
-with_places p d Undrawn frees is places = places
+with_indices : (p : Shape) (d : Draws) (ev : Event) (frees : List Free) → IsArrayIndex p.array (array_index p d) → AreIndices p.array frees → AreIndices p.array (with_free p d ev frees)
+with_indices p d (Picked a) frees is indices = indices
+with_indices p d (Returned a) frees is indices = (is, indices)
+with_indices p d Undrawn frees is indices = indices
 
 with_kept : (p : Shape) (e : Entry) (ev : Event) (frees : List Free) → quarantine_with p e ev (kept_after p.array p.ring frees) ≡ kept_after p.array p.ring (with_free p e.draws ev frees)
 with_kept p e (Picked a) frees = refl
@@ -139,7 +139,7 @@ next_shown t past c e shape shown allowed words = record {
   state_is = ap (λ (s : State). step t.shape s e) shown.state_is;
   partial = list_shown t past c e Partial c.partial shape shown.state_is allowed shown.partial;
   empty = list_shown t past c e Empty c.empty shape shown.state_is allowed shown.empty;
-  places = with_places t.shape e.draws (event e) (frees_of t past) (drawn_index t.shape.array e.draws.w0 words.first) shown.places;
+  indices = with_indices t.shape e.draws (event e) (frees_of t past) (drawn_index t.shape.array e.draws.w0 words.first) shown.indices;
   quarantine = ap (quarantine_with t.shape e (event e)) shown.quarantine ∙ with_kept t.shape e (event e) (frees_of t past);
   parking = ap (parking_after t e (event e)) shown.parking ∙ with_parked t e (event e) (retirements_of t past);
 }
@@ -149,7 +149,7 @@ pub released_alike : (t : Terms) (past : List Entry) (c : Cells) (e : Entry) (a 
     → let_go c.quarantine a (array_index t.shape e.draws) ≡ released t.shape.array t.shape.ring (frees_of t past) (free_at t.shape e.draws a)
 released_alike t past c e a shown words =
     ap (λ (k : Kept). let_go k a (array_index t.shape e.draws)) shown.quarantine
-    ∙ looks_back t.shape.array t.shape.ring (frees_of t past) (free_at t.shape e.draws a) (drawn_index t.shape.array e.draws.w0 words.first, shown.places)
+    ∙ looks_back t.shape.array t.shape.ring (frees_of t past) (free_at t.shape e.draws a) (drawn_index t.shape.array e.draws.w0 words.first, shown.indices)
 
 unparked_alike : (t : Terms) (past : List Entry) (c : Cells) (e : Entry) → 1 ≤ t.config.park_length → Shown t past c → AreWords e.draws
     → unparked_by e.choices.retired (get_or c.parking (parking_index t e.draws) None) ≡ unparked_by e.choices.retired (latest_parked (parking_index t e.draws) (retirements_of t past))

@@ -25,7 +25,7 @@ use Rattle.hm_class_rules.specs.Kinds.{Kind, Partial, Empty, Neither, kind}
 use Rattle.hm_class_rules.specs.Stepped.{touched}
 use Rattle.hm_class_rules.proofs.Sound.{keys_overlaid}
 use Rattle.hm_class_rules.proofs.Legal.{retired_was}
-use Rattle.hm_class_rules.proofs.Delay.{out_held, opened_held}
+use Rattle.hm_class_rules.proofs.Delay.{out_quarantined, opened_quarantined}
 use Rattle.hm_class_rules.proofs.Condemned.{opened_condemned, out_condemned}
 use Rattle.hm_class_rules.proofs.Whole.{at_removed}
 use Rattle.hm_class_rules.proofs.Zeroed.{slab_is}
@@ -79,7 +79,7 @@ slab_alike p s t n opens taken =
 
 -- ---- which slabs are open
 module _ {X : Type 0} where
-  has_removed : (k m : ℕ) (l : List (ℕ × X)) → k ≢ m → has m (removed k l) ≡ has m l
+  pub has_removed : (k m : ℕ) (l : List (ℕ × X)) → k ≢ m → has m (removed k l) ≡ has m l
   has_removed k m l ne = ap (λ (o : Option X). is_some o) (at_removed k m l ne)
 
   has_put : (k m : ℕ) (x : X) (l : List (ℕ × X)) → k ≢ m → has m (put k x l) ≡ has m l
@@ -109,12 +109,12 @@ open_purges p None s m = refl
 open_purges p (Some k) s m = open_write p (slab_at p k) _ s m
 
 -- ---- which places are taken
-taken_by : (live live' : List (ℕ × ℕ)) (held held' condemned condemned' : List ℕ) (x : ℕ) → live ≡ live' → held ≡ held' → condemned ≡ condemned'
-    → (has x live || (among x held || among x condemned)) ≡ (has x live' || (among x held' || among x condemned'))
-taken_by live live' held held' condemned condemned' x e f g =
-    ap (λ (l : List (ℕ × ℕ)). has x l || (among x held || among x condemned)) e
+taken_by : (live live' : List (ℕ × ℕ)) (quarantined quarantined' condemned condemned' : List ℕ) (x : ℕ) → live ≡ live' → quarantined ≡ quarantined' → condemned ≡ condemned'
+    → (has x live || (among x quarantined || among x condemned)) ≡ (has x live' || (among x quarantined' || among x condemned'))
+taken_by live live' quarantined quarantined' condemned condemned' x e f g =
+    ap (λ (l : List (ℕ × ℕ)). has x l || (among x quarantined || among x condemned)) e
     ∙ ap (λ (l : List ℕ). has x live' || (among x l || among x condemned)) f
-    ∙ ap (λ (l : List ℕ). has x live' || (among x held' || among x l)) g
+    ∙ ap (λ (l : List ℕ). has x live' || (among x quarantined' || among x l)) g
 
 new_live : (p : Shape) (l : List ℕ) (s : State) → (taken_new p l s).live ≡ s.live
 new_live p [] s = refl
@@ -125,9 +125,9 @@ opened_live p None canary s = refl
 opened_live p (Some n) canary s = new_live p s.shut s
 
 pub taken_opened : (p : Shape) (o canary : Option ℕ) (s : State) (x : ℕ) → is_taken (opened p o canary s) x ≡ is_taken s x
-taken_opened p o canary s x = taken_by _ _ _ _ _ _ x (opened_live p o canary s) (opened_held p o canary s) (opened_condemned p o canary s)
+taken_opened p o canary s x = taken_by _ _ _ _ _ _ x (opened_live p o canary s) (opened_quarantined p o canary s) (opened_condemned p o canary s)
 
-out_live : (p : Shape) (s : State) (r q u : Option ℕ) → (purges p q (retires r (unparks u s))).live ≡ s.live
+pub out_live : (p : Shape) (s : State) (r q u : Option ℕ) → (purges p q (retires r (unparks u s))).live ≡ s.live
 out_live p s None None None = refl
 out_live p s None None (Some u) = refl
 out_live p s None (Some q) None = refl
@@ -138,7 +138,7 @@ out_live p s (Some r) (Some q) None = refl
 out_live p s (Some r) (Some q) (Some u) = refl
 
 pub taken_out : (p : Shape) (s : State) (r q u : Option ℕ) (x : ℕ) → is_taken (purges p q (retires r (unparks u s))) x ≡ is_taken s x
-taken_out p s r q u x = taken_by _ _ _ _ _ _ x (out_live p s r q u) (out_held p s r q u) (out_condemned p s r q u)
+taken_out p s r q u x = taken_by _ _ _ _ _ _ x (out_live p s r q u) (out_quarantined p s r q u) (out_condemned p s r q u)
 
 pub among_apart : (a x : ℕ) (xs : List ℕ) → a ≢ x → among x (a ∷ xs) ≡ among x xs
 among_apart a x xs ne = ap (λ b. b || among x xs) (other_eq a x ne)
@@ -147,14 +147,14 @@ among_left : (b x : ℕ) (xs : List ℕ) → b ≢ x → among x (without b xs) 
 among_left b x xs ne = among_filter b x xs ∙ ap (λ c. cond c false (among x xs)) (other_eq x b (λ e. ne (sym e)))
 
 -- a live slot that is taken back stays taken where another is released
-still_taken : (a b x : ℕ) (live : List (ℕ × ℕ)) (held condemned : List ℕ) → has a live ≡ true → b ≢ x
-    → (has x (removed a live) || (among x (without b (a ∷ held)) || among x condemned)) ≡ (has x live || (among x held || among x condemned))
-still_taken a b x live held condemned is ne =
-    ap (λ c. has x (removed a live) || (c || among x condemned)) (among_left b x (a ∷ held) ne)
+still_taken : (a b x : ℕ) (live : List (ℕ × ℕ)) (quarantined condemned : List ℕ) → has a live ≡ true → b ≢ x
+    → (has x (removed a live) || (among x (without b (a ∷ quarantined)) || among x condemned)) ≡ (has x live || (among x quarantined || among x condemned))
+still_taken a b x live quarantined condemned is ne =
+    ap (λ c. has x (removed a live) || (c || among x condemned)) (among_left b x (a ∷ quarantined) ne)
     ∙ ⊎_elim
-    (λ e. or_here (has x (removed a live)) (a == x) (among x held) (among x condemned) (same_eq a x e)
-    ∙ sym (ap (λ c. c || (among x held || among x condemned)) (ap (λ (k : ℕ). has k live) (sym e) ∙ is)))
-    (λ other. ap (λ c. c || (among x (a ∷ held) || among x condemned)) (has_removed a x live other) ∙ ap (λ c. has x live || (c || among x condemned)) (among_apart a x held other))
+    (λ e. or_here (has x (removed a live)) (a == x) (among x quarantined) (among x condemned) (same_eq a x e)
+    ∙ sym (ap (λ c. c || (among x quarantined || among x condemned)) (ap (λ (k : ℕ). has k live) (sym e) ∙ is)))
+    (λ other. ap (λ c. c || (among x (a ∷ quarantined) || among x condemned)) (has_removed a x live other) ∙ ap (λ c. has x live || (c || among x condemned)) (among_apart a x quarantined other))
     (cases_eq a x)
   where
     or_here : (c d e f : Bool) → d ≡ true → (c || ((d || e) || f)) ≡ true
@@ -163,8 +163,8 @@ still_taken a b x live held condemned is ne =
 
 pub freed_taken : (p : Shape) (s : State) (a x : ℕ) (o : Option ℕ) → is_live s a ≡ true → (o ≡ None → a ≢ x) → ((b : ℕ) → o ≡ Some b → b ≢ x) → is_taken (releases o (takes_back p a s)) x ≡ is_taken s x
 freed_taken p s a x None is none some =
-    ap (λ c. c || (among x (a ∷ s.held) || among x s.condemned)) (has_removed a x s.live (none refl)) ∙ ap (λ c. has x s.live || (c || among x s.condemned)) (among_apart a x s.held (none refl))
-freed_taken p s a x (Some b) is none some = still_taken a b x s.live s.held s.condemned is (some b refl)
+    ap (λ c. c || (among x (a ∷ s.quarantined) || among x s.condemned)) (has_removed a x s.live (none refl)) ∙ ap (λ c. has x s.live || (c || among x s.condemned)) (among_apart a x s.quarantined (none refl))
+freed_taken p s a x (Some b) is none some = still_taken a b x s.live s.quarantined s.condemned is (some b refl)
 
 -- ---- the one slab
 -- what is retired is the slab of what was released
@@ -204,14 +204,14 @@ given_one : (p : Shape) (s : State) (c : Choices) (a asked m : ℕ) → IsShape 
 given_one p s c a asked m shape picks ne =
     slab_alike p (gives p a asked (opened p c.opened c.canary s)) s m
     (open_write p (a + usable p) (to_le_bytes w64 (kept_canary p (opened p c.opened c.canary s) a)) (opened p c.opened c.canary s) m ∙ open_opened p c.opened c.canary s m (λ n is e. ne (sym e ∙ sym (opened_slab p s c.opened (slab_of p a) n picks.source is))))
-    (λ i lt. ap (λ b. b || (among (place p m i) (opened p c.opened c.canary s).held || among (place p m i) (opened p c.opened c.canary s).condemned)) (has_put a (place p m i) asked (opened p c.opened c.canary s).live (apart p shape m i a lt ne))
+    (λ i lt. ap (λ b. b || (among (place p m i) (opened p c.opened c.canary s).quarantined || among (place p m i) (opened p c.opened c.canary s).condemned)) (has_put a (place p m i) asked (opened p c.opened c.canary s).live (apart p shape m i a lt ne))
     ∙ taken_opened p c.opened c.canary s (place p m i))
 
 condemned_one : (p : Shape) (s : State) (c : Choices) (a m : ℕ) → IsShape p → Picks p s (opened p c.opened c.canary s) c a → m ≢ slab_of p a → kind p (changed p c (Allot 0 1) (Overwritten a 0 0) s) m ≡ kind p s m
 condemned_one p s c a m shape picks ne =
     slab_alike p (changed p c (Allot 0 1) (Overwritten a 0 0) s) s m
     (open_opened p c.opened c.canary s m (λ n is e. ne (sym e ∙ sym (opened_slab p s c.opened (slab_of p a) n picks.source is))))
-    (λ i lt. ap (λ b. is_live (opened p c.opened c.canary s) (place p m i) || (among (place p m i) (opened p c.opened c.canary s).held || b)) (among_apart a (place p m i) (opened p c.opened c.canary s).condemned (apart p shape m i a lt ne))
+    (λ i lt. ap (λ b. is_live (opened p c.opened c.canary s) (place p m i) || (among (place p m i) (opened p c.opened c.canary s).quarantined || b)) (among_apart a (place p m i) (opened p c.opened c.canary s).condemned (apart p shape m i a lt ne))
     ∙ taken_opened p c.opened c.canary s (place p m i))
 
 pub changes_one : (t : Terms) (s : State) (before now : ℕ) (c : Choices) (call : Call) (reply : Reply) → IsShape t.shape → Allows t s before now c call reply → (m : ℕ) → m ≢ touched t.shape c.released (event_of call reply)

@@ -23,11 +23,11 @@ same_empty p s a b n shape live ne = all_alike (is_free p s₂ n) (is_free p s n
     s₂ = releases (Some b) (takes_back p a s)
 
 -- what is released was taken before
-was_used : (p : Shape) (s : State) (a b : ℕ) → is_live s a ≡ true → among b (a ∷ s.held) ≡ true → 1 ≤ uses s b
+was_used : (p : Shape) (s : State) (a b : ℕ) → is_live s a ≡ true → among b (a ∷ s.quarantined) ≡ true → 1 ≤ uses s b
 was_used p s a b live is =
     ⊎_elim
     (λ e. subst (λ (x : ℕ). 1 ≤ uses s x) e (omega (arith, has_times a s.live live)))
-    (λ ne. omega (arith, times_among b (a ∷ s.held) is, times_apart b a s.held ne))
+    (λ ne. omega (arith, times_among b (a ∷ s.quarantined) is, times_apart b a s.quarantined ne))
     (cases_eq a b)
 
 -- so its slab was not empty

@@ -8,7 +8,7 @@ use Rattle.hm_sizes.specs.Shapes.{IsShape}
 use Rattle.hm_class_rules.specs.Rules.{IsLegal}
 use Rattle.hm_class_rules.specs.Drawn.{IsDrawn, AreDrawn}
 use Rattle.hm_class_rules.specs.Stepped.{first_cells, next, IsSteppedEntry}
-use Rattle.hm_class_rules.specs.DrawnExamples.{first_region, first_entries, canary_zero, first_slot, light_region, light_entries, paired, latest_source, earlier_source, undrawn, first_slots, waiting_room, oldest_released, parked, same_place, parked_later, second_word}
+use Rattle.hm_class_rules.specs.DrawnExamples.{first_region, first_entries, canary_zero, first_slot, light_region, light_entries, paired, latest_source, earlier_source, undrawn, first_slots, waiting_room, oldest_released, parked, same_index, parked_later, second_word}
 use Rattle.hm_class_rules.proofs.Alike.{stepped_drawn}
 use Rattle.std.proofs.lemmas.Option.{same_Some}
 
@@ -88,12 +88,12 @@ oldest_released_drawn legal = stepped_drawn 0 1 waiting_room oldest_released (li
 parked_shape : IsShape parked.shape
 parked_shape = record { class_below = lit< tt; slots_some = lit≤ tt; slots_most = lit≤ tt; slot_least = lit≤ tt; slots_fit = lit≤ tt; slab_pages = refl; slab_most = lit≤ tt; first_pages = refl; first_least = lit≤ tt; space = lit≤ tt; limit_most = lit≤ tt; guards_some = lit≤ tt; guards_most = lit≤ tt }
 
-same_place_steps : Legal (next parked) (IsSteppedEntry parked) (first_cells 0 1 parked) same_place
+same_index_steps : Legal (next parked) (IsSteppedEntry parked) (first_cells 0 1 parked) same_index
 unfolding u32_at block_word double_rounds diagonal_round quarter_round column_round
-same_place_steps = (record { count = refl; words = refl; choices = record { picked = record { canary = tt; place = refl }; source = λ none. absurd (some_none 0 none) } }, (record { count = refl; words = refl; choices = record { picked = record { canary = tt; place = refl }; source = λ none. absurd (some_none 2 none) } }, (record { count = refl; words = refl; choices = record { picked = record { canary = tt; place = refl }; source = λ none. absurd (some_none 4 none) } }, (record { count = refl; words = refl; choices = record { released = refl; unparked = refl } }, (record { count = refl; words = refl; choices = record { released = refl; unparked = refl } }, (record { count = refl; words = refl; choices = record { released = refl; unparked = refl } }, (record { count = refl; words = refl; choices = record { picked = record { canary = tt; place = refl }; source = λ none. refl } }, (record { count = refl; words = refl; choices = record { picked = record { canary = tt; place = refl }; source = λ none. absurd (some_none 6 none) } }, (record { count = refl; words = refl; choices = record { released = refl; unparked = refl } }, (record { count = refl; words = refl; choices = record { released = refl; unparked = refl } }, (record { count = refl; words = refl; choices = record { picked = record { canary = tt; place = refl }; source = λ none. refl } }, (record { count = refl; words = refl; choices = record { picked = record { canary = tt; place = refl }; source = λ none. absurd (some_none 2 none) } }, tt))))))))))))
+same_index_steps = (record { count = refl; words = refl; choices = record { picked = record { canary = tt; place = refl }; source = λ none. absurd (some_none 0 none) } }, (record { count = refl; words = refl; choices = record { picked = record { canary = tt; place = refl }; source = λ none. absurd (some_none 2 none) } }, (record { count = refl; words = refl; choices = record { picked = record { canary = tt; place = refl }; source = λ none. absurd (some_none 4 none) } }, (record { count = refl; words = refl; choices = record { released = refl; unparked = refl } }, (record { count = refl; words = refl; choices = record { released = refl; unparked = refl } }, (record { count = refl; words = refl; choices = record { released = refl; unparked = refl } }, (record { count = refl; words = refl; choices = record { picked = record { canary = tt; place = refl }; source = λ none. refl } }, (record { count = refl; words = refl; choices = record { picked = record { canary = tt; place = refl }; source = λ none. absurd (some_none 6 none) } }, (record { count = refl; words = refl; choices = record { released = refl; unparked = refl } }, (record { count = refl; words = refl; choices = record { released = refl; unparked = refl } }, (record { count = refl; words = refl; choices = record { picked = record { canary = tt; place = refl }; source = λ none. refl } }, (record { count = refl; words = refl; choices = record { picked = record { canary = tt; place = refl }; source = λ none. absurd (some_none 2 none) } }, tt))))))))))))
 
-pub same_place_drawn : IsLegal parked same_place → AreDrawn parked [] same_place
-same_place_drawn legal = stepped_drawn 0 1 parked same_place (lit≤ tt) parked_shape legal same_place_steps
+pub same_index_drawn : IsLegal parked same_index → AreDrawn parked [] same_index
+same_index_drawn legal = stepped_drawn 0 1 parked same_index (lit≤ tt) parked_shape legal same_index_steps
 
 parked_later_shape : IsShape parked_later.shape
 parked_later_shape = record { class_below = lit< tt; slots_some = lit≤ tt; slots_most = lit≤ tt; slot_least = lit≤ tt; slots_fit = lit≤ tt; slab_pages = refl; slab_most = lit≤ tt; first_pages = refl; first_least = lit≤ tt; space = lit≤ tt; limit_most = lit≤ tt; guards_some = lit≤ tt; guards_most = lit≤ tt }

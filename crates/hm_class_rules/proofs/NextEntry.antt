@@ -5,7 +5,7 @@ use Rattle.std.proofs.Math.Nat.{mul-mod_left}
 use Rattle.hm_choice.specs.Stream.{next_word, drawn}
 use Rattle.hm_quarantine.specs.Quarantine.{Kept}
 use Rattle.hm_quarantine.specs.LookingBack.{Free, AreIndices, kept_after}
-use Rattle.hm_quarantine.specs.Delay.{held}
+use Rattle.hm_quarantine.specs.Delay.{quarantined}
 use Rattle.hm_quarantine.proofs.Passes.{length_array, length_is}
 use Rattle.hm_quarantine.proofs.Counts.{count_in}
 use Rattle.hm_model.specs.Machine.{state_after, Legal, Legal_push, Legal_split, state_push}
@@ -25,7 +25,7 @@ use Rattle.hm_class_rules.specs.DrawnLaws.{OneMoreStepped, OneLessStepped, NextC
 use Rattle.hm_class_rules.proofs.Legal.{sound_start, sound_step}
 use Rattle.hm_class_rules.proofs.Streams.{next_below, AreWords, words_below}
 use Rattle.hm_class_rules.proofs.Alike.{drawn_below, Shown, first_shown, next_shown, now_is, released_alike, parking_below}
-use Rattle.hm_class_rules.proofs.Waiting.{AreHeld, ReleasesDrawn, held_next, release_allowed, ring_few, are_counted}
+use Rattle.hm_class_rules.proofs.Waiting.{AreQuarantined, ReleasesDrawn, quarantined_next, release_allowed, ring_few, are_counted}
 use Rattle.hm_class_rules.proofs.Parking.{AreParked, none_parked, UnparksDrawn, parking_by, parked_next, unpark_allowed, times_same}
 use Rattle.hm_class_rules.proofs.Listed.{KindsAre, partial_times, empty_times, empty_length, front_source, no_front}
 
@@ -33,14 +33,14 @@ use Rattle.hm_class_rules.proofs.Listed.{KindsAre, partial_times, empty_times, e
 record IsReached (t : Terms) (past : List Entry) (c : Cells) : Type 0 where
   shown : Shown t past c
   sound : IsSound t.shape (state_after_past t past)
-  held : AreHeld t.shape (frees_of t past) (state_after_past t past).held (state_after_past t past).frees
+  quarantined : AreQuarantined t.shape (frees_of t past) (state_after_past t past).quarantined (state_after_past t past).frees
   parked : AreParked t.config.park_length (state_after_past t past).parked c.parking
 
 first_reached : (seed arena : ℕ) (t : Terms) → IsShape t.shape → IsReached t [] (first_cells seed arena t)
 first_reached seed arena t shape = record {
   shown = first_shown seed arena t;
   sound = sound_start t.shape shape;
-  held = record { held_is = refl; frees_is = refl; new = tt };
+  quarantined = record { quarantined_is = refl; frees_is = refl; new = tt };
   parked = none_parked t.config.park_length;
 }
 
@@ -69,7 +69,7 @@ next_reached t past c e some shape reached allowed h =
     record {
       shown = next_shown t past c e shape reached.shown allowed words;
       sound = sound_step t s e shape reached.sound allowed;
-      held = held_next t s (frees_of t past) e.draws e.faults_before e.faults_after e.choices e.call e.reply reached.sound allowed.allows (releases_drawn t past c e (event e) reached.shown words h.choices) reached.held;
+      quarantined = quarantined_next t s (frees_of t past) e.draws e.faults_before e.faults_after e.choices e.call e.reply reached.sound allowed.allows (releases_drawn t past c e (event e) reached.shown words h.choices) reached.quarantined;
       parked = subst (λ (l : List (Option ℕ)). AreParked t.config.park_length (step t.shape s e).parked l) (same_parking t e (event e) c.parking)
           (parked_next t s t.config.park_length (parking_index t e.draws) c.parking e.choices e.call e.reply (λ n. parked_once t.shape s n reached.sound) (parking_below t e.draws some words)
           (unparks_drawn t c e (event e) h.choices) reached.parked);
@@ -93,12 +93,12 @@ times_array a (None ∷ array) = omega (arith, times_array a array)
 times_array a (Some x ∷ array) = ap (λ (n : ℕ). cond (x == a) 1 0 + n) (times_array a array)
 
 -- the addresses in quarantine stand in the array and the ring
-held_times : (p : Shape) (frees : List Free) (kept : Kept) (list accepted : List ℕ) (a : ℕ) → AreHeld p frees list accepted → AreIndices p.array frees → kept ≡ kept_after p.array p.ring frees
+quarantined_times : (p : Shape) (frees : List Free) (kept : Kept) (list accepted : List ℕ) (a : ℕ) → AreQuarantined p frees list accepted → AreIndices p.array frees → kept ≡ kept_after p.array p.ring frees
     → times_in a kept.array + times a kept.ring ≡ times a list
-held_times p frees kept list accepted a are places is =
+quarantined_times p frees kept list accepted a are indices is =
     ap (λ (k : Kept). times_in a k.array + times a k.ring) is
-    ∙ omega (arith, (are_counted p.array p.ring frees places are.new).counts (λ x. x == a), times_array a (kept_after p.array p.ring frees).array, times_same a (kept_after p.array p.ring frees).ring, times_same a (held p.array p.ring frees))
-    ∙ ap (λ (l : List ℕ). times a l) (sym are.held_is)
+    ∙ omega (arith, (are_counted p.array p.ring frees indices are.new).counts (λ x. x == a), times_array a (kept_after p.array p.ring frees).array, times_same a (kept_after p.array p.ring frees).ring, times_same a (quarantined p.array p.ring frees))
+    ∙ ap (λ (l : List ℕ). times a l) (sym are.quarantined_is)
 
 kinds_are : (t : Terms) (past : List Entry) → IsShape t.shape → KindsAre t.shape (state_after_past t past) (kinds_after t past)
 kinds_are t past shape n = now_is t shape past n
@@ -112,11 +112,11 @@ kept_there t past c shape reached =
       partial = λ n. partial_times t.shape s (kinds_after t past) c.partial (kinds_are t past shape) shown.partial n;
       empty = λ n. empty_times t.shape s (kinds_after t past) c.empty (kinds_are t past shape) shown.empty n;
       empty_count = empty_length t.shape s (kinds_after t past) c.empty shape reached.sound (kinds_are t past shape) shown.empty;
-      held = λ a. held_times t.shape (frees_of t past) c.quarantine s.held s.frees a reached.held shown.places shown.quarantine;
+      quarantined = λ a. quarantined_times t.shape (frees_of t past) c.quarantine s.quarantined s.frees a reached.quarantined shown.indices shown.quarantine;
       parked = λ n. sym (times_array n c.parking) ∙ sym (reached.parked.counts (λ x. x == n)) ∙ times_same n s.parked;
       array_length = ap (λ (k : Kept). length k.array) shown.quarantine ∙ length_array t.shape.array t.shape.ring (frees_of t past);
       ring_length = ap (λ (k : Kept). k.ring_length) shown.quarantine ∙ length_is t.shape.array t.shape.ring (frees_of t past);
-      ring_most = subst (λ (k : Kept). length k.ring ≤ t.shape.ring) (sym shown.quarantine) (ring_few t.shape.array t.shape.ring (frees_of t past) shown.places);
+      ring_most = subst (λ (k : Kept). length k.ring ≤ t.shape.ring) (sym shown.quarantine) (ring_few t.shape.array t.shape.ring (frees_of t past) shown.indices);
       parking_length = reached.parked.length_is;
     }
 
@@ -127,7 +127,7 @@ allows_there t past c shape reached =
     record {
       source = front_source t.shape s (kinds_after t past) c.partial c.empty (kinds_are t past shape) shown.partial shown.empty;
       no_source = no_front t.shape s (kinds_after t past) c.partial c.empty (kinds_are t past shape) shown.partial shown.empty;
-      release = λ a place live at_place. release_allowed t.shape s (frees_of t past) c.quarantine a place reached.sound reached.held shown.places shown.quarantine live at_place;
+      release = λ a place live at_place. release_allowed t.shape s (frees_of t past) c.quarantine a place reached.sound reached.quarantined shown.indices shown.quarantine live at_place;
       unparked = λ place lt. unpark_allowed t.config.park_length place s.parked c.parking reached.parked (λ n. parked_once t.shape s n reached.sound) lt;
     }
 

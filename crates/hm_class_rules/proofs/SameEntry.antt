@@ -12,7 +12,8 @@ use Rattle.hm_class_rules.specs.State.{State}
 use Rattle.hm_class_rules.specs.Rules.{Terms, Allows, state}
 use Rattle.hm_class_rules.specs.Stepped.{Cells, cells}
 use Rattle.hm_class_rules.proofs.NextEntry.{lists_are_kept}
-use Rattle.hm_class_rules.specs.OneEntry.{is_pages_failed, IsNext, OneEntry}
+use Rattle.hm_model.specs.Replies.{is_page_fault}
+use Rattle.hm_class_rules.specs.OneEntry.{IsNext, OneEntry}
 use Rattle.hm_class_rules.proofs.SameParts.{Stands, Agree, allot_agree, back_agree, measure_agree, fetch_agree, fill_agree}
 
 -- an allotment purges nothing
@@ -23,10 +24,10 @@ no_purge t c e asked align Exhausted x = ap (λ (ch : Choices). is_some ch.purge
 no_purge t c e asked align PagesFailed x = ap (λ (ch : Choices). is_some ch.purged) x.allows.4
 no_purge t c e asked align r x = absurd x.allows
 
--- a free never answers that pages failed
-no_failure : (t : Terms) (c : Cells) (e : Entry) (a : ℕ) (stated : Option ℕ) (r : Reply) → Stands t c e (GiveBack a stated) r → is_pages_failed r ≡ false
-no_failure t c e a stated PagesFailed x = absurd x.allows
-no_failure t c e a stated r x = refl
+-- a free never answers with a page fault
+no_fault : (t : Terms) (c : Cells) (e : Entry) (a : ℕ) (stated : Option ℕ) (r : Reply) → Stands t c e (GiveBack a stated) r → is_page_fault r ≡ false
+no_fault t c e a stated PagesFailed x = absurd x.allows
+no_fault t c e a stated r x = refl
 
 left : (a b c d : Bool) → (a || b) ≡ (c || d) → b ≡ false → d ≡ false → a ≡ c
 left true b true d h e f = refl
@@ -39,13 +40,13 @@ right false b false d h e f = h
 right true b c d h e f = absurd (true≢false e)
 right false b true d h e f = absurd (true≢false f)
 
-agree : (t : Terms) (c : Cells) (e f : Entry) (call : Call) (r q : Reply) → IsShape t.shape → IsTrue t.told
-    → (is_pages_failed r || is_some e.choices.purged) ≡ (is_pages_failed q || is_some f.choices.purged)
+pub agree : (t : Terms) (c : Cells) (e f : Entry) (call : Call) (r q : Reply) → IsShape t.shape → IsTrue t.told
+    → (is_page_fault r || is_some e.choices.purged) ≡ (is_page_fault q || is_some f.choices.purged)
     → Stands t c e call r → Stands t c f call q → Agree e f r q
 agree t c e f (Allot asked align) r q shape told flag x y =
     allot_agree t c shape told e f asked align r q (left _ _ _ _ flag (no_purge t c e asked align r x) (no_purge t c f asked align q y)) x y
 agree t c e f (GiveBack a stated) r q shape told flag x y =
-    back_agree t c told e f a stated r q (right _ _ _ _ flag (no_failure t c e a stated r x) (no_failure t c f a stated q y)) x y
+    back_agree t c told e f a stated r q (right _ _ _ _ flag (no_fault t c e a stated r x) (no_fault t c f a stated q y)) x y
 agree t c e f (Measure a) r q shape told flag x y = measure_agree t c told e f a r q x y
 agree t c e f (Fetch a len) r q shape told flag x y = fetch_agree t c told e f a len r q x y
 agree t c e f (Fill a runs) r q shape told flag x y = fill_agree t c told e f a runs r q x y

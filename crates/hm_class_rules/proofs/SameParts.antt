@@ -25,8 +25,8 @@ use Rattle.hm_class_rules.specs.Draws.{Picked, Undrawn, event_of, start_words, a
 use Rattle.hm_class_rules.specs.Drawn.{first_free, unparked_by}
 use Rattle.hm_class_rules.specs.Stepped.{Cells, front, IsSteppedPicking, IsSteppedEvent}
 use Rattle.hm_class_rules.proofs.JudgedReplies.{judged_law}
-use Rattle.hm_class_rules.specs.OneEntry.{is_pages_failed, HasRuns}
-use Rattle.hm_class_rules.proofs.SameWords.{same_draws, same_place}
+use Rattle.hm_model.specs.Replies.{is_page_fault, HasRuns}
+use Rattle.hm_class_rules.proofs.SameWords.{same_draws, same_index}
 use Rattle.hm_class_rules.proofs.SameSlab.{source_none, same_opened, same_slab, same_option}
 use Rattle.hm_class_rules.proofs.SameRuns.{same_runs}
 
@@ -135,7 +135,7 @@ module _ (t : Terms) (c : Cells) (shape : IsShape t.shape) (told : IsTrue t.told
 
   -- one entry picks
   picks_and : (a : ℕ) (r q : Reply) → IsPick t c e a → r ≡ found_reply (usable t.shape) a (finds t c e.choices a)
-      → false ≡ is_pages_failed q → Stands t c f (Allot asked align) q → Agree e f r q
+      → false ≡ is_page_fault q → Stands t c f (Allot asked align) q → Agree e f r q
   unfolding finds
   picks_and a r (Given b size) x hr flag y =
       picks_agree t c e f a b r (Given b size) shape x (given_pick f b size y) hr (given_is t c f.choices b size y.allows.1 (y.allows.2 told))
@@ -146,7 +146,7 @@ module _ (t : Terms) (c : Cells) (shape : IsShape t.shape) (told : IsTrue t.told
   picks_and a r PagesFailed x hr flag y = absurd (true≢false (sym flag))
   picks_and a r q x hr flag y = absurd y.allows
 
-  exhausts_and : (q : Reply) → Stands t c e (Allot asked align) Exhausted → false ≡ is_pages_failed q → Stands t c f (Allot asked align) q → Agree e f Exhausted q
+  exhausts_and : (q : Reply) → Stands t c e (Allot asked align) Exhausted → false ≡ is_page_fault q → Stands t c f (Allot asked align) q → Agree e f Exhausted q
   exhausts_and (Given b size) x flag y =
       absurd (source_none t.shape c.state f.choices.opened (slab_of t.shape b) shape y.allows.0.source x.allows.0 x.allows.1)
   exhausts_and (Overwritten b at found) x flag y =
@@ -155,17 +155,17 @@ module _ (t : Terms) (c : Cells) (shape : IsShape t.shape) (told : IsTrue t.told
   exhausts_and PagesFailed x flag y = absurd (true≢false (sym flag))
   exhausts_and q x flag y = absurd y.allows
 
-  fails_and : (q : Reply) → Stands t c e (Allot asked align) PagesFailed → true ≡ is_pages_failed q → Stands t c f (Allot asked align) q → Agree e f PagesFailed q
-  fails_and PagesFailed x flag y = plain t c e f (Allot asked align) PagesFailed PagesFailed x y refl refl refl x.allows.4 y.allows.4
-  fails_and q x flag y = absurd (true≢false flag)
+  fault_and : (q : Reply) → Stands t c e (Allot asked align) PagesFailed → true ≡ is_page_fault q → Stands t c f (Allot asked align) q → Agree e f PagesFailed q
+  fault_and PagesFailed x flag y = plain t c e f (Allot asked align) PagesFailed PagesFailed x y refl refl refl x.allows.4 y.allows.4
+  fault_and q x flag y = absurd (true≢false flag)
 
-  pub allot_agree : (r q : Reply) → is_pages_failed r ≡ is_pages_failed q → Stands t c e (Allot asked align) r → Stands t c f (Allot asked align) q → Agree e f r q
+  pub allot_agree : (r q : Reply) → is_page_fault r ≡ is_page_fault q → Stands t c e (Allot asked align) r → Stands t c f (Allot asked align) q → Agree e f r q
   unfolding finds
   allot_agree (Given a size) q flag x y = picks_and a (Given a size) q (given_pick e a size x) (given_is t c e.choices a size x.allows.1 (x.allows.2 told)) flag y
   allot_agree (Overwritten a at found) q flag x y =
       picks_and a (Overwritten a at found) q (over_pick e a at found x) (overwritten_is t c e.choices a at found (x.allows.2 told)) flag y
   allot_agree Exhausted q flag x y = exhausts_and q x flag y
-  allot_agree PagesFailed q flag x y = fails_and q x flag y
+  allot_agree PagesFailed q flag x y = fault_and q x flag y
   allot_agree r q flag x y = absurd x.allows
 
 -- ---- giving back
@@ -190,7 +190,7 @@ freed_agree : (t : Terms) (c : Cells) (e f : Entry) (a : ℕ) (stated : Option �
 freed_agree t c e f a stated flag x y =
     let p : Shape = t.shape in
     let place : array_index p e.draws ≡ array_index p f.draws =
-    same_place p.array c.stream e.draws f.draws (parking_words e.choices) (parking_words f.choices) x.count y.count x.words y.words in
+    same_index p.array c.stream e.draws f.draws (parking_words e.choices) (parking_words f.choices) x.count y.count x.words y.words in
     let released : e.choices.released ≡ f.choices.released =
     x.stepped.released ∙ ap (λ (n : ℕ). let_go c.quarantine a n) place ∙ sym y.stepped.released in
     let after : Option ℕ → State = λ o. releases o (takes_back p a c.state) in

@@ -85,8 +85,8 @@ no_or false false false e = (refl, refl, refl)
 
 pub free_uses : (s : State) (a : ℕ) → not (is_taken s a) ≡ true → uses s a ≡ 0
 free_uses s a e =
-    let r = no_or (is_live s a) (among a s.held) (among a s.condemned) e in
-    omega (arith, not_has_times a s.live r.0, times_none a s.held r.1, times_none a s.condemned r.2)
+    let r = no_or (is_live s a) (among a s.quarantined) (among a s.condemned) e in
+    omega (arith, not_has_times a s.live r.0, times_none a s.quarantined r.1, times_none a s.condemned r.2)
 
 -- ---- the changes, one by one
 -- the slots stay in open slabs where the open slabs stay open
@@ -131,7 +131,7 @@ pub sound_live : (p : Shape) (s : State) (n i a asked : ℕ) → IsSound p s →
 sound_live p s n i a asked h at_place is_on none =
     let s' : State = record s { live = put a asked s.live; given = a ∷ s.given } in
     let here : (q : ℕ) → a ≡ q → uses s' q ≡ 1 = λ q e. subst (λ (q : ℕ). uses s' q ≡ 1) e (omega (arith, put_same a asked s.live, none)) in
-    let there : (q : ℕ) → a ≢ q → uses s' q ≡ uses s q = λ q ne. ap (λ (k : ℕ). k + (times q s.held + times q s.condemned)) (put_other q a asked s.live ne) in
+    let there : (q : ℕ) → a ≢ q → uses s' q ≡ uses s q = λ q ne. ap (λ (k : ℕ). k + (times q s.quarantined + times q s.condemned)) (put_other q a asked s.live ne) in
     record {
       once = λ q. ⊎_elim (λ e. omega (arith, here q e)) (λ ne. omega (arith, there q ne, h.once q)) (cases_eq a q);
       placed = λ q u. ⊎_elim
@@ -158,7 +158,7 @@ sound_gives p s n i a asked h at_place is_on none =
 pub sound_condemns : (p : Shape) (s : State) (n i a : ℕ) → IsSound p s → IsPlaceOf p a n i → is_open s n ≡ true → uses s a ≡ 0 → IsSound p (condemns a s)
 sound_condemns p s n i a h at_place is_on none =
     let here : (q : ℕ) → a ≡ q → uses (condemns a s) q ≡ 1 = λ q e. subst (λ (q : ℕ). uses (condemns a s) q ≡ 1) e (omega (arith, times_here a s.condemned, none)) in
-    let there : (q : ℕ) → a ≢ q → uses (condemns a s) q ≡ uses s q = λ q ne. ap (λ (k : ℕ). times q (keys s.live) + (times q s.held + k)) (times_apart q a s.condemned ne) in
+    let there : (q : ℕ) → a ≢ q → uses (condemns a s) q ≡ uses s q = λ q ne. ap (λ (k : ℕ). times q (keys s.live) + (times q s.quarantined + k)) (times_apart q a s.condemned ne) in
     record {
       once = λ q. ⊎_elim (λ e. omega (arith, here q e)) (λ ne. omega (arith, there q ne, h.once q)) (cases_eq a q);
       placed = λ q u. ⊎_elim
@@ -174,11 +174,11 @@ sound_condemns p s n i a h at_place is_on none =
     }
 
 -- a live slot goes into quarantine
-sound_held : (p : Shape) (s : State) (a : ℕ) → IsSound p s → is_live s a ≡ true → IsSound p (record s { live = removed a s.live; frees = a ∷ s.frees; held = a ∷ s.held })
-sound_held p s a h live =
-    let s' : State = record s { live = removed a s.live; frees = a ∷ s.frees; held = a ∷ s.held } in
-    let here : (q : ℕ) → a ≡ q → uses s' q ≡ uses s q = λ q e. subst (λ (q : ℕ). uses s' q ≡ uses s q) e (omega (arith, removed_same a s.live, times_here a s.held, has_times a s.live live, h.once a)) in
-    let there : (q : ℕ) → a ≢ q → uses s' q ≡ uses s q = λ q ne. omega (arith, removed_other q a s.live ne, times_apart q a s.held ne) in
+sound_quarantined : (p : Shape) (s : State) (a : ℕ) → IsSound p s → is_live s a ≡ true → IsSound p (record s { live = removed a s.live; frees = a ∷ s.frees; quarantined = a ∷ s.quarantined })
+sound_quarantined p s a h live =
+    let s' : State = record s { live = removed a s.live; frees = a ∷ s.frees; quarantined = a ∷ s.quarantined } in
+    let here : (q : ℕ) → a ≡ q → uses s' q ≡ uses s q = λ q e. subst (λ (q : ℕ). uses s' q ≡ uses s q) e (omega (arith, removed_same a s.live, times_here a s.quarantined, has_times a s.live live, h.once a)) in
+    let there : (q : ℕ) → a ≢ q → uses s' q ≡ uses s q = λ q ne. omega (arith, removed_other q a s.live ne, times_apart q a s.quarantined ne) in
     let same : (q : ℕ) → uses s' q ≡ uses s q = λ q. ⊎_elim (here q) (there q) (cases_eq a q) in
     record {
       once = λ q. omega (arith, same q, h.once q);
@@ -195,12 +195,12 @@ sound_held p s a h live =
     }
 
 pub sound_takes_back : (p : Shape) (s : State) (a : ℕ) → IsSound p s → is_live s a ≡ true → IsSound p (takes_back p a s)
-sound_takes_back p s a h live = sound_held p (write p a (zeros (usable p)) s) a (sound_write p s a (zeros (usable p)) h) live
+sound_takes_back p s a h live = sound_quarantined p (write p a (zeros (usable p)) s) a (sound_write p s a (zeros (usable p)) h) live
 
 pub sound_releases : (p : Shape) (s : State) (o : Option ℕ) → IsSound p s → IsSound p (releases o s)
 sound_releases p s None h = h
 sound_releases p s (Some b) h =
-    let fewer : (q : ℕ) → uses (releases (Some b) s) q ≤ uses s q = λ q. omega (arith, without_le q b s.held) in
+    let fewer : (q : ℕ) → uses (releases (Some b) s) q ≤ uses s q = λ q. omega (arith, without_le q b s.quarantined) in
     record {
       once = λ q. omega (arith, fewer q, h.once q);
       placed = λ q u. stays p s (releases (Some b) s) q (λ m o. o) (h.placed q (omega (arith, fewer q, u)));
@@ -213,11 +213,11 @@ sound_releases p s (Some b) h =
     }
 
 -- slab numbers that are used alike
-sound_slabs : (p : Shape) (s s' : State) → ((n : ℕ) → slab_uses s' n ≡ slab_uses s n) → s'.live ≡ s.live → s'.held ≡ s.held → s'.condemned ≡ s.condemned → s'.given ≡ s.given → s'.next ≡ s.next
+sound_slabs : (p : Shape) (s s' : State) → ((n : ℕ) → slab_uses s' n ≡ slab_uses s n) → s'.live ≡ s.live → s'.quarantined ≡ s.quarantined → s'.condemned ≡ s.condemned → s'.given ≡ s.given → s'.next ≡ s.next
     → ((a : ℕ) → 1 ≤ uses s a → StandsIn p s a → StandsIn p s' a) → IsSound p s → IsSound p s'
-sound_slabs p s s' same live held condemned given next keep h =
-    let alike : (a : ℕ) → uses s' a ≡ uses s a = λ a. ap (λ (l : List (ℕ × ℕ)). times a (keys l) + (times a s'.held + times a s'.condemned)) live
-    ∙ ap (λ (l : List ℕ). times a (keys s.live) + (times a l + times a s'.condemned)) held ∙ ap (λ (l : List ℕ). times a (keys s.live) + (times a s.held + times a l)) condemned in
+sound_slabs p s s' same live quarantined condemned given next keep h =
+    let alike : (a : ℕ) → uses s' a ≡ uses s a = λ a. ap (λ (l : List (ℕ × ℕ)). times a (keys l) + (times a s'.quarantined + times a s'.condemned)) live
+    ∙ ap (λ (l : List ℕ). times a (keys s.live) + (times a l + times a s'.condemned)) quarantined ∙ ap (λ (l : List ℕ). times a (keys s.live) + (times a s.quarantined + times a l)) condemned in
     record {
       once = λ a. omega (arith, alike a, h.once a);
       placed = λ a u. let v : 1 ≤ uses s a = omega (arith, alike a, u) in keep a v (h.placed a v);

@@ -140,15 +140,15 @@ two_parked =
     ∷ freed 1099512418304 (frees 1099512418304) ∷ []
 
 -- slab 0 is retired to index 0, so slab 2 is unparked, and opened again where no slab is empty
-abbrev pub same_place : List Entry
-same_place =
+abbrev pub same_index : List Entry
+same_index =
     two_parked ++ (drawing 1062052300 (freed 1099511631872 (retires 1099511631872 0 (Some 2)))
     ∷ drawing 2002963574 (given 1099512418304 no_choices)
     ∷ drawing 2051640178 (given 1099511894016 (opens_bare 2)) ∷ [])
 
 -- slab 4 is unparked
-abbrev pub other_place : List Entry
-other_place =
+abbrev pub other_index : List Entry
+other_index =
     two_parked ++ (drawing 1062052300 (freed 1099511631872 (retires 1099511631872 0 (Some 4))) ∷ [])
 
 -- the same with an array of one cell, in the run of seed 1

@@ -72,7 +72,7 @@ pub record AreKept (t : Terms) (s : State) (c : Cells) : Type 0 where
   pub empty : (n : ℕ) → times n c.empty ≡ if is_empty t.shape s n then 1 else 0
   pub empty_count : length c.empty ≡ length (empty_slabs t.shape s)
   -- the addresses in quarantine, and the parked slabs
-  pub held : (a : ℕ) → times_in a c.quarantine.array + times a c.quarantine.ring ≡ times a s.held
+  pub quarantined : (a : ℕ) → times_in a c.quarantine.array + times a c.quarantine.ring ≡ times a s.quarantined
   pub parked : (n : ℕ) → times_in n c.parking ≡ times n s.parked
   -- the arrays and the ring are as long as the region's numbers say
   pub array_length : length c.quarantine.array ≡ t.shape.array

@@ -148,7 +148,7 @@ unchecked = record small {
   shape = record small.shape { limit = 1; guard_interval = 8 };
 }
 
--- a page fails; later a slot that was written after its free is given as it is, and there is no third
+-- a page fault occurs; later a slot that was written after its free is given as it is, and there is no third
 abbrev pub reused : List Entry
 reused =
     record (entry (Allot 8 1) PagesFailed no_choices) { faults_after = 1 }

@@ -95,14 +95,18 @@ wrong_canary p s a = if has_bytes p && not (found_canary p s a == kept_canary p 
 
 -- what may be released, s being the state with the freed slot in quarantine
 abbrev pub Releases : Shape → State → Option ℕ → Type 0
-Releases p s None = length s.held ≤ p.array + p.ring
-Releases p s (Some b) = (among b s.held ≡ true) × (among b (take (delay p) s.frees) ≡ false)
-    × (length (without b s.held) ≤ p.array + p.ring)
+Releases p s None = length s.quarantined ≤ p.array + p.ring
+Releases p s (Some b) = (among b s.quarantined ≡ true) × (among b (take (delay p) s.frees) ≡ false)
+    × (length (without b s.quarantined) ≤ p.array + p.ring)
+
+-- what the empty slabs of a region may come to, in bytes
+abbrev pub empty_bytes : ℕ
+empty_bytes = 131072
 
 -- the slab that is to go, s being the state after the release: it is empty, and there are too many such
 abbrev pub surplus : Shape → State → Option ℕ → Option ℕ
 surplus p s None = None
-surplus p s (Some b) = if is_empty p s (slab_of p b) && nat_lt 131072 (length (empty_slabs p s) * p.slab)
+surplus p s (Some b) = if is_empty p s (slab_of p b) && nat_lt empty_bytes (length (empty_slabs p s) * p.slab)
     then Some (slab_of p b) else None
 
 abbrev pub Unparks : ℕ → List ℕ → Option ℕ → Type 0

@@ -15,7 +15,7 @@ pub record State : Type 0 where
   -- live addresses with the sizes that were asked for
   pub live : List (ℕ × ℕ)
   -- addresses in quarantine, those that are never given again, all that were ever given, all accepted frees
-  pub held : List ℕ
+  pub quarantined : List ℕ
   pub condemned : List ℕ
   pub given : List ℕ
   pub frees : List ℕ
@@ -30,7 +30,7 @@ pub record State : Type 0 where
 abbrev pub start : State
 start = record {
   live = [];
-  held = [];
+  quarantined = [];
   condemned = [];
   given = [];
   frees = [];
@@ -49,7 +49,7 @@ abbrev pub is_live : State → ℕ → Bool
 is_live s a = has a s.live
 
 abbrev pub is_taken : State → ℕ → Bool
-is_taken s a = is_live s a || (among a s.held || among a s.condemned)
+is_taken s a = is_live s a || (among a s.quarantined || among a s.condemned)
 
 abbrev pub is_free : Shape → State → ℕ → ℕ → Bool
 is_free p s n i = is_open s n && not (is_taken s (place p n i))

@@ -38,12 +38,12 @@ abbrev pub takes_back : Shape → ℕ → State → State
 takes_back p a s = record (write p a (zeros (usable p)) s) {
   live = removed a s.live;
   frees = a ∷ s.frees;
-  held = a ∷ s.held;
+  quarantined = a ∷ s.quarantined;
 }
 
 abbrev pub releases : Option ℕ → State → State
 releases None s = s
-releases (Some b) s = record s { held = without b s.held }
+releases (Some b) s = record s { quarantined = without b s.quarantined }
 
 abbrev pub unparks : Option ℕ → State → State
 unparks None s = s

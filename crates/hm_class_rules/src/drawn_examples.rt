@@ -2,7 +2,7 @@
 ghost use Rattle.std.specs.Prelude.{[]};
 ghost use Rattle.hm_class_rules.specs.Rules.{IsLegal};
 ghost use Rattle.hm_class_rules.specs.Drawn.{AreDrawn, IsDrawn};
-ghost use Rattle.hm_class_rules.specs.DrawnExamples.{first_region, first_entries, canary_zero, first_slot, light_region, light_entries, paired, latest_source, earlier_source, undrawn, first_slots, waiting_room, oldest_released, newest_released, parked, same_place, other_place, parked_later, second_word, nothing_unparked};
+ghost use Rattle.hm_class_rules.specs.DrawnExamples.{first_region, first_entries, canary_zero, first_slot, light_region, light_entries, paired, latest_source, earlier_source, undrawn, first_slots, waiting_room, oldest_released, newest_released, parked, same_index, other_index, parked_later, second_word, nothing_unparked};
 
 /// The first entries of a region as it is, with the words of its stream; no other canary is drawn, and no
 /// other slot. A free that is refused draws nothing.
@@ -44,10 +44,10 @@ pub fn oldest_released()
 
 /// A retired slab takes the place of the one that was parked there, which may then be opened again.
 pub fn parked_slabs()
-    ensures legal { IsLegal parked same_place }
-    ensures drawn { AreDrawn parked [] same_place }
-    ensures other_legal { IsLegal parked other_place }
-    ensures other { AreDrawn parked [] other_place → ⊥ }
+    ensures legal { IsLegal parked same_index }
+    ensures drawn { AreDrawn parked [] same_index }
+    ensures other_legal { IsLegal parked other_index }
+    ensures other { AreDrawn parked [] other_index → ⊥ }
 {}
 
 /// A free draws the index in the array first, and then the parking index of the slab that it retires.

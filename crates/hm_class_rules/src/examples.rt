@@ -34,7 +34,7 @@ pub fn guard_slab()
     ensures { IsLegal ringed given_in_a_guard → ⊥ }
 {}
 
-/// Without the check on reuse a slot is given as it is; a page that failed is told.
+/// Without the check on reuse a slot is given as it is; a page fault is told.
 pub fn unchecked_reuse()
     ensures { IsLegal unchecked reused }
 {}

@@ -26,7 +26,7 @@ impl Model for PlainPages {
 
     ghost coded = { plain_code };
 
-    ghost view = { λ p. record { region = p.region.0; runs = p.runs } };
+    ghost view = { λ p. record { region = p.region.0; runs = p.runs.runs } };
 }
 
 impl PlainPages {

@@ -1,4 +1,4 @@
-//! One accessible run in a vector: its first address and its bytes.
+//! One accessible run in a vector: its first address and its bytes. All have bytes of their own, and no part is named.
 ghost use Rattle.std.specs.Prelude.{◌≡◌, IfOk};
 ghost use Rattle.hm_base.specs.Lists.{zeros};
 
@@ -24,6 +24,7 @@ impl Run {
 }
 
 impl HasPageRun for Run {
+    ghost use Rattle.std.specs.Prelude.{[], ⊤, refl};
     ghost use Rattle.hm_fakes.specs.PlainRuns.{entry, with_bytes, put_over};
     ghost use Rattle.hm_fakes.specs.PlainLaws.{run_put, put_exact};
 
@@ -33,7 +34,17 @@ impl HasPageRun for Run {
 
     ghost put = { put_over };
 
+    ghost own = { λ r. [] };
+
+    ghost none_own = { λ n. [] };
+
+    ghost own_lent = { λ m from len. [] };
+
+    ghost own_filled = { λ m from len n. ⊤ };
+
     ghost written = { run_put };
+
+    ghost lent = { λ r from len w. refl };
 
     ghost exact = { put_exact };
 

@@ -23,7 +23,7 @@ impl Model for SilentPages {
 
     ghost coded = { map.code coded_ℕ (coded_list coded_ℕ) };
 
-    ghost view = { λ p. p.runs };
+    ghost view = { λ p. p.runs.runs };
 }
 
 impl SilentPages {

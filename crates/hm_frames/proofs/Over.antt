@@ -52,7 +52,7 @@ all_filled xs n byte is =
     end : 0 + n ≡ length xs
     end = omega (arith, is)
 
--- one byte from one place up to another
+-- one byte from one cell up to another
 abbrev pub filled : List ℕ → ℕ → ℕ → ℕ → List ℕ
 filled bytes byte from to = take from bytes ++ replicate (to - from) byte ++ drop to bytes
 

@@ -1,10 +1,10 @@
--- What stands at the places of a block once some of them were written.
+-- What stands at the raw_cells of a block once some of them were written.
 use Rattle.std.proofs.Common.{◌≡◌, ℕ, zero, suc, ◌+◌, ◌-◌, ◌<◌, ◌≤◌, List, [], ◌∷◌, ◌++◌, map, length, length-append, take, drop, replicate, Option, Some, None, true, refl, sym, ap, ◌∙◌, arith}
 use Rattle.std.proofs.lemmas.List.{length-take, length-drop, length-map, length-replicate, take_at, append_assoc, get_or-take, get_or-drop}
 use Rattle.std.proofs.lemmas.Bool.{false≢true}
 use Rattle.std.proofs.lemmas.Slice.{drop-append-drop}
 use Rattle.std.specs.Prelude.{get_or, is_some}
-use Rattle.hm_frames.specs.Places.{byte_of, bytes_of, with_places}
+use Rattle.hm_frames.specs.RawCells.{byte_of, bytes_of, with_raw_cells}
 
 snoc : (byte n : ℕ) (rest : List (Option ℕ)) → map Some (replicate n byte) ++ (Some byte ∷ rest) ≡ map Some (replicate (suc n) byte) ++ rest
 snoc byte zero rest = refl
@@ -12,8 +12,8 @@ snoc byte (suc n) rest = ap (λ (l : List (Option ℕ)). Some byte ∷ l) (snoc 
 
 -- one more of a byte after some
 pub fill_more : (byte : ℕ) (xs : List (Option ℕ)) (from i : ℕ) → from + i < length xs
-    → take (from + i) (with_places xs from i (replicate i byte)) ++ (Some byte ∷ drop (from + i + 1) (with_places xs from i (replicate i byte)))
-    ≡ with_places xs from (i + 1) (replicate (i + 1) byte)
+    → take (from + i) (with_raw_cells xs from i (replicate i byte)) ++ (Some byte ∷ drop (from + i + 1) (with_raw_cells xs from i (replicate i byte)))
+    ≡ with_raw_cells xs from (i + 1) (replicate (i + 1) byte)
 fill_more byte xs from i lt =
     let front = take from xs in
     let zs₀ : List ℕ = replicate i byte in
@@ -45,12 +45,12 @@ bytes_drop zero xs = refl
 bytes_drop (suc n) [] = refl
 bytes_drop (suc n) (x ∷ xs) = bytes_drop n xs
 
--- places are as many as before
-pub length_with : (xs : List (Option ℕ)) (from len : ℕ) (w : List ℕ) → length w ≡ len → from + len ≤ length xs → length (with_places xs from len w) ≡ length xs
+-- raw cells are as many as before
+pub length_with : (xs : List (Option ℕ)) (from len : ℕ) (w : List ℕ) → length w ≡ len → from + len ≤ length xs → length (with_raw_cells xs from len w) ≡ length xs
 length_with xs from len w long le =
     omega (arith, long, le, length-append (take from xs) (map Some w ++ drop (from + len) xs), length-append (map Some w) (drop (from + len) xs), length-map w Some, length-take from xs, length-drop (from + len) xs)
 
--- which places have a byte
+-- which raw_cells have a byte
 at_front : (xs ys : List (Option ℕ)) (i : ℕ) → i < length xs → get_or (xs ++ ys) i None ≡ get_or xs i None
 at_front [] ys i lt = absurd (omega arith)
 at_front (x ∷ xs) ys zero lt = refl
@@ -69,26 +69,26 @@ module _ (xs : List (Option ℕ)) (from len : ℕ) (w : List ℕ) (long : length
   front : length (take from xs) ≡ from
   front = omega (arith, le, length-take from xs)
 
-  pub place_before : (i : ℕ) → i < from → get_or (with_places xs from len w) i None ≡ get_or xs i None
-  place_before i lt = at_front (take from xs) (map Some w ++ drop (from + len) xs) i (omega (arith, front, lt)) ∙ get_or-take from xs i None lt
+  pub raw_cell_before : (i : ℕ) → i < from → get_or (with_raw_cells xs from len w) i None ≡ get_or xs i None
+  raw_cell_before i lt = at_front (take from xs) (map Some w ++ drop (from + len) xs) i (omega (arith, front, lt)) ∙ get_or-take from xs i None lt
 
-  pub place_inside : (i : ℕ) → from ≤ i → i < from + len → is_some (get_or (with_places xs from len w) i None) ≡ true
-  place_inside i low high =
-      ap (λ (k : ℕ). is_some (get_or (with_places xs from len w) k None)) {x = i} {y = length (take from xs) + (i - from)} (omega (arith, front, low))
+  pub raw_cell_inside : (i : ℕ) → from ≤ i → i < from + len → is_some (get_or (with_raw_cells xs from len w) i None) ≡ true
+  raw_cell_inside i low high =
+      ap (λ (k : ℕ). is_some (get_or (with_raw_cells xs from len w) k None)) {x = i} {y = length (take from xs) + (i - from)} (omega (arith, front, low))
       ∙ ap is_some (at_back (take from xs) (map Some w ++ drop (from + len) xs) (i - from))
       ∙ ap is_some (at_front (map Some w) (drop (from + len) xs) (i - from) (omega (arith, long, low, high, length-map w Some)))
       ∙ has w (i - from) (omega (arith, long, low, high))
 
-  pub place_after : (i : ℕ) → from + len ≤ i → get_or (with_places xs from len w) i None ≡ get_or xs i None
-  place_after i past =
-      ap (λ (k : ℕ). get_or (with_places xs from len w) k None) {x = i} {y = length (take from xs) + (i - from)} (omega (arith, front, past))
+  pub raw_cell_after : (i : ℕ) → from + len ≤ i → get_or (with_raw_cells xs from len w) i None ≡ get_or xs i None
+  raw_cell_after i past =
+      ap (λ (k : ℕ). get_or (with_raw_cells xs from len w) k None) {x = i} {y = length (take from xs) + (i - from)} (omega (arith, front, past))
       ∙ at_back (take from xs) (map Some w ++ drop (from + len) xs) (i - from)
       ∙ ap (λ (k : ℕ). get_or (map Some w ++ drop (from + len) xs) k None) {x = i - from} {y = length (map Some w) + (i - (from + len))} (omega (arith, long, past, length-map w Some))
       ∙ at_back (map Some w) (drop (from + len) xs) (i - (from + len))
       ∙ get_or-drop (from + len) xs (i - (from + len)) None
       ∙ ap (λ (k : ℕ). get_or xs k None) (omega (arith, past))
 
--- places that all have a byte
+-- raw cells that all have a byte
 pub all_some : (xs : List (Option ℕ)) → ((i : ℕ) → i < length xs → is_some (get_or xs i None) ≡ true) → xs ≡ map Some (bytes_of xs)
 all_some [] all = refl
 all_some (None ∷ xs) all = absurd (false≢true (all zero (omega arith)))

@@ -1,6 +1,7 @@
 //! Runs whose pages were dropped, kept to be used again: no more than a few, and none that is long.
 ghost use Rattle.std.specs.Prelude.{◌≡◌, ◌*◌, ◌≤◌, length, All, vec_len, IfOk, IfSome};
 ghost use Rattle.hm_base.specs.Lists.{zeros};
+ghost use Rattle.hm_frames.specs.OwnUnits.{none_own};
 
 use crate::frame::Frame;
 use hm_base::NoMemory;
@@ -18,7 +19,7 @@ const LONGEST_KEPT: usize = 1_048_576;
 pub(crate) struct SpareFrames {
     frames: Vec<Frame>,
     ghost few: { vec_len frames ≤ 8 },
-    ghost short: { All (λ f. length f.run ≤ 1048576) frames.items },
+    ghost short: { All (λ f. length f.run.bytes ≤ 1048576) frames.items },
 }
 
 impl SpareFrames {
@@ -40,7 +41,7 @@ impl SpareFrames {
 
     /// A kept run of so many bytes, which is kept no longer.
     fn take(&mut self, len: usize) -> Option<Frame>
-        ensures { IfSome result (λ r. length r.run ≡ len) }
+        ensures { IfSome result (λ r. length r.run.bytes ≡ len) }
     {
         let i = self.frames.iter().position(|frame| frame.len() == len)?;
         Some(self.frames.swap_remove(i))
@@ -56,7 +57,8 @@ impl SpareFrames {
         requires some { 1 ≤ pages }
         requires few { pages ≤ 262144 }
         ensures first { IfOk result (λ r. r.first ≡ first) }
-        ensures bytes { IfOk result (λ r. r.run ≡ zeros (4096 * pages)) }
+        ensures bytes { IfOk result (λ r. r.run.bytes ≡ zeros (4096 * pages)) }
+        ensures own { IfOk result (λ r. r.run.own ≡ none_own (4096 * pages)) }
     {
         self.frames.reserve(MOST_KEPT - self.frames.len())?;
         match self.take(pages as usize * 4096) {

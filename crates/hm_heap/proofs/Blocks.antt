@@ -22,18 +22,18 @@ use Rattle.hm_class_rules.proofs.Legal as class_legal
 use Rattle.hm_class_rules.proofs.NextEntry.{drawn_shape_fits, gap_most, pages_some, pages_within}
 use Rattle.hm_class_rules.proofs.Sound.{has_times}
 use Rattle.hm_class_rules.proofs.Streams.{next_below}
-use Rattle.hm_large.specs.Blocks.{Block}
-use Rattle.hm_large.specs.Rules as large
-use Rattle.hm_large.proofs.BlockLists.{in_space_at}
-use Rattle.hm_large.proofs.Legal as large_legal
+use Rattle.hm_large_rules.specs.State.{Block}
+use Rattle.hm_large_rules.specs.Rules as large
+use Rattle.hm_large_rules.proofs.BlockLists.{in_space_at}
+use Rattle.hm_large_rules.proofs.Legal as large_legal
 use Rattle.hm_heap.specs.Lawful.{arena_of, class_in, class_terms, large_terms, IsRegionOf}
 use Rattle.hm_heap.specs.Laws.{LiesIn, HomesOfBlocks, BlocksApart, RegionsApart}
 
 -- ---- a class region
-gap_within : (o : Origin) → IsValid o.config → gap_of o.config (next_word (stream_of o.number (arena_of o.region) (class_in o.region))) ≤ o.config.class_region
+gap_within : (o : Origin) → IsValid o.config → gap_of o.config (next_word (stream_of o.seed (arena_of o.region) (class_in o.region))) ≤ o.config.class_region
 gap_within o valid =
     let size : ℕ = o.config.class_region in
-    let stream = stream_of o.number (arena_of o.region) (class_in o.region) in
+    let stream = stream_of o.seed (arena_of o.region) (class_in o.region) in
     gap_most (drawn (size / 4096) (next_word stream)) (size / 4096) size
     (drawn_below (size / 4096) (next_word stream) (pages_some size valid.region_least) (next_below stream)) (pages_within size)
 
@@ -50,7 +50,7 @@ number_back : (region : ℕ) → region / 49 * 49 + region % 49 ≡ region
 number_back region = omega (arith, div-add-mod' region 49)
 
 pub shape_fits : (o : Origin) → IsRegionOf o → o.region < large_region_number → IsShape (class_terms o).shape
-shape_fits o of lt = drawn_shape_fits o.number o.config (arena_of o.region) (class_in o.region) of.valid (arena_below o of lt) (class_below o)
+shape_fits o of lt = drawn_shape_fits o.seed o.config (arena_of o.region) (class_in o.region) of.valid (arena_below o of lt) (class_below o)
 
 slot_in : (first slab slot i slots a q : ℕ) → a ≡ first + i * slot → a ≤ q → q < a + slot → i * slot + slot ≤ slots * slot → slots * slot ≤ slab → (first ≤ q) × (q < first + slab)
 slot_in first slab slot i slots a q is from to row fits = (omega arith, omega arith)

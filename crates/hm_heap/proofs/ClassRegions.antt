@@ -23,7 +23,7 @@ use Rattle.hm_class_rules.specs.Drawn.{IsDrawn}
 use Rattle.hm_class_rules.specs.Rules.{Terms, IsLegal, IsLiveBlock, state, wrong_size, wrong_canary}
 use Rattle.hm_class.specs.Calls.{class_regions, Accepts}
 use Rattle.hm_class.specs.Region.{Region, IsRegion, IsTakenBack, HoldsSlabs, origin, terms, region_shape}
-use Rattle.hm_large.specs.Rules as large_state
+use Rattle.hm_large_rules.specs.Rules as large_state
 use Rattle.hm_heap.specs.Accepted.{IsAcceptedFree, IsAccepted}
 use Rattle.hm_heap.specs.Lawful.{arena_of, class_in, class_terms, large_terms, IsLawful, IsSound, Holds, fault_count}
 use Rattle.hm_heap.specs.Origins.{numbers_of}
@@ -34,7 +34,7 @@ use Rattle.hm_heap.specs.declared.region.Region.TheVariants.{Class}
 
 -- ---- its arena and class are read from its number
 abbrev terms_with : Config → ℕ → Bool → ℕ → ClassId → Terms
-terms_with c number told arena class = record { config = c; shape = drawn_shape number c arena class; told = told }
+terms_with c seed told arena class = record { config = c; shape = drawn_shape seed c arena class; told = told }
 
 class_back : (arena : ℕ) (class : ClassId) → class.0 < class_count → class_in (class_region_number arena class) ≡ class
 class_back arena class below = λ i. record { 0 = mod-mul-add arena class_count class.0 below i }
@@ -44,8 +44,8 @@ arena_back arena class below = div-mul-add arena class_count class.0 below
 
 pub terms_back : {P : Type 0} (told : P → Bool) (r : Region P) → r.class.0 < class_count → class_terms (origin told r) ≡ terms told r
 terms_back told r below =
-    ap (λ (a : ℕ). terms_with r.config r.number (told r.pages) a (class_in (class_region_number r.arena r.class))) (arena_back r.arena r.class below)
-    ∙ ap (λ (k : ClassId). terms_with r.config r.number (told r.pages) r.arena k) (class_back r.arena r.class below)
+    ap (λ (a : ℕ). terms_with r.config r.seed (told r.pages) a (class_in (class_region_number r.arena r.class))) (arena_back r.arena r.class below)
+    ∙ ap (λ (k : ClassId). terms_with r.config r.seed (told r.pages) r.arena k) (class_back r.arena r.class below)
 
 module _ {P : Type 0} (meaning : pages.Ghosts P) (r : Region P) (h : IsRegion meaning r) where
   pub class_below : (origin meaning.told r).region < large_region_number
@@ -61,8 +61,8 @@ module _ {P : Type 0} (meaning : pages.Ghosts P) (r : Region P) (h : IsRegion me
   class_lawful = record {
     class = λ lt. record {
       legal = subst (λ (t : Terms). IsLegal t r.entries) (sym same) h.legal;
-      drawn = subst (λ (t : Terms). IsDrawn r.number (arena_of (class_region_number r.arena r.class)) t r.entries) (sym same)
-          (subst (λ (a : ℕ). IsDrawn r.number a (terms meaning.told r) r.entries) (sym (arena_back r.arena r.class h.class_below)) h.drawn);
+      drawn = subst (λ (t : Terms). IsDrawn r.seed (arena_of (class_region_number r.arena r.class)) t r.entries) (sym same)
+          (subst (λ (a : ℕ). IsDrawn r.seed a (terms meaning.told r) r.entries) (sym (arena_back r.arena r.class h.class_below)) h.drawn);
     };
     large = λ e. absurd (not_large e);
   }
@@ -85,6 +85,7 @@ module _ {P : Type 0} (meaning : pages.Ghosts P) (r : Region P) (h : IsRegion me
   class_sound = record {
     is_region = record { valid = h.valid; region = inl (omega (arith, h.class_below, h.arena_below)) };
     lawful = class_lawful;
+    typed = h.typed;
     count = h.count ∙ sym class_count_is;
     holds = class_holds;
     owned = h.owned;
@@ -130,9 +131,9 @@ class_serves meaning held new {old} {who} {call} {r} is s = subst (λ (z : Eithe
 })
 
 -- ---- a new region
-pub class_origin_at : {P : Type 0} (told : P → Bool) (r : Region P) (c : Config) (number region : ℕ) → r.config ≡ c → r.number ≡ number
+pub class_origin_at : {P : Type 0} (told : P → Bool) (r : Region P) (c : Config) (seed region : ℕ) → r.config ≡ c → r.seed ≡ seed
     → r.arena ≡ region / class_count → r.class ≡ record { 0 = region % class_count }
-    → numbers_of (origin told r) ≡ numbers_of (record { config = c; number = number; region = region; told = told r.pages })
-class_origin_at told r c number region config_is number_is arena_is class_is =
+    → numbers_of (origin told r) ≡ numbers_of (record { config = c; seed = seed; region = region; told = told r.pages })
+class_origin_at told r c seed region config_is seed_is arena_is class_is =
     let region_is : r.arena * class_count + r.class.0 ≡ region = omega (arith, arena_is, ap (λ (k : ClassId). k.0) class_is) in
-    λ i. numbers_of (record { config = config_is i; number = number_is i; region = region_is i; told = told r.pages })
+    λ i. numbers_of (record { config = config_is i; seed = seed_is i; region = region_is i; told = told r.pages })

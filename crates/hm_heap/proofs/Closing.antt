@@ -80,15 +80,15 @@ module _ {P : Type 0} (meaning : pages.Ghosts P) where
   }
 
   -- of a heap with these locks
-  pub closes_heap : (c : Config) (number : ℕ) (locks : List Lock) (turns : List Known) (hs : List History) (ps : List P) → AreLocks c number locks → AreOf locks turns → ClosesAll meaning turns hs ps → Closes meaning c number turns hs ps
-  closes_heap c number locks turns hs ps are of all = record {
+  pub closes_heap : (c : Config) (seed : ℕ) (locks : List Lock) (turns : List Known) (hs : List History) (ps : List P) → AreLocks c seed locks → AreOf locks turns → ClosesAll meaning turns hs ps → Closes meaning c seed turns hs ps
+  closes_heap c seed locks turns hs ps are of all = record {
     histories = all.histories;
     pages = all.pages;
     each = λ r t h p lt.
         let below : r < length locks = omega (arith, lt, of.same) in
         let l : Lock = record { id = t.lock; origin = t.knows.origin } in
         let it = are.each r l below in
-        let o : Origin = record { config = c; number = number; region = region_at c r; told = it.told } in
+        let o : Origin = record { config = c; seed = seed; region = region_at c r; told = it.told } in
         let closed = all.each r t h p lt in
         let same : origin_in (slice_index_or turns r t).knows.origin ≡ o = ap origin_in ((of.each r l t below).1 ∙ it.is) ∙ origin_back o in
         record {

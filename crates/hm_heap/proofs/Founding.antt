@@ -23,44 +23,44 @@ region_class c r lt = ap (λ (b : Bool). if b then r else large_region_number) (
 pub region_last : (c : Config) → region_at c (region_count c) ≡ large_region_number
 region_last c = ap (λ (b : Bool). if b then region_count c else large_region_number) (le-ltb (region_count c) (region_count c) (omega arith))
 
-pub founded : (c : Config) (number region : ℕ) (told : Bool) (origin : List ℕ) (r : Result (Lock × Known) NoMemory) → origin ≡ numbers_of (record { config = c; number = number; region = region; told = told })
-    → IfOk r (λ x. x.0.origin ≡ origin) → IfOk r (λ x. (x.1.lock ≡ x.0.id) × (x.1.knows ≡ founding origin)) → IfOk r (λ x. IsFounded c number region x.0 x.1)
-founded c number region told origin (Ok x) is lock turn = record {
+pub founded : (c : Config) (seed region : ℕ) (told : Bool) (origin : List ℕ) (r : Result (Lock × Known) NoMemory) → origin ≡ numbers_of (record { config = c; seed = seed; region = region; told = told })
+    → IfOk r (λ x. x.0.origin ≡ origin) → IfOk r (λ x. (x.1.lock ≡ x.0.id) × (x.1.knows ≡ founding origin)) → IfOk r (λ x. IsFounded c seed region x.0 x.1)
+founded c seed region told origin (Ok x) is lock turn = record {
   origin = record { told = told; is = lock ∙ is };
   of = turn.0;
   knows = turn.1 ∙ ap founding (sym lock);
 }
-founded c number region told origin (Err e) is lock turn = tt
+founded c seed region told origin (Err e) is lock turn = tt
 
-pub builds_more : (c : Config) (number : ℕ) (locks : List Lock) (turns : List Known) (k : ℕ) (l : Lock) (t : Known) → BuildsTo c number locks turns k → IsFounded c number (region_at c k) l t
-    → BuildsTo c number (locks ++ l ∷ []) (turns ++ t ∷ []) (k + 1)
-builds_more c number locks turns k l t b one = record {
+pub builds_more : (c : Config) (seed : ℕ) (locks : List Lock) (turns : List Known) (k : ℕ) (l : Lock) (t : Known) → BuildsTo c seed locks turns k → IsFounded c seed (region_at c k) l t
+    → BuildsTo c seed (locks ++ l ∷ []) (turns ++ t ∷ []) (k + 1)
+builds_more c seed locks turns k l t b one = record {
   locks_long = length-append locks (l ∷ []) ∙ ap (λ n. n + 1) b.locks_long;
   turns_long = length-append turns (t ∷ []) ∙ ap (λ n. n + 1) b.turns_long;
   each = λ r l' t' lt. elim (cases_lt r k) [
-    | inl below ↦ subst (λ (z : Known). IsFounded c number (region_at c r) (slice_index_or (locks ++ l ∷ []) r l') z) (sym (get_or_append_left turns (t ∷ []) t' r (omega (arith, below, b.turns_long))))
-        (subst (λ (z : Lock). IsFounded c number (region_at c r) z (slice_index_or turns r t')) (sym (get_or_append_left locks (l ∷ []) l' r (omega (arith, below, b.locks_long)))) (b.each r l' t' below))
+    | inl below ↦ subst (λ (z : Known). IsFounded c seed (region_at c r) (slice_index_or (locks ++ l ∷ []) r l') z) (sym (get_or_append_left turns (t ∷ []) t' r (omega (arith, below, b.turns_long))))
+        (subst (λ (z : Lock). IsFounded c seed (region_at c r) z (slice_index_or turns r t')) (sym (get_or_append_left locks (l ∷ []) l' r (omega (arith, below, b.locks_long)))) (b.each r l' t' below))
     | inr above ↦ let at_lock : length locks ≡ r = omega (arith, above, lt, b.locks_long) in
         let at_turn : length turns ≡ r = omega (arith, above, lt, b.turns_long) in
         let is : k ≡ r = omega (arith, above, lt) in
-        subst (λ (z : Known). IsFounded c number (region_at c r) (slice_index_or (locks ++ l ∷ []) r l') z) (sym (sym (ap (λ n. slice_index_or (turns ++ t ∷ []) n t') at_turn) ∙ get_or-append_seam turns t [] t'))
-        (subst (λ (z : Lock). IsFounded c number (region_at c r) z t) (sym (sym (ap (λ n. slice_index_or (locks ++ l ∷ []) n l') at_lock) ∙ get_or-append_seam locks l [] l'))
-        (subst (λ (n : ℕ). IsFounded c number (region_at c n) l t) is one))
+        subst (λ (z : Known). IsFounded c seed (region_at c r) (slice_index_or (locks ++ l ∷ []) r l') z) (sym (sym (ap (λ n. slice_index_or (turns ++ t ∷ []) n t') at_turn) ∙ get_or-append_seam turns t [] t'))
+        (subst (λ (z : Lock). IsFounded c seed (region_at c r) z t) (sym (sym (ap (λ n. slice_index_or (locks ++ l ∷ []) n l') at_lock) ∙ get_or-append_seam locks l [] l'))
+        (subst (λ (n : ℕ). IsFounded c seed (region_at c n) l t) is one))
   ];
 }
 
 -- the class regions, and then the large one
-pub built_all : (c : Config) (number : ℕ) (locks : List Lock) (turns : List Known) (k : ℕ) (l : Lock) (t : Known) (all_locks : List Lock) (all_turns : List Known)
-    → BuildsTo c number locks turns k → k ≡ region_count c → IsFounded c number large_region_number l t → all_locks ≡ locks ++ l ∷ [] → all_turns ≡ turns ++ t ∷ []
-    → BuildsTo c number all_locks all_turns (region_count c + 1)
-built_all c number locks turns k l t all_locks all_turns b is one locks_are turns_are =
-    let last : IsFounded c number (region_at c (region_count c)) l t = subst (λ (r : ℕ). IsFounded c number r l t) (sym (region_last c)) one in
-    let all = builds_more c number locks turns (region_count c) l t (subst (λ (n : ℕ). BuildsTo c number locks turns n) is b) last in
-    subst (λ (z : List Lock). BuildsTo c number z all_turns (region_count c + 1)) (sym locks_are)
-    (subst (λ (z : List Known). BuildsTo c number (locks ++ l ∷ []) z (region_count c + 1)) (sym turns_are) all)
+pub built_all : (c : Config) (seed : ℕ) (locks : List Lock) (turns : List Known) (k : ℕ) (l : Lock) (t : Known) (all_locks : List Lock) (all_turns : List Known)
+    → BuildsTo c seed locks turns k → k ≡ region_count c → IsFounded c seed large_region_number l t → all_locks ≡ locks ++ l ∷ [] → all_turns ≡ turns ++ t ∷ []
+    → BuildsTo c seed all_locks all_turns (region_count c + 1)
+built_all c seed locks turns k l t all_locks all_turns b is one locks_are turns_are =
+    let last : IsFounded c seed (region_at c (region_count c)) l t = subst (λ (r : ℕ). IsFounded c seed r l t) (sym (region_last c)) one in
+    let all = builds_more c seed locks turns (region_count c) l t (subst (λ (n : ℕ). BuildsTo c seed locks turns n) is b) last in
+    subst (λ (z : List Lock). BuildsTo c seed z all_turns (region_count c + 1)) (sym locks_are)
+    (subst (λ (z : List Known). BuildsTo c seed (locks ++ l ∷ []) z (region_count c + 1)) (sym turns_are) all)
 
-module _ (c : Config) (number : ℕ) (locks : List Lock) (turns : List Known) (b : BuildsTo c number locks turns (region_count c + 1)) where
-  pub built_locks : IsValid c → AreLocks c number locks
+module _ (c : Config) (seed : ℕ) (locks : List Lock) (turns : List Known) (b : BuildsTo c seed locks turns (region_count c + 1)) where
+  pub built_locks : IsValid c → AreLocks c seed locks
   built_locks valid = record { valid = valid; count = b.locks_long; each = λ r l lt. (b.each r l (record { lock = l.id; knows = founding l.origin }) (omega (arith, lt, b.locks_long))).origin }
 
   pub built_of : AreOf locks turns

@@ -10,9 +10,10 @@ use Rattle.hm_class_rules.proofs.Streams.{same_head, same_tail}
 use Rattle.hm_class_rules.specs.Rules as class
 use Rattle.hm_class_rules.specs.State as class_state
 use Rattle.hm_class_rules.specs.Steps as class_steps
-use Rattle.hm_large.specs.Draws as large_draws
-use Rattle.hm_large.specs.Rules as large
-use Rattle.hm_large.specs.State as large_state
+use Rattle.hm_large_rules.specs.Drawn as large_drawn
+use Rattle.hm_large_rules.specs.Rules as large
+use Rattle.hm_large_rules.specs.State as large_state
+use Rattle.hm_large_rules.specs.Steps as large_steps
 use Rattle.hm_heap.specs.Lawful.{arena_of, class_terms, large_terms, IsLawful}
 
 all_words_append : (es fs : List Entry) → all_words (es ++ fs) ≡ all_words es ++ all_words fs
@@ -35,7 +36,7 @@ lawful_front o es fs lawful = record {
   class = λ lt.
       let c = lawful.class lt in
       let t = class_terms o in
-      let w = after_word (stream_of o.number (arena_of o.region) t.shape.class) in
+      let w = after_word (stream_of o.seed (arena_of o.region) t.shape.class) in
       record {
         legal = (Legal_split (class_steps.step t.shape) (class.Allowed t) class_state.start es fs c.legal).0;
         drawn = record {
@@ -48,7 +49,7 @@ lawful_front o es fs lawful = record {
   large = λ is.
       let l = lawful.large is in
       record {
-        legal = (Legal_split large_state.step (large.Allowed (large_terms o)) large_state.start es fs l.legal).0;
-        drawn = (Legal_split large_state.step (large_draws.Drawn o.number) large_state.start es fs l.drawn).0;
+        legal = (Legal_split large_steps.step (large.Allowed (large_terms o)) large_state.start es fs l.legal).0;
+        drawn = (Legal_split large_steps.step (large_drawn.IsDrawnEntry o.seed) large_state.start es fs l.drawn).0;
       };
 }

@@ -28,6 +28,7 @@ module _ {P : Type 0} (meaning : pages.Ghosts P) (r : Region P) where
   large_sound h = record {
     is_region = record { valid = h.valid; region = inr refl };
     lawful = record { class = λ lt. absurd (omega (arith, lt)); large = λ e. record { legal = h.legal; drawn = h.drawn } };
+    typed = h.typed;
     count = h.count;
     holds = λ tells. record { class = λ lt. absurd (omega (arith, lt)); large = λ e. h.held tells };
     owned = h.owned;
@@ -60,6 +61,6 @@ large_serves meaning held new {old} {who} {call} {r} is s = subst (λ (z : Eithe
 })
 
 -- ---- a new region
-pub large_origin_at : {P : Type 0} (told : P → Bool) (r : Region P) (c : Config) (number : ℕ) → r.config ≡ c → r.number ≡ number
-    → numbers_of (origin told r) ≡ numbers_of (record { config = c; number = number; region = large_region_number; told = told r.pages })
-large_origin_at told r c number config_is number_is = λ i. numbers_of (record { config = config_is i; number = number_is i; region = large_region_number; told = told r.pages })
+pub large_origin_at : {P : Type 0} (told : P → Bool) (r : Region P) (c : Config) (seed : ℕ) → r.config ≡ c → r.seed ≡ seed
+    → numbers_of (origin told r) ≡ numbers_of (record { config = c; seed = seed; region = large_region_number; told = told r.pages })
+large_origin_at told r c seed config_is seed_is = λ i. numbers_of (record { config = config_is i; seed = seed_is i; region = large_region_number; told = told r.pages })

@@ -9,11 +9,11 @@ use Rattle.hm_heap.specs.Founds.{IsFounded}
 use Rattle.hm_heap.specs.Passes.{met, region_at}
 
 -- so many locks and turns of a new heap are made
-pub record BuildsTo (c : Config) (number : ℕ) (locks : List Lock) (turns : List Known) (count : ℕ) : Type 0 where
+pub record BuildsTo (c : Config) (seed : ℕ) (locks : List Lock) (turns : List Known) (count : ℕ) : Type 0 where
   pub locks_long : length locks ≡ count
   pub turns_long : length turns ≡ count
   pub each : (r : ℕ) (l : Lock) (t : Known) → r < count
-      → IsFounded c number (region_at c r) (slice_index_or locks r l) (slice_index_or turns r t)
+      → IsFounded c seed (region_at c r) (slice_index_or locks r l) (slice_index_or turns r t)
 
 -- below i each element was changed, from i on none, and what was made is of the first i
 pub record ChangedTo {X : Type 0} (change make : X → X) (start now made : List X) (i : ℕ) : Type 0 where

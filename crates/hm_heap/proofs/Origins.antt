@@ -20,7 +20,7 @@ origin_back o = λ i. record {
     check_reuse = same_bit o.config.check_reuse i;
     random_slots = same_bit o.config.random_slots i;
   };
-  number = o.number;
+  seed = o.seed;
   region = o.region;
   told = same_bit o.told i;
 }

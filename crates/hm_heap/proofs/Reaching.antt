@@ -19,8 +19,9 @@ use Rattle.hm_sizes.proofs.PlaceTest.{place_is}
 use Rattle.hm_class_rules.specs.Rules as class
 use Rattle.hm_class_rules.specs.State as class_state
 use Rattle.hm_class_rules.specs.Steps as class_steps
-use Rattle.hm_large.specs.Rules as large
-use Rattle.hm_large.specs.State as large_state
+use Rattle.hm_large_rules.specs.Rules as large
+use Rattle.hm_large_rules.specs.State as large_state
+use Rattle.hm_large_rules.specs.Steps as large_steps
 use Rattle.hm_turn.specs.Knowledge.{Knowledge}
 use Rattle.hm_turn.specs.Known.{Lock, Known}
 use Rattle.hm_heap.specs.Called.{Called, Tried}
@@ -48,7 +49,7 @@ class_least t es e asked align a size first legal call reply =
 large_least : (t : large.Terms) (es : List Entry) (e : Entry) (asked align a size : ℕ) → large.IsLegal t (es ++ e ∷ []) → e.call ≡ Allot asked align → e.reply ≡ Given a size → 2 ^ 40 ≤ a
 large_least t es e asked align a size legal call reply =
     let s = large.state t es in
-    let last = (Legal_split large_state.step (large.Allowed t) large_state.start es (e ∷ []) legal).1.0 in
+    let last = (Legal_split large_steps.step (large.Allowed t) large_state.start es (e ∷ []) legal).1.0 in
     let allows = subst (λ (r : Reply). large.Allows t s e (Allot asked align) r) reply (subst (λ (c : Call). large.Allows t s e c e.reply) call last.allows) in
     omega (arith, allows.0.0.fits.from)
 
@@ -118,9 +119,9 @@ called_reaches who c index call (Ok reply) before after most is called =
 called_reaches who c index call (Err none) before after most is called = tt
 
 -- the origin of a turn is that of the region at its index
-pub region_there : (c : Config) (number : ℕ) (locks : List Lock) (turns : List Known) (index : ℕ) (t : Known) → AreLocks c number locks → index < length locks → AreOf locks turns → t ≡ slice_index_or turns index t
+pub region_there : (c : Config) (seed : ℕ) (locks : List Lock) (turns : List Known) (index : ℕ) (t : Known) → AreLocks c seed locks → index < length locks → AreOf locks turns → t ≡ slice_index_or turns index t
     → (origin_in t.knows.origin).region ≡ region_at c index
-region_there c number locks turns index t are below of at =
+region_there c seed locks turns index t are below of at =
     let l : Lock = record { id = t.lock; origin = t.knows.origin } in
     ap (λ (numbers : List ℕ). (origin_in numbers).region) (ap (λ (z : Known). z.knows.origin) at ∙ (of.each index l t below).1 ∙ (are.each index l below).is)
 

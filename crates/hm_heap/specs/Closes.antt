@@ -20,18 +20,18 @@ module _ {P : Type 0} (meaning : pages.Ghosts P) where
 
   -- the history and the pages of this region of a heap, whose pages tell as its turn says: the history goes on from
   -- what its last turn had seen
-  pub record IsClosedRegion (c : Config) (number region : ℕ) (t : Known) (h : History) (p : P) : Type 0 where
+  pub record IsClosedRegion (c : Config) (seed region : ℕ) (t : Known) (h : History) (p : P) : Type 0 where
     pub told : Bool
     pub told_is : told ≡ (origin_in t.knows.origin).told
-    pub end : IsEnd (record { config = c; number = number; region = region; told = told }) h p
+    pub end : IsEnd (record { config = c; seed = seed; region = region; told = told }) h p
     pub whole : IsWhole h.entries t.knows
 
   -- of each region, by ascending number
-  pub record Closes (c : Config) (number : ℕ) (turns : List Known) (hs : List History) (ps : List P) : Type 0 where
+  pub record Closes (c : Config) (seed : ℕ) (turns : List Known) (hs : List History) (ps : List P) : Type 0 where
     pub histories : length hs ≡ length turns
     pub pages : length ps ≡ length turns
     pub each : (r : ℕ) (t : Known) (h : History) (p : P) → r < length turns
-        → IsClosedRegion c number (region_at c r)
+        → IsClosedRegion c seed (region_at c r)
         (slice_index_or turns r t) (slice_index_or hs r h) (slice_index_or ps r p)
 
   -- ---- lock by lock, each of which says which region it is

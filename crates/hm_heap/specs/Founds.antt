@@ -9,8 +9,8 @@ use Rattle.hm_turn.specs.Known.{Lock, Known}
 use Rattle.hm_heap.specs.Passes.{IsOriginOf}
 
 -- a lock of this region, and its first turn, which has seen nothing
-pub record IsFounded (c : Config) (number region : ℕ) (lock : Lock) (turn : Known) : Type 0 where
-  pub origin : IsOriginOf c number region lock.origin
+pub record IsFounded (c : Config) (seed region : ℕ) (lock : Lock) (turn : Known) : Type 0 where
+  pub origin : IsOriginOf c seed region lock.origin
   pub of : turn.lock ≡ lock.id
   pub knows : turn.knows ≡ founding lock.origin
 

@@ -1,9 +1,11 @@
 -- Which histories the region of an origin may have, and what is kept of it after one.
 use Rattle.std.specs.Prelude.{◌≡◌, ◌<◌, ◌*◌, ◌/◌, ◌%◌, ◌⊎◌, ℕ, nat_lt, if◌then◌else◌, IsTrue, List}
+use Rattle.std.specs.List.{All}
 use Rattle.hm_outside.specs.Makers.{IsOwned}
 use Rattle.hm_outside.specs.PageRuns.{PageRuns}
 use Rattle.hm_outside.specs.declared.pages.Pages as pages
 use Rattle.hm_model.specs.declared.entry.Entry.{Entry}
+use Rattle.hm_model.specs.Typed.{IsTyped}
 use Rattle.hm_sizes.specs.declared.class.ClassId.{ClassId}
 use Rattle.hm_sizes.specs.Classes.{class_count}
 use Rattle.hm_sizes.specs.Configs.{IsValid}
@@ -13,9 +15,9 @@ use Rattle.hm_class_rules.specs.Draws.{drawn_shape}
 use Rattle.hm_class_rules.specs.Drawn as class_draws
 use Rattle.hm_class_rules.specs.Rules as class
 use Rattle.hm_class.specs.Region.{HoldsSlabs}
-use Rattle.hm_large.specs.Draws as large_draws
+use Rattle.hm_large_rules.specs.Drawn as large_drawn
 use Rattle.hm_large.specs.Region.{HoldsBlocks}
-use Rattle.hm_large.specs.Rules as large
+use Rattle.hm_large_rules.specs.Rules as large
 
 -- ---- the kinds of region
 -- the arena and the class of a class region
@@ -29,7 +31,7 @@ class_in region = record { 0 = region % class_count }
 abbrev pub class_terms : Origin → class.Terms
 class_terms o = record {
   config = o.config;
-  shape = drawn_shape o.number o.config (arena_of o.region) (class_in o.region);
+  shape = drawn_shape o.seed o.config (arena_of o.region) (class_in o.region);
   told = o.told;
 }
 
@@ -44,11 +46,11 @@ pub record IsRegionOf (o : Origin) : Type 0 where
 -- ---- histories
 pub record IsLawfulClass (o : Origin) (history : List Entry) : Type 0 where
   pub legal : class.IsLegal (class_terms o) history
-  pub drawn : class_draws.IsDrawn o.number (arena_of o.region) (class_terms o) history
+  pub drawn : class_draws.IsDrawn o.seed (arena_of o.region) (class_terms o) history
 
 pub record IsLawfulLarge (o : Origin) (history : List Entry) : Type 0 where
   pub legal : large.IsLegal (large_terms o) history
-  pub drawn : large_draws.IsDrawn o.number history
+  pub drawn : large_drawn.IsDrawn o.seed history
 
 -- legal for the region, and its choices drawn from the region's own stream
 pub record IsLawful (o : Origin) (history : List Entry) : Type 0 where
@@ -60,7 +62,7 @@ pub record IsLawful (o : Origin) (history : List Entry) : Type 0 where
 abbrev pub first_address : Origin → ℕ
 first_address o = if nat_lt o.region large_region_number then (class_terms o).shape.first else large_start
 
--- how often a page has failed
+-- the count of page faults
 abbrev pub fault_count : Origin → List Entry → ℕ
 fault_count o history =
     if nat_lt o.region large_region_number then (class.state (class_terms o) history).faults
@@ -72,10 +74,12 @@ pub record Holds (o : Origin) (history : List Entry) (runs : PageRuns) : Type 0 
       → HoldsSlabs (class_terms o).shape (class.state (class_terms o) history).opens runs
   pub large : o.region ≡ large_region_number → HoldsBlocks (large.state (large_terms o) history).live runs
 
--- the history is lawful, the pages are what it says, and they are the region's own
+-- the history is lawful, what the types of its entries promise holds, the pages are what it says, and they are the
+-- region's own
 pub record IsSound {P : Type 0} (meaning : pages.Ghosts P) (o : Origin) (history : List Entry) (kept : P) : Type 0 where
   pub is_region : IsRegionOf o
   pub lawful : IsLawful o history
+  pub typed : All IsTyped history
   pub count : meaning.faults kept ≡ fault_count o history
   pub holds : IsTrue (meaning.told kept) → Holds o history (meaning.runs kept)
   pub owned : IsOwned (meaning.owner kept) o.region

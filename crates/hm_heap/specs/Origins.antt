@@ -6,12 +6,12 @@ use Rattle.hm_sizes.specs.Origins.{Origin}
 abbrev pub bit : Bool → ℕ
 bit b = if b then 1 else 0
 
--- the fields of the configuration, the number of the run, that of the region, and whether its pages tell
+-- the fields of the configuration, the seed, the number of the region, and whether its pages tell
 abbrev pub numbers_of : Origin → List ℕ
 numbers_of o =
     o.config.arenas ∷ o.config.class_region ∷ o.config.large_space ∷ o.config.guard_interval ∷ o.config.array_base
     ∷ o.config.ring_base ∷ o.config.park_length ∷ bit o.config.check_reuse ∷ bit o.config.random_slots
-    ∷ o.number ∷ o.region ∷ bit o.told ∷ []
+    ∷ o.seed ∷ o.region ∷ bit o.told ∷ []
 
 -- the origin that the numbers spell
 abbrev pub origin_in : List ℕ → Origin
@@ -27,7 +27,7 @@ origin_in numbers = record {
     check_reuse = slice_index_or numbers 7 0 == 1;
     random_slots = slice_index_or numbers 8 0 == 1;
   };
-  number = slice_index_or numbers 9 0;
+  seed = slice_index_or numbers 9 0;
   region = slice_index_or numbers 10 0;
   told = slice_index_or numbers 11 0 == 1;
 }

@@ -16,7 +16,7 @@ use Rattle.hm_sizes.specs.Classes.{class_count, class_size}
 use Rattle.hm_sizes.specs.Origins.{Origin, large_region_number}
 use Rattle.hm_sizes.specs.Shapes.{usable}
 use Rattle.hm_sizes.specs.Sizes.{raised}
-use Rattle.hm_large.specs.Rules as large_rules
+use Rattle.hm_large_rules.specs.Rules as large_rules
 use Rattle.hm_heap.specs.declared.request.Request.{Request}
 use Rattle.hm_heap.specs.declared.request.Request.TheVariants as request
 use Rattle.hm_heap.specs.Lawful.{class_terms}

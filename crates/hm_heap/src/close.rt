@@ -11,7 +11,7 @@ use crate::heap::{Heap, region_at};
 use crate::pass::Pass;
 use crate::region::Region;
 use hm_base::{List, NoMemory, RegionId};
-use hm_model::Entry;
+use hm_model::EntryList;
 use hm_outside::{Gate, Pages};
 use hm_sizes::Config;
 use hm_turn::{Turn, TurnLock};
@@ -23,7 +23,7 @@ use std::alloc::Global;
 pub struct History {
     pub region: RegionId,
     pub first: u64,
-    pub entries: List<Entry>,
+    pub entries: EntryList,
     pub faults: u64,
 }
 
@@ -46,7 +46,7 @@ fn end<P: Pages>(value: Region<P>, region: RegionId) -> (History, P)
     let history = History {
         region,
         first,
-        entries: List::of(entries),
+        entries,
         faults,
     };
     (history, pages)
@@ -98,7 +98,7 @@ impl<'g, P: Pages, G: Gate> Heap<'g, P, G> {
     pub fn close(self, alloc: Global, pass: Pass) -> Result<Closed<P>, NoMemory>
         requires of { AreOf self.locks pass.turns }
         requires root { (pass.caller ≡ 0) × (pass.out ≡ 0) }
-        ensures { IfOk result (λ closed. Closes P.Pages self.entry.config self.entry.number pass.turns
+        ensures { IfOk result (λ closed. Closes P.Pages self.entry.config self.entry.seed pass.turns
             closed.histories closed.pages) }
     {
         let Heap { config, locks, .. } = self;

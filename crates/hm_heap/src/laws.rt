@@ -44,7 +44,7 @@ pub fn delayed_blocks()
 {}
 
 /// Over pages that tell, a free that lacks memory is not of a live block with its size and canary right, or it is of a
-/// large block of which a free failed.
+/// large block of which a free met a page fault.
 pub fn served_frees<P: Pages>()
     ensures { FreesServed P.told }
 {}

@@ -1,5 +1,7 @@
-//! Tests of a heap of regions, over pages in memory.
+//! Tests of a heap of regions, and of scripts and rounds on it, over pages in memory.
 #![tactic(auto)]
 
 #[cfg(test)]
-mod tests;
+mod heap_tests;
+#[cfg(test)]
+mod round_tests;

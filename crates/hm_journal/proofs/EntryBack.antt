@@ -1,20 +1,18 @@
 -- What is read of an entry's words is the entry.
-use Rattle.std.proofs.Common.{◌≡◌, IfOk, Result, ℕ, ◌-◌, List, [], ◌∷◌, ◌++◌, drop, take, length, Option, Some, refl, sym, ◌∙◌, ap, codes, subst, length-append, ◌==◌, arith}
+use Rattle.std.proofs.Common.{◌≡◌, IfOk, Result, ℕ, ◌-◌, List, [], ◌∷◌, ◌++◌, drop, length, Option, Some, refl, sym, ◌∙◌, ap, codes, subst, length-append, ◌==◌, arith}
 use Rattle.std.specs.List.{join_with_byte, slice_split}
 use Rattle.std.proofs.lemmas.List.{take_at}
 use Rattle.std.proofs.lemmas.List.Elements.{recursion_from_All as each}
 use Rattle.hm_model.specs.declared.entry.Call.{Call}
 use Rattle.hm_model.specs.declared.entry.Call.TheVariants.{Allot, GiveBack, Measure, Fetch, Fill}
-use Rattle.hm_model.specs.declared.entry.Choices.{Choices}
-use Rattle.hm_model.specs.declared.entry.Draws.{Draws}
 use Rattle.hm_model.specs.declared.entry.Entry.{Entry}
 use Rattle.hm_model.specs.declared.entry.Reply.{Reply}
 use Rattle.hm_model.specs.declared.entry.Reply.TheVariants.{Given, Overwritten, Exhausted, NoSpace, PagesFailed, Freed, NoSlot, Unused, DoubleFree, WrongSize, Canary, Usable, Bytes, Filled, Trap, NotLive}
-use Rattle.hm_model.specs.declared.entry.Who.{Who}
 use Rattle.hm_journal.specs.Entries.{call_words, entry_words, reply_words}
-use Rattle.hm_journal.specs.Ranges.{CallFits, ChoicesFit, DrawsFit, EntryFits, ReplyFits, RunFits, WhoFits}
-use Rattle.hm_journal.specs.Reading.{answer_at, call_at, call_length, choices_at, draws_at, entry_of, long_reply_at, number_at, reply_at, short_reply_at, who_at, word_at, words_at}
-use Rattle.hm_journal.specs.Runs.{CallRuns, EntryRuns, ReplyRuns}
+use Rattle.hm_model.specs.Typed.{CallFits, ChoicesFit, DrawsFit, EntryFits, EntryRuns, ReplyFits, RunFits, WhoFits}
+use Rattle.hm_journal.specs.Reading.{answer_at, call_at, call_length, choices_at, draws_at, entry_of, long_reply_at, reply_at, short_reply_at, who_at, word_at, words_at}
+use Rattle.hm_model.specs.Calls.{CallRuns}
+use Rattle.hm_model.specs.Replies.{HasRuns}
 use Rattle.hm_journal.specs.Words.{line_text}
 use Rattle.hm_journal.proofs.OneEntry.{clean_entry}
 use Rattle.hm_journal.proofs.ReadBack.{byte_back, number8_back, number32_back, number_back, option_back, pairs_back}
@@ -138,7 +136,7 @@ clean_entry_line e h = clean_entry e h
 -- an entry that is made of what a line's words would say is the one that has the line
 pub guessed : {E : Type 0} (r : Result (Option Entry) E) (line : List ℕ) (said : List (List ℕ)) → said ≡ words_at line
     → ((call : Call) (reply : Reply) → call_at (drop 18 said) ≡ Some call → reply_at (answer_at said) ≡ Some reply
-    → CallRuns call → ReplyRuns reply → IfOk r (λ o. o ≡ Some (entry_of said call reply)))
+    → CallRuns call → HasRuns reply → IfOk r (λ o. o ≡ Some (entry_of said call reply)))
     → (e : Entry) → EntryFits e → EntryRuns e → line ≡ line_text (entry_words e) → IfOk r (λ o. o ≡ Some e)
 guessed r line said words gives e fits runs is =
     let read = subst (IsRead e) (sym words) (line_read e line fits is) in

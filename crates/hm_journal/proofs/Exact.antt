@@ -1,4 +1,4 @@
--- The text of a journal determines its configuration, its number and its histories.
+-- The text of a journal determines its configuration, its seed and its histories.
 use Rattle.std.proofs.Common.{◌≡◌, ℕ, List, [], ◌∷◌, ◌++◌, map, length, drop, get_or, codes, refl, sym, ◌∙◌, ap, append_assoc, arith, rules}
 use Rattle.std.specs.Fmt.{decimal}
 use Rattle.std.specs.List.{AllByRecursion as Each}
@@ -8,7 +8,8 @@ use Rattle.hm_model.specs.declared.entry.Entry.{Entry}
 use Rattle.hm_heap.specs.declared.close.History.{History}
 use Rattle.hm_journal.specs.Entries.{entry_words}
 use Rattle.hm_journal.specs.Journals.{closed_words, config_words, histories_lines, history_lines, journal_lines, journal_text, region_words}
-use Rattle.hm_journal.specs.Ranges.{ConfigFits, EntryFits, Fits64, HistoryFits, JournalFits}
+use Rattle.hm_model.specs.Typed.{EntryFits, Fits64}
+use Rattle.hm_journal.specs.Ranges.{ConfigFits, HistoryFits, JournalFits}
 use Rattle.hm_journal.proofs.Each.{each_append}
 use Rattle.hm_journal.proofs.Numbers.{clean_flag, clean_number, first_digit, flag_is, flag_of, number, number_is}
 use Rattle.hm_journal.proofs.OneEntry.{clean32, clean_entry, is32, same_entry}
@@ -18,7 +19,7 @@ use Rattle.hm_journal.proofs.Splits.{High, IsLine, same_lines}
 abbrev Line : Type 0
 Line = List (List ℕ)
 
--- the number that a line has at a place
+-- the number that a line has at an index
 abbrev number_at : ℕ → Line → ℕ
 number_at i line = number (get_or line i [])
 

@@ -1,5 +1,5 @@
 -- What is read of the lines that are no entries is what they say.
-use Rattle.std.proofs.Common.{◌≡◌, ℕ, ◌%◌, ◌≤◌, ◌^◌, eqb, List, [], ◌∷◌, ◌++◌, refl, sym, ◌∙◌, ap, codes, arith, rules}
+use Rattle.std.proofs.Common.{◌≡◌, ℕ, eqb, List, [], ◌∷◌, ◌++◌, ◌∙◌, ap, codes, arith, rules}
 use Rattle.std.specs.Fmt.{decimal}
 use Rattle.std.specs.List.{join_with_byte, slice_split}
 use Rattle.hm_sizes.specs.declared.config.Config.{Config}
@@ -7,7 +7,8 @@ use Rattle.hm_sizes.specs.Configs.{IsValid}
 use Rattle.hm_journal.specs.declared.lines.RegionLine.{RegionLine}
 use Rattle.hm_journal.specs.Journals.{config_words}
 use Rattle.hm_journal.specs.Lines.{closed_line, region_line, seed_line}
-use Rattle.hm_journal.specs.Ranges.{ConfigFits, Fits32, Fits64}
+use Rattle.hm_model.specs.Typed.{Fits32, Fits64}
+use Rattle.hm_journal.specs.Ranges.{ConfigFits}
 use Rattle.hm_journal.specs.Reading.{config_at, region_at, number_at, number32_at, word_at, words_at}
 use Rattle.hm_journal.specs.Words.{line_text}
 use Rattle.hm_journal.proofs.EntryBack.{words_back}

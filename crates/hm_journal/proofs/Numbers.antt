@@ -8,7 +8,7 @@ use Rattle.std.proofs.lemmas.Bool.Decides.{nat_tests}
 use Rattle.std.proofs.lemmas.Fmt.{decimal_is_IsNumeral}
 use Rattle.std.proofs.lemmas.Str.Parse.{digit_from_value}
 use Rattle.hm_heap.specs.Origins.{bit}
-use Rattle.hm_journal.specs.Ranges.{Fits8, Fits64, OptionFits, RunFits}
+use Rattle.hm_model.specs.Typed.{Fits8, Fits64, OptionFits, RunFits}
 use Rattle.hm_base.specs.Bytes.{byte_word, run_word}
 use Rattle.hm_journal.specs.Words.{option_word, runs_word}
 use Rattle.hm_journal.proofs.Each.{each_append, each_by}

@@ -13,7 +13,7 @@ use Rattle.hm_model.specs.declared.entry.Reply.{Reply}
 use Rattle.hm_model.specs.declared.entry.Reply.TheVariants.{Given, Overwritten, Exhausted, NoSpace, PagesFailed, Freed, NoSlot, Unused, DoubleFree, WrongSize, Canary, Usable, Bytes, Filled, Trap, NotLive}
 use Rattle.hm_model.specs.declared.entry.Who.{Who}
 use Rattle.hm_journal.specs.Entries.{call_words, choices_words, draws_words, entry_words, faults_words, reply_words, who_words}
-use Rattle.hm_journal.specs.Ranges.{CallFits, ChoicesFit, DrawsFit, EntryFits, Fits8, Fits32, Fits64, ReplyFits, RunFits, WhoFits}
+use Rattle.hm_model.specs.Typed.{CallFits, ChoicesFit, DrawsFit, EntryFits, Fits8, Fits32, Fits64, ReplyFits, RunFits, WhoFits}
 use Rattle.hm_journal.proofs.Each.{each_append}
 use Rattle.hm_journal.proofs.Numbers.{byte, byte_is, clean_byte, clean_number, clean_option, clean_runs, number, number_is, option, option_is, runs, runs_is}
 use Rattle.hm_journal.proofs.Splits.{High}

@@ -1,12 +1,12 @@
 -- A line says one thing.
-use Rattle.std.proofs.Common.{◌≡◌, ℕ, List, refl, sym, ◌∙◌, ap}
+use Rattle.std.proofs.Common.{◌≡◌, ℕ, refl, sym, ◌∙◌, ap}
 use Rattle.hm_sizes.specs.declared.config.Config.{Config}
 use Rattle.hm_sizes.specs.Configs.{IsValid}
 use Rattle.hm_model.specs.declared.entry.Entry.{Entry}
 use Rattle.hm_journal.specs.Entries.{entry_words}
 use Rattle.hm_journal.specs.Journals.{config_words}
 use Rattle.hm_journal.specs.Lines.{closed_line, region_line, seed_line}
-use Rattle.hm_journal.specs.Ranges.{EntryFits, Fits32, Fits64}
+use Rattle.hm_model.specs.Typed.{EntryFits, Fits32, Fits64}
 use Rattle.hm_journal.specs.Reading.{words_at}
 use Rattle.hm_journal.specs.Words.{line_text}
 use Rattle.hm_journal.proofs.EntryBack.{words_back}

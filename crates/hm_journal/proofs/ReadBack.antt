@@ -1,14 +1,14 @@
 -- What is read of written words is what was written: numbers, options, flags, bytes and runs.
 use Rattle.std.proofs.Common.{◌≡◌, ⊎_elim, ℕ, ◌+◌, ◌-◌, ◌*◌, ◌/◌, ◌%◌, ◌<◌, ◌≤◌, ◌^◌, Bool, true, false, cond, eqb, leb, min, List, [], ◌∷◌, ◌++◌, map, Option, Some, None, refl, codes, ◌∙◌, ap, arith}
-use Rattle.std.specs.List.{AllByRecursion as Each, slice_split}
+use Rattle.std.specs.List.{AllByRecursion as Each}
 use Rattle.std.specs.Fmt.{decimal, digit_glyph}
 use Rattle.std.specs.Str.{bytes_eq}
-use Rattle.std.proofs.lemmas.Bool.{cases_Bool, leb-true, leb-false, le-leb, lt-leb}
+use Rattle.std.proofs.lemmas.Bool.{cases_Bool, leb-true, leb-false}
 use Rattle.std.proofs.lemmas.Bool.Decides.{nat_tests}
 use Rattle.std.proofs.lemmas.Fmt.{decimal_by_steps, decimal_digit}
 use Rattle.hm_heap.specs.Origins.{bit}
 use Rattle.hm_base.specs.Bytes.{byte_word, run_word}
-use Rattle.hm_journal.specs.Ranges.{Fits8, Fits32, Fits64, OptionFits, RunFits}
+use Rattle.hm_model.specs.Typed.{Fits8, Fits32, Fits64, OptionFits, RunFits}
 use Rattle.hm_journal.specs.Reading.{byte_at, digit_at, flag_at, next_value, number_at, number32_at, number8_at, option_at, pairs_at, run_at, value_after}
 use Rattle.hm_journal.specs.Words.{option_word, runs_word}
 use Rattle.hm_journal.proofs.Numbers.{high_byte, high_decimal, runs_lack}

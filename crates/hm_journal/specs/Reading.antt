@@ -12,13 +12,14 @@ use Rattle.hm_model.specs.declared.entry.Reply.{Reply}
 use Rattle.hm_model.specs.declared.entry.Reply.TheVariants.{Given, Overwritten, Exhausted, NoSpace, PagesFailed, Freed, NoSlot, Unused, DoubleFree, WrongSize, Canary, Usable, Bytes, Filled, Trap, NotLive}
 use Rattle.hm_model.specs.declared.entry.Who.{Who}
 use Rattle.hm_journal.specs.declared.lines.RegionLine.{RegionLine}
-use Rattle.hm_journal.specs.Runs.{CallRuns, ReplyRuns}
+use Rattle.hm_model.specs.Calls.{CallRuns}
+use Rattle.hm_model.specs.Replies.{HasRuns}
 
 -- the words between single spaces, without the last byte of the line
 abbrev pub words_at : List ℕ → List (List ℕ)
 words_at line = slice_split (λ b. b == 32) (take (length line - 1) line)
 
--- the word at a place
+-- the word at an index
 abbrev pub word_at : List (List ℕ) → ℕ → List ℕ
 word_at words i = slice_index_or words i []
 
@@ -164,7 +165,7 @@ GivesCall result (Some call) = CallRuns call → result ≡ Some call
 
 abbrev pub GivesReply : Option Reply → Option Reply → Type 0
 GivesReply result None = ⊤
-GivesReply result (Some reply) = ReplyRuns reply → result ≡ Some reply
+GivesReply result (Some reply) = HasRuns reply → result ≡ Some reply
 
 -- ---- the lines that are no entries
 unfoldable pub config_at : List (List ℕ) → Config

@@ -3,34 +3,33 @@ ghost use Rattle.std.specs.Prelude.{◌≡◌, ◌↔◌, map, drop, IfOk, IfSom
 ghost use Rattle.hm_model.specs.declared.entry.Call.{Call};
 ghost use Rattle.hm_model.specs.declared.entry.Entry.{Entry};
 ghost use Rattle.hm_model.specs.declared.entry.Reply.{Reply};
+ghost use Rattle.hm_model.specs.Calls.{CallRuns};
+ghost use Rattle.hm_model.specs.Replies.{HasRuns};
+ghost use Rattle.hm_model.specs.Typed.{EntryFits, EntryRuns};
 ghost use Rattle.hm_journal.specs.Entries.{entry_words};
-ghost use Rattle.hm_journal.specs.Ranges.{EntryFits};
 ghost use Rattle.hm_journal.specs.Reading.{call_at, reply_at, answer_at, entry_of};
-ghost use Rattle.hm_journal.specs.Runs.{CallRuns, ReplyRuns, EntryRuns};
 ghost use Rattle.hm_journal.specs.Words.{line_text};
 
 use crate::entries::push_entry;
 use crate::entry_words::{call_in, call_length, choices_in, draws_in, reply_in, who_in};
-use crate::ranges::entry_fits;
 use crate::reading::{number_in, word_in, words_in};
 use hm_base::NoMemory;
 use hm_model::Entry;
 use std::alloc::Global;
 
-// The words from a place on.
-fn words_from<'a, 'b>(words: &'b [&'a [u8]], place: usize) -> &'b [&'a [u8]]
-    ensures { map (λ w. w.now) result.now ≡ drop place (map (λ w. w.now) words.now) }
+// The words from an index on.
+fn words_from<'a, 'b>(words: &'b [&'a [u8]], index: usize) -> &'b [&'a [u8]]
+    ensures { map (λ w. w.now) result.now ≡ drop index (map (λ w. w.now) words.now) }
 {
-    let start = place.min(words.len());
+    let start = index.min(words.len());
     &words[start..]
 }
 
 // The entry that these words would say; none where its runs break a rule of runs.
 fn entry_of(alloc: Global, words: &[&[u8]]) -> Result<Option<Entry>, NoMemory>
     ensures value { let said = map (λ w. w.now) words.now in (call : Call) (reply : Reply)
-        → call_at (drop 18 said) ≡ Some call → reply_at (answer_at said) ≡ Some reply → CallRuns call → ReplyRuns reply
+        → call_at (drop 18 said) ≡ Some call → reply_at (answer_at said) ≡ Some reply → CallRuns call → HasRuns reply
         → IfOk result (λ o. o ≡ Some (entry_of said call reply)) }
-    ensures runs { IfOk result (λ o. IfSome o (λ e. EntryRuns e)) }
 {
     let calling = words_from(words, 18);
     let answer = words_from(words_from(calling, call_length(word_in(words, 18))), 1);
@@ -55,7 +54,6 @@ fn entry_of(alloc: Global, words: &[&[u8]]) -> Result<Option<Entry>, NoMemory>
 fn guess_entry(alloc: Global, line: &[u8]) -> Result<Option<Entry>, NoMemory>
     ensures only { (e : Entry) → EntryFits e → EntryRuns e → line.now ≡ line_text (entry_words e)
         → IfOk result (λ o. o ≡ Some e) }
-    ensures runs { IfOk result (λ o. IfSome o (λ e. EntryRuns e)) }
 {
     let words = words_in(alloc, line)?;
     entry_of(alloc, &words)
@@ -82,6 +80,6 @@ pub fn entry_in(alloc: Global, line: &[u8]) -> Result<Option<Entry>, NoMemory>
     if !has_line(alloc, &entry, line)? {
         return Ok(None);
     }
-    entry_fits(&entry);
+    entry.typed();
     Ok(Some(entry))
 }

@@ -1,9 +1,8 @@
 //! Reading the words of an entry's line: who called, the words drawn, the choices, the call and the reply.
-ghost use Rattle.std.specs.Prelude.{◌≡◌, map, IfOk, IfSome};
+ghost use Rattle.std.specs.Prelude.{◌≡◌, map, IfOk};
 ghost use Rattle.hm_model.specs.declared.entry.Call.TheVariants.{Fill};
 ghost use Rattle.hm_model.specs.declared.entry.Reply.TheVariants.{Bytes};
 ghost use Rattle.hm_journal.specs.Reading.{word_at, number_at, pairs_at, who_at, draws_at, choices_at, call_at, call_length, short_reply_at, long_reply_at, reply_at, GivesCall, GivesReply};
-ghost use Rattle.hm_journal.specs.Runs.{CallRuns, ReplyRuns};
 
 use crate::reading::{byte_in, number_in, number8_in, number32_in, option_in, runs_in, word_in};
 use hm_base::NoMemory;
@@ -53,7 +52,6 @@ pub(crate) fn choices_in(words: &[&[u8]]) -> Choices
 fn fill_in(alloc: Global, words: &[&[u8]]) -> Result<Option<Call>, NoMemory>
     ensures value { let said = map (λ w. w.now) words.now in
         IfOk result (λ o. GivesCall o (Some (Fill (number_at (word_at said 1)) (pairs_at (word_at said 2))))) }
-    ensures runs { IfOk result (λ o. IfSome o (λ call. CallRuns call)) }
 {
     let addr = number_in(word_in(words, 1));
     match runs_in(alloc, word_in(words, 2))? {
@@ -66,7 +64,6 @@ fn fill_in(alloc: Global, words: &[&[u8]]) -> Result<Option<Call>, NoMemory>
 #[tactic(auto, unfolding(crate::specs::Reading::call_at))]
 pub(crate) fn call_in(alloc: Global, words: &[&[u8]]) -> Result<Option<Call>, NoMemory>
     ensures value { IfOk result (λ o. GivesCall o (call_at (map (λ w. w.now) words.now))) }
-    ensures runs { IfOk result (λ o. IfSome o (λ call. CallRuns call)) }
 {
     let name = word_in(words, 0);
     let first = number_in(word_in(words, 1));
@@ -106,7 +103,6 @@ pub(crate) fn call_length(name: &[u8]) -> usize
 #[tactic(auto, unfolding(crate::specs::Reading::short_reply_at))]
 fn short_reply_in(digit: u8, words: &[&[u8]]) -> Option<Reply>
     ensures value { GivesReply result (short_reply_at digit (map (λ w. w.now) words.now)) }
-    ensures runs { IfSome result (λ reply. ReplyRuns reply) }
 {
     let first = number_in(word_in(words, 1));
     let second = number_in(word_in(words, 2));
@@ -132,7 +128,6 @@ fn short_reply_in(digit: u8, words: &[&[u8]]) -> Option<Reply>
 
 fn bytes_in(alloc: Global, words: &[&[u8]]) -> Result<Option<Reply>, NoMemory>
     ensures value { IfOk result (λ o. GivesReply o (Some (Bytes (pairs_at (word_at (map (λ w. w.now) words.now) 1))))) }
-    ensures runs { IfOk result (λ o. IfSome o (λ reply. ReplyRuns reply)) }
 {
     match runs_in(alloc, word_in(words, 1))? {
         Some(runs) => Ok(Some(Reply::Bytes(runs))),
@@ -143,7 +138,6 @@ fn bytes_in(alloc: Global, words: &[&[u8]]) -> Result<Option<Reply>, NoMemory>
 #[tactic(auto, unfolding(crate::specs::Reading::long_reply_at))]
 fn long_reply_in(alloc: Global, digit: u8, words: &[&[u8]]) -> Result<Option<Reply>, NoMemory>
     ensures value { IfOk result (λ o. GivesReply o (long_reply_at digit (map (λ w. w.now) words.now))) }
-    ensures runs { IfOk result (λ o. IfSome o (λ reply. ReplyRuns reply)) }
 {
     let first = number_in(word_in(words, 1));
     let second = number_in(word_in(words, 2));
@@ -170,7 +164,6 @@ fn long_reply_in(alloc: Global, digit: u8, words: &[&[u8]]) -> Result<Option<Rep
 #[tactic(auto, unfolding(crate::specs::Reading::reply_at))]
 pub(crate) fn reply_in(alloc: Global, words: &[&[u8]]) -> Result<Option<Reply>, NoMemory>
     ensures value { IfOk result (λ o. GivesReply o (reply_at (map (λ w. w.now) words.now))) }
-    ensures runs { IfOk result (λ o. IfSome o (λ reply. ReplyRuns reply)) }
 {
     match word_in(words, 0) {
         [digit] => Ok(short_reply_in(*digit, words)),

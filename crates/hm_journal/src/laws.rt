@@ -1,4 +1,4 @@
-//! What a journal says: its text determines the configuration, the number and the histories.
+//! What a journal says: its text determines the configuration, the seed and the histories.
 ghost use Rattle.std.specs.Prelude.{◌≡◌, ℕ, List};
 ghost use Rattle.hm_sizes.specs.declared.config.Config.{Config};
 ghost use Rattle.hm_sizes.specs.Configs.{IsValid};
@@ -7,7 +7,8 @@ ghost use Rattle.hm_heap.specs.declared.close.History.{History};
 ghost use Rattle.hm_journal.specs.Entries.{entry_words};
 ghost use Rattle.hm_journal.specs.Journals.{config_words, journal_text};
 ghost use Rattle.hm_journal.specs.Lines.{seed_line, region_line, closed_line};
-ghost use Rattle.hm_journal.specs.Ranges.{EntryFits, Fits32, Fits64, JournalFits};
+ghost use Rattle.hm_model.specs.Typed.{EntryFits, Fits32, Fits64};
+ghost use Rattle.hm_journal.specs.Ranges.{JournalFits};
 ghost use Rattle.hm_journal.specs.Words.{line_text};
 
 /// Two journals of one text are one journal.

@@ -6,7 +6,7 @@ ghost use Rattle.hm_sizes.specs.Configs.{IsValid};
 ghost use Rattle.hm_journal.specs.declared.lines.RegionLine.{RegionLine};
 ghost use Rattle.hm_journal.specs.Journals.{config_words};
 ghost use Rattle.hm_journal.specs.Lines.{header_line, seed_line, region_line, closed_line, end_line};
-ghost use Rattle.hm_journal.specs.Ranges.{Fits32, Fits64};
+ghost use Rattle.hm_model.specs.Typed.{Fits32, Fits64};
 ghost use Rattle.hm_journal.specs.Reading.{words_at, word_at, number_at, config_at, region_at};
 ghost use Rattle.hm_journal.specs.Words.{line_text};
 
@@ -102,7 +102,7 @@ fn second_in(alloc: Global, line: &[u8]) -> Result<u64, NoMemory>
     Ok(number_in(word_in(&words, 1)))
 }
 
-/// The number of the run, where this is a line that says one.
+/// The seed, where this is a line that says one.
 #[tactic(auto, using(crate::proofs::LineBack::seed_read))]
 pub fn seed_in(alloc: Global, line: &[u8]) -> Result<Option<u64>, NoMemory>
     ensures found { IfOk result (λ o. IfSome o (λ n. line.now ≡ line_text (seed_line n))) }

@@ -17,11 +17,11 @@ pub(crate) fn words_in(alloc: Global, line: &[u8]) -> Result<Vec<&[u8]>, AllocEr
     words.split(|b| *b == b' ').collect(alloc)
 }
 
-/// The word at a place, or none.
-pub(crate) fn word_in<'a>(words: &[&'a [u8]], place: usize) -> &'a [u8]
-    ensures { result.now ≡ word_at (map (λ w. w.now) words.now) place }
+/// The word at an index, or none.
+pub(crate) fn word_in<'a>(words: &[&'a [u8]], index: usize) -> &'a [u8]
+    ensures { result.now ≡ word_at (map (λ w. w.now) words.now) index }
 {
-    match words.get(place) {
+    match words.get(index) {
         Some(word) => word,
         None => b"",
     }
@@ -137,7 +137,6 @@ fn pairs_in(alloc: Global, word: &[u8]) -> Result<Vec<(u8, u64)>, AllocError>
 pub(crate) fn runs_in(alloc: Global, word: &[u8]) -> Result<Option<Runs>, NoMemory>
     ensures some { IfOk result (λ o. IsSome o ↔ AreRuns (pairs_at word.now)) }
     ensures value { IfOk result (λ o. IfSome o (λ runs. runs ≡ pairs_at word.now)) }
-    ensures runs { IfOk result (λ o. IfSome o (λ runs. AreRuns runs)) }
 {
     let pairs = pairs_in(alloc, word)?;
     Ok(Runs::from_pairs(pairs))

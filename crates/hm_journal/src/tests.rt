@@ -4,10 +4,11 @@ use crate::{
     RegionLine, closed_in, config_in, entry_in, is_end, is_header, region_in, seed_in,
     write_journal,
 };
-use hm_base::{List, RegionId};
+use hm_base::{NoMemory, RegionId};
 use hm_heap::History;
-use hm_model::{Call, Choices, Draws, Entry, Reply, Runs, Who};
+use hm_model::{Call, Choices, Draws, Entries, Entry, Reply, Runs, Who};
 use hm_sizes::Config;
+use std::alloc::Global;
 use std::test::Fail;
 
 const WHO: Who = Who {
@@ -118,13 +119,24 @@ const CASES: [(Call, Reply, &str); 14] = [
     (Call::Measure { addr: 7 }, Reply::NotLive, "measure 7 : 17"),
 ];
 
-fn of_region(region: u32, first: u64, entries: Vec<Entry>, faults: u64) -> History {
-    History {
+fn of_region(
+    alloc: Global,
+    region: u32,
+    first: u64,
+    entries: Vec<Entry>,
+    faults: u64,
+) -> Result<History, NoMemory> {
+    let mut history = Entries::new(alloc);
+    for entry in entries {
+        history.reserve(1)?;
+        history.push_reserved(entry);
+    }
+    Ok(History {
         region: RegionId(region),
         first,
-        entries: List::of(entries),
+        entries: history.into_list(),
         faults,
-    }
+    })
 }
 
 #[test]
@@ -132,7 +144,7 @@ fn lines_of_calls_and_replies(rt: HostRuntime) -> Result<(), Fail> {
     let alloc = rt.alloc();
     for (call, reply, text) in CASES {
         let entries = vec![in alloc; Entry::plain(WHO, call, reply, 0, 0)]?;
-        let histories = [of_region(7, 1099511635968, entries, 0)];
+        let histories = [of_region(alloc, 7, 1099511635968, entries, 0)?];
         let lines = format!(in alloc;
             "hmjournal 1\nconfig 4 34359738368 1099511627776 1 1 1 32 1 1\nseed 7\n\
             region 7 1099511635968 1\n1 2 3 4 5 0 0 0 0 0 0 - - - - - - - {text}\nclosed 0\nend\n"
@@ -168,7 +180,7 @@ fn lines_of_runs(rt: HostRuntime) -> Result<(), Fail> {
         Entry::plain(WHO, Call::Fill { addr: 2, runs: one }, Reply::Filled, 0, 0),
         Entry::plain(WHO, fetch, Reply::Bytes(three), 0, 0),
     ]?;
-    let histories = [of_region(196, 70368744177664, entries, 0)];
+    let histories = [of_region(alloc, 196, 70368744177664, entries, 0)?];
     let text = "hmjournal 1\nconfig 4 34359738368 1099511627776 1 1 1 32 1 1\nseed 0\n\
         region 196 70368744177664 3\n\
         1 2 3 4 5 0 0 0 0 0 0 - - - - - - - fill 1 - : 15\n\
@@ -240,8 +252,8 @@ fn full_entry() -> Entry {
 fn lines_of_two_regions(rt: HostRuntime) -> Result<(), Fail> {
     let alloc = rt.alloc();
     let histories = [
-        of_region(0, 5, Vec::new(alloc), 1),
-        of_region(1, 6, vec![in alloc; full_entry()]?, 31),
+        of_region(alloc, 0, 5, Vec::new(alloc), 1)?,
+        of_region(alloc, 1, 6, vec![in alloc; full_entry()]?, 31)?,
     ];
     let text = "hmjournal 1\nconfig 3 1048576 2097152 8 0 1 2 1 0\nseed 2\n\
         region 0 5 0\nclosed 1\nregion 1 6 1\n\

@@ -10,15 +10,14 @@ use Rattle.hm_model.specs.Maps.{at, keys, times, removed}
 use Rattle.hm_model.proofs.Lists.{same_eq, other_eq, eq_same}
 use Rattle.hm_sizes.specs.declared.config.Config.{Config}
 use Rattle.hm_large.specs.declared.store.Store.{Store}
-use Rattle.hm_large.specs.Blocks.{Block, Blocks, covers, covered, byte_at, first_trap, bytes_read}
-use Rattle.hm_large.specs.State.{State}
-use Rattle.hm_large.specs.Laws.{IsInSpace, AreInSpace, IsSound}
+use Rattle.hm_large_rules.specs.State.{Block, Blocks, covers, covered, State, AreGuarded}
+use Rattle.hm_large_rules.specs.Bytes.{byte_at, first_trap, bytes_read, HeldByNone, IsLeft}
+use Rattle.hm_large_rules.specs.Laws.{IsInSpace, AreInSpace, IsSound}
 use Rattle.hm_large.specs.BlockTable.{live_size}
-use Rattle.hm_large.specs.Kept.{kept_or, Shows, AreGuarded}
-use Rattle.hm_large.specs.Stored.{HeldByNone, IsLeft}
-use Rattle.hm_large.proofs.BlockLists.{weight, at_covered, covers_own, in_space_at, how_many_removed, at_removed}
-use Rattle.hm_large.proofs.Legal.{live_once}
-use Rattle.hm_large.proofs.Places.{spans_from}
+use Rattle.hm_large.specs.Kept.{kept_or, Shows}
+use Rattle.hm_large_rules.proofs.BlockLists.{weight, at_covered, covers_own, in_space_at, how_many_removed, at_removed}
+use Rattle.hm_large_rules.proofs.Legal.{live_once}
+use Rattle.hm_large_rules.proofs.Candidates.{spans_from}
 
 -- q is one of the bytes of the entry
 abbrev pub has_byte : ℕ → ℕ × Block → Bool
@@ -175,10 +174,10 @@ two_covered a b q x y m e f ne first second once =
 
 -- the table has the size of each live block
 live_is : (c : Config) (n : ℕ) (s : State) (k : Store) (a : ℕ) → Shows c n s k → live_size (map.get k.blocks.blocks a) ≡ option_map (λ (b : Block). b.size) (at a s.live)
-live_is c n s k a h = ap live_size (h.blocks a) ∙ by_kind (at a s.live) (at a s.held)
+live_is c n s k a h = ap live_size (h.blocks a) ∙ by_kind (at a s.live) (at a s.quarantined)
   where
-    by_kind : (o held : Option Block) → live_size (kept_or o held) ≡ option_map (λ (b : Block). b.size) o
-    by_kind (Some x) held = refl
+    by_kind : (o quarantined : Option Block) → live_size (kept_or o quarantined) ≡ option_map (λ (b : Block). b.size) o
+    by_kind (Some x) quarantined = refl
     by_kind None (Some y) = refl
     by_kind None None = refl
 

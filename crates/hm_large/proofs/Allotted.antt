@@ -3,7 +3,7 @@ use Rattle.std.proofs.Common.{◌≡◌, ℕ, zero, suc, ◌+◌, ◌-◌, ◌*�
 use Rattle.std.specs.FinMap as map
 use Rattle.std.proofs.lemmas.Nat.{mod_below}
 use Rattle.hm_choice.specs.Stream.{Words, next_word, after_word, before_word}
-use Rattle.hm_choice.proofs.Places.{comes_again}
+use Rattle.hm_choice.proofs.Positions.{comes_again}
 use Rattle.hm_model.specs.declared.entry.Reply.{Reply}
 use Rattle.hm_model.specs.Maps.{at}
 use Rattle.hm_outside.specs.declared.pages.Pages as pages
@@ -12,16 +12,16 @@ use Rattle.hm_sizes.specs.declared.config.Config.{Config}
 use Rattle.hm_sizes.specs.Configs.{IsValid}
 use Rattle.hm_region_table.specs.Table.{Table}
 use Rattle.hm_large.specs.declared.store.Store.{Store}
-use Rattle.hm_large.specs.Blocks.{Block, new_block, size_for, guard_of}
-use Rattle.hm_large.specs.State.{State}
-use Rattle.hm_large.specs.Rules.{IsCandidate, IsLeastCandidate}
-use Rattle.hm_large.specs.Laws.{IsSound}
-use Rattle.hm_large.specs.Draws.{stream_after}
+use Rattle.hm_large_rules.specs.State.{Block, size_for, State}
+use Rattle.hm_large_rules.specs.Steps.{new_block}
+use Rattle.hm_large_rules.specs.Draws.{guard_of, stream_after}
+use Rattle.hm_large_rules.specs.Rules.{IsCandidate, IsLeastCandidate}
+use Rattle.hm_large_rules.specs.Laws.{IsSound}
 use Rattle.hm_large.specs.Kept.{kept_or, kept_at, Shows}
 use Rattle.hm_large.specs.BlockTable.{Updates}
-use Rattle.hm_large.specs.Stored.{SameStore, Allots, Ends}
-use Rattle.hm_large.proofs.Places.{candidate_fit}
-use Rattle.hm_large.proofs.Tables.{not_live, not_held}
+use Rattle.hm_large.specs.Gives.{SameStore, Allots, Ends}
+use Rattle.hm_large.proofs.Addresses.{candidate_fit}
+use Rattle.hm_large_rules.proofs.Candidates.{not_live, not_quarantined}
 use Rattle.hm_large.proofs.Shown.{Gives, shows_same, shows_given}
 
 -- ---- words
@@ -51,12 +51,12 @@ same_none c s words align size guard none a k = none a (more_candidate c s words
 
 -- nothing is kept at a candidate
 pub fresh_key : (c : Config) (s : State) (align size guard a : ℕ) → 1 ≤ size → IsSound c s → IsCandidate c s align size guard a → kept_at s a ≡ None
-fresh_key c s align size guard a some h k = by_cases (at a s.live) (at a s.held) refl refl
+fresh_key c s align size guard a some h k = by_cases (at a s.live) (at a s.quarantined) refl refl
   where
-    by_cases : (live held : Option Block) → at a s.live ≡ live → at a s.held ≡ held → kept_at s a ≡ None
-    by_cases (Some x) held e f = absurd (not_live c s align size guard a some h k x e)
-    by_cases None (Some x) e f = absurd (not_held c s align size guard a some h k x f)
-    by_cases None None e f = ap (λ (o : Option Block). kept_or o (at a s.held)) e ∙ ap (kept_or None) f
+    by_cases : (live quarantined : Option Block) → at a s.live ≡ live → at a s.quarantined ≡ quarantined → kept_at s a ≡ None
+    by_cases (Some x) quarantined e f = absurd (not_live c s align size guard a some h k x e)
+    by_cases None (Some x) e f = absurd (not_quarantined c s align size guard a some h k x f)
+    by_cases None None e f = ap (λ (o : Option Block). kept_or o (at a s.quarantined)) e ∙ ap (kept_or None) f
 
 -- a candidate lies below 2 ^ 47
 pub candidate_below : (c : Config) (s : State) (align size guard a : ℕ) → IsValid c → IsCandidate c s align size guard a → a + size ≤ 2 ^ 47
@@ -81,7 +81,7 @@ shows_drawn c n s k r d e same words h =
 pub shows_table : (c : Config) (n : ℕ) (s : State) (k new : Store) → Shows c n s k → SameStore k new → new.words ≡ k.words → Shows c n s new
 shows_table c n s k new h same words = shows_same c n s k new s.words h same (words ∙ h.words)
 
--- the place that was found in it is the lowest candidate
+-- the address that was found in it is the lowest candidate
 pub found_least : (c : Config) (n : ℕ) (s : State) (k r d : Store) (align size guard a : ℕ) → d ≡ record r { words = after_word r.words } → SameStore k r → r.words ≡ k.words
     → ((c : Config) (n : ℕ) (s : State) → Shows c n s d → IsLeastCandidate c s align size guard a) → Shows c n s k → IsLeastCandidate c s align size guard a
 found_least c n s k r d align size guard a e same words found h =
@@ -94,7 +94,7 @@ module _ {P : Type 0} (meaning : pages.Ghosts P) (c : Config) (n : ℕ) (s : Sta
   allots_from r' new h e words drawn by ends = record { word = drawn ∙ ap next_word (words ∙ h.words); guard = by ∙ ap (λ z. guard_of z word) e; ends = ends }
 
 -- the table, the free ranges and the count once a block was put in
-pub gives_from : (d new : Store) (blocks : Table) (a asked size guard : ℕ) → Updates d.blocks blocks a (Some (record { asked = asked; size = size; guard = guard; held = false; failed = false }))
+pub gives_from : (d new : Store) (blocks : Table) (a asked size guard : ℕ) → Updates d.blocks blocks a (Some (record { asked = asked; size = size; guard = guard; quarantined = false; failed = false }))
     → new.blocks ≡ blocks → TakesRange d.space new.space (a - 4096 * guard) (size + 2 * (4096 * guard)) → new.space.out ≡ d.space.out + 1 → new.quarantine ≡ d.quarantine → new.owed ≡ d.owed + 1
     → Gives d new a asked size guard
 gives_from d new blocks a asked size guard put same takes out quarantine owed = record {

@@ -11,7 +11,7 @@ use Rattle.hm_model.proofs.Lists.{same_eq}
 use Rattle.hm_region_table.specs.declared.entry.Block.{Block as KeptBlock}
 use Rattle.hm_region_table.specs.Table.{Blocks, Table}
 use Rattle.hm_large.specs.BlockTable.{live_size, AreLive, Updates, FindsLast}
-use Rattle.hm_large.proofs.Tables.{map_test}
+use Rattle.hm_large_rules.proofs.SizeMaps.{map_test}
 
 -- ---- the table
 pub nothing_there : (t : Table) → t.blocks ≡ map.empty → (q : ℕ) → map.get t.blocks q ≡ None
@@ -55,7 +55,7 @@ none_live t live e f q =
     ap (λ (es : List (ℕ × ℕ)). lookup (tree.is_at (nat_cmp q)) es) f ∙ sym (ap live_size (nothing_there t e q))
 
 -- ---- a state that is live or in quarantine
-pub live_of : (b : KeptBlock) (size : ℕ) → b.held ≡ false → b.size ≡ size → live_size (Some b) ≡ Some size
+pub live_of : (b : KeptBlock) (size : ℕ) → b.quarantined ≡ false → b.size ≡ size → live_size (Some b) ≡ Some size
 live_of b size live e = ap (λ (t : Bool). cond t None (Some b.size)) live ∙ ap Some e
 
 -- what is found by one map of sizes is found by another that agrees with it

@@ -1,7 +1,4 @@
-pub mod BlockLists
-pub mod Legal
-pub mod Delay
-pub mod Places
+pub mod Addresses
 pub mod Tables
 pub mod BlockTables
 pub mod Shown
@@ -11,8 +8,3 @@ pub mod Entries
 pub mod Accessed
 pub mod Parts
 pub mod Reached
-pub mod Zeros
-pub mod SameRuns
-pub mod SameEntry
-pub mod SizeMaps
-pub mod LiveSizes

@@ -13,7 +13,7 @@ use Rattle.hm_model.proofs.Lists.{same_eq, other_eq, eq_same}
 use Rattle.hm_base.specs.Lists.{written}
 use Rattle.hm_outside.specs.PageRuns.{PageRuns, Lies, Writes, IsHeld}
 use Rattle.hm_large.specs.Access.{AreDisjoint}
-use Rattle.hm_large.proofs.Tables.{map_test}
+use Rattle.hm_large_rules.proofs.SizeMaps.{map_test}
 
 -- ---- maps
 got : (runs : PageRuns) (q k : ℕ) (b : List ℕ) → map.get (map.insert runs q b) k ≡ cond (q == k) (Some b) (map.get runs k)
@@ -122,10 +122,6 @@ run_over runs mid new q b addr len at byte n w apart is lies within begins over 
         to = omega (arith, begins, lies.from, lies.to, within, written_length b (addr - q) w (omega (arith, lies.from, lies.to, within)));
       },
     )
-
--- all of them were written
-pub all_over : (runs new : PageRuns) (q : ℕ) (b : List ℕ) (addr len : ℕ) (w : List ℕ) → map.get runs q ≡ Some b → Lies q b addr len → IsOver runs q b addr w new → Writes runs addr len w new
-all_over runs new q b addr len w is lies over = record { first = q; bytes = b; is_run = is; lies = lies; value = over }
 
 -- ---- the bytes of one run more
 pub expand_front : (pairs : List (ℕ × ℕ)) (i : ℕ) → i < length pairs → expand (take (i + 1) pairs) ≡ expand (take i pairs) ++ replicate (get_or pairs i (0, 0)).1 (get_or pairs i (0, 0)).0

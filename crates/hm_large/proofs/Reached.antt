@@ -25,23 +25,23 @@ use Rattle.hm_base.specs.Lists.{written}
 use Rattle.hm_outside.specs.PageRuns.{PageRuns, Reads, Writes, IsHeld}
 use Rattle.hm_sizes.specs.declared.config.Config.{Config}
 use Rattle.hm_large.specs.declared.store.Store.{Store}
-use Rattle.hm_large.specs.declared.access.Reading.{Reading}
-use Rattle.hm_large.specs.declared.access.Reading.TheVariants as reading
+use Rattle.hm_large.specs.declared.access.Fetched.{Fetched}
+use Rattle.hm_large.specs.declared.access.Fetched.TheVariants as fetched
 use Rattle.hm_large.specs.Access.{fetch_reply, fill_reply, IsRead, SameButPageRuns, AreDisjoint}
-use Rattle.hm_large.specs.Blocks.{Block, Blocks, covers, covered, is_quarantined, is_owed, first_trap, bytes_read, overlay, written_over, mark}
-use Rattle.hm_large.specs.State.{State, start, step, changed, takes_back, releases, free_of}
-use Rattle.hm_large.specs.Rules.{Allowed, state}
-use Rattle.hm_large.specs.Draws.{Drawn, EntryDraws}
-use Rattle.hm_large.specs.Laws.{IsSound}
+use Rattle.hm_large_rules.specs.Bytes.{HeldByNone, first_trap, bytes_read, overlay, overlaid_blocks}
+use Rattle.hm_large_rules.specs.State.{Block, Blocks, covers, covered, is_quarantined, is_owed, State, start, AreGuarded}
+use Rattle.hm_large_rules.specs.Steps.{mark, step, changed, takes_back, releases, free_at}
+use Rattle.hm_large_rules.specs.Rules.{Allowed, state}
+use Rattle.hm_large_rules.specs.Drawn.{IsDrawnEntry, IsDrawnEvent}
+use Rattle.hm_large_rules.specs.Laws.{IsSound}
 use Rattle.hm_large.specs.Region.{HoldsBlocks}
-use Rattle.hm_large.specs.Kept.{kept_or, Shows, IsKept, AreGuarded}
-use Rattle.hm_large.specs.Stored.{HeldByNone}
-use Rattle.hm_large.proofs.BlockLists.{in_space_at, covers_own, how_many_same, length_same}
-use Rattle.hm_large.proofs.Places.{spans_from}
-use Rattle.hm_large.proofs.Tables.{map_test}
+use Rattle.hm_large.specs.Kept.{kept_or, Shows, IsKept}
+use Rattle.hm_large_rules.proofs.BlockLists.{in_space_at, covers_own, how_many_same, length_same}
+use Rattle.hm_large_rules.proofs.Candidates.{spans_from}
+use Rattle.hm_large_rules.proofs.SizeMaps.{map_test}
 use Rattle.hm_large.proofs.Accessed.{bytes_there, byte_there, no_trap, two_covered}
-use Rattle.hm_large.proofs.Legal.{live_once}
-use Rattle.hm_large.proofs.Entries.{AreSame, all_same, terms_of, state_same, kept_sound, kept_plain, kept_push, shows_step, none_drawn}
+use Rattle.hm_large_rules.proofs.Legal.{live_once, state_same}
+use Rattle.hm_large.proofs.Entries.{AreSame, all_same, terms_of, kept_sound, kept_plain, kept_push, shows_step, none_drawn}
 
 -- ---- each live block has a guard
 guarded_removed : (a : ℕ) (m : Blocks) → AreGuarded m → AreGuarded (removed a m)
@@ -57,14 +57,14 @@ guarded_freed s a word None None h = h
 guarded_freed s a word None (Some b) h = h
 guarded_freed s a word (Some x) r h = out r (is_quarantined x)
   where
-    out : (r : Option ℕ) (t : Bool) → AreGuarded (releases r (cond t (record s { live = removed a s.live; held = (a, x) ∷ s.held; frees = free_of a word ∷ s.frees }) (record s { live = removed a s.live }))).live
+    out : (r : Option ℕ) (t : Bool) → AreGuarded (releases r (cond t (record s { live = removed a s.live; quarantined = (a, x) ∷ s.quarantined; frees = free_at a word ∷ s.frees }) (record s { live = removed a s.live }))).live
     out None true = guarded_removed a s.live h
     out None false = guarded_removed a s.live h
     out (Some b) true = guarded_removed a s.live h
     out (Some b) false = guarded_removed a s.live h
 
 -- an entry leaves each live block a guard
-pub guarded_changed : (n : ℕ) (s : State) (e : Entry) (c : Call) (r : Reply) → AreGuarded s.live → EntryDraws n s e c r → AreGuarded (changed e c r s).live
+pub guarded_changed : (n : ℕ) (s : State) (e : Entry) (c : Call) (r : Reply) → AreGuarded s.live → IsDrawnEvent n s e c r → AreGuarded (changed e c r s).live
 guarded_changed n s e (call.Allot asked align) (reply.Given a size) h draws = (omega (arith, ap (λ (o : Option ℕ). unwrap_or o 0) draws.1), h)
 guarded_changed n s e (call.GiveBack a stated) reply.PagesFailed h draws = guarded_same (mark a) (λ e. refl) s.live h
 guarded_changed n s e (call.GiveBack a stated) reply.Freed h draws = guarded_freed s a e.draws.w0 (at a s.live) e.choices.released h
@@ -73,8 +73,8 @@ guarded_changed n s e c r h draws = h
 
 pub kept_guarded : {P : Type 0} (meaning : pages.Ghosts P) (p : P) (c : Config) (n : ℕ) (es : List Entry) (k : Store) → IsKept meaning p c n es k → AreGuarded (state (terms_of c (meaning.told p)) es).live
 kept_guarded meaning p c n es k h =
-    subst (λ (s : State). AreGuarded s.live) (state_same (Drawn n) (Allowed (terms_of c (meaning.told p))) start es)
-    (legal_keeps step (Drawn n) (λ s. AreGuarded s.live) (λ s e g draws. guarded_changed n s e e.call e.reply g draws) start es tt h.drawn)
+    subst (λ (s : State). AreGuarded s.live) (state_same (IsDrawnEntry n) (Allowed (terms_of c (meaning.told p))) start es)
+    (legal_keeps step (IsDrawnEntry n) (λ s. AreGuarded s.live) (λ s e g draws. guarded_changed n s e e.call e.reply g draws) start es tt h.drawn)
 
 -- ---- reading
 -- a run that is there is that of a block
@@ -121,16 +121,16 @@ disjoint_blocks c s runs sound holds p q b d first second ne =
         )
 
 -- ---- writing
-at_overlaid : (q a : ℕ) (w : List ℕ) (m : Blocks) → at q (written_over a w m) ≡ option_map (λ (b : Block). (overlay a w (q, b)).1) (at q m)
+at_overlaid : (q a : ℕ) (w : List ℕ) (m : Blocks) → at q (overlaid_blocks a w m) ≡ option_map (λ (b : Block). (overlay a w (q, b)).1) (at q m)
 at_overlaid q a w [] = refl
 at_overlaid q a w (y ∷ m) =
-    elim (y.0 == q) as (λ t. (y.0 == q) ≡ t → cond t (Some (overlay a w y).1) (at q (written_over a w m)) ≡ option_map (λ (b : Block). (overlay a w (q, b)).1) (cond t (Some y.1) (at q m))) [
+    elim (y.0 == q) as (λ t. (y.0 == q) ≡ t → cond t (Some (overlay a w y).1) (at q (overlaid_blocks a w m)) ≡ option_map (λ (b : Block). (overlay a w (q, b)).1) (cond t (Some y.1) (at q m))) [
       | true ↦ λ is. (let e : y.0 ≡ q = eq_same y.0 q is in ap (λ k. Some (overlay a w (k, y.1)).1) e)
       | false ↦ λ is. at_overlaid q a w m
     ] refl
 
 -- what the pages have once it is written is what the blocks have
-pub writes_blocks : (c : Config) (s : State) (runs after : PageRuns) (a : ℕ) (w : List ℕ) → IsSound c s → HoldsBlocks s.live runs → Writes runs a (length w) w after → HoldsBlocks (written_over a w s.live) after
+pub writes_blocks : (c : Config) (s : State) (runs after : PageRuns) (a : ℕ) (w : List ℕ) → IsSound c s → HoldsBlocks s.live runs → Writes runs a (length w) w after → HoldsBlocks (overlaid_blocks a w s.live) after
 writes_blocks c s runs after a w sound holds h q =
     ap (λ (r : PageRuns). finite.get r q) h.value
     ∙ (get-insert nat_cmp_total runs h.first (written h.bytes (a - h.first) w) q
@@ -185,31 +185,31 @@ writes_blocks c s runs after a w sound holds h q =
     there : (h.first ≡ q → ⊥) → cond (h.first == q) (Some (written h.bytes (a - h.first) w)) (finite.get runs q) ≡ option_map (λ (b : Block). b.bytes) (option_map (λ (b : Block). (overlay a w (q, b)).1) (at q s.live))
     there ne = ap (λ (t : Bool). cond t (Some (written h.bytes (a - h.first) w)) (finite.get runs q)) (other_eq h.first q ne) ∙ (holds q ∙ stays (at q s.live) refl ne)
 
-at_kept : (q a : ℕ) (w : List ℕ) (live held : Option Block) → kept_or (option_map (λ (b : Block). (overlay a w (q, b)).1) live) held ≡ kept_or live held
-at_kept q a w None held = refl
-at_kept q a w (Some b) held = refl
+at_kept : (q a : ℕ) (w : List ℕ) (live quarantined : Option Block) → kept_or (option_map (λ (b : Block). (overlay a w (q, b)).1) live) quarantined ≡ kept_or live quarantined
+at_kept q a w None quarantined = refl
+at_kept q a w (Some b) quarantined = refl
 
-shows_written : (c : Config) (n : ℕ) (s : State) (k : Store) (a : ℕ) (w : List ℕ) → Shows c n s k → Shows c n (record s { live = written_over a w s.live }) k
+shows_written : (c : Config) (n : ℕ) (s : State) (k : Store) (a : ℕ) (w : List ℕ) → Shows c n s k → Shows c n (record s { live = overlaid_blocks a w s.live }) k
 shows_written c n s k a w h = record {
-  blocks = λ q. h.blocks q ∙ sym (ap (λ (o : Option Block). kept_or o (at q s.held)) (at_overlaid q a w s.live) ∙ at_kept q a w (at q s.live) (at q s.held));
+  blocks = λ q. h.blocks q ∙ sym (ap (λ (o : Option Block). kept_or o (at q s.quarantined)) (at_overlaid q a w s.live) ∙ at_kept q a w (at q s.live) (at q s.quarantined));
   space = λ q. (let same = how_many_same (covers q) (overlay a w) (λ e. refl) s.live in ((λ f. (((h.space q).0 f).0, omega (arith, ((h.space q).0 f).1, same))), (λ o. (h.space q).1 (o.0, omega (arith, o.1, same)))));
   out = omega (arith, h.out, length_same (overlay a w) s.live);
   quarantine = h.quarantine;
   words = h.words;
   owed_is = h.owed_is ∙ sym (how_many_same is_owed (overlay a w) (λ e. refl) s.live);
-  held_are = h.held_are;
-  places = h.places;
+  quarantined_are = h.quarantined_are;
+  indices = h.indices;
   new = h.new;
 }
 
 -- ---- entries
 module _ {P : Type 0} (meaning : pages.Ghosts P) (p : P) (c : Config) (n : ℕ) (es : List Entry) (k : Store) (who : Who) (a : ℕ) where
   -- what reading found
-  pub kept_read : (len : ℕ) (found : Reading) → IsRange a len → IsKept meaning p c n es k → IsFetchReply a len (fetch_reply found) → (IsTrue (meaning.told p) → IsRead (state (terms_of c (meaning.told p)) es).live a len found)
+  pub kept_read : (len : ℕ) (found : Fetched) → IsRange a len → IsKept meaning p c n es k → IsFetchReply a len (fetch_reply found) → (IsTrue (meaning.told p) → IsRead (state (terms_of c (meaning.told p)) es).live a len found)
       → IsKept meaning p c n (es ++ entry_of who (call.Fetch a len) (fetch_reply found) no_choices no_words (meaning.faults p) (meaning.faults p) ∷ []) k
-  kept_read len (reading.Bytes runs) asks h count is =
+  kept_read len (fetched.Bytes runs) asks h count is =
       kept_plain meaning p p c n es k (entry_of who (call.Fetch a len) (reply.Bytes runs) no_choices no_words (meaning.faults p) (meaning.faults p)) h (all_same meaning p) refl refl refl (asks, (count, is, refl), refl, refl)
-  kept_read len (reading.Trap trap) asks h within is =
+  kept_read len (fetched.Trap trap) asks h within is =
       kept_plain meaning p p c n es k (entry_of who (call.Fetch a len) (reply.Trap trap) no_choices no_words (meaning.faults p) (meaning.faults p)) h (all_same meaning p) refl refl refl (asks, (is, refl), refl, refl)
 
   -- nothing was written
@@ -240,7 +240,7 @@ module _ {P : Type 0} (meaning : pages.Ghosts P) (p : P) (c : Config) (n : ℕ) 
         allowed,
         refl,
         (λ tells. writes_blocks c s (meaning.runs p) (meaning.runs now) a (expand found) sound (h.held tells) (writes tells)),
-        shows_step c n (record s { live = written_over a (expand found) s.live }) k (0 + s.words) (meaning.faults p) (shows_written c n s k a (expand found) h.shows) (omega arith),
+        shows_step c n (record s { live = overlaid_blocks a (expand found) s.live }) k (0 + s.words) (meaning.faults p) (shows_written c n s k a (expand found) h.shows) (omega arith),
       )
       same.count
 

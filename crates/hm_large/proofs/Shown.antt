@@ -9,17 +9,15 @@ use Rattle.hm_space.specs.Ranges.{IsWithin, IsInSome}
 use Rattle.hm_space.specs.Space.{FreeSpace, IsFree, TakesRange}
 use Rattle.hm_sizes.specs.declared.config.Config.{Config}
 use Rattle.hm_large.specs.declared.store.Store.{Store}
-use Rattle.hm_large.specs.Blocks.{Block, Blocks, covers, spans, mark, marked, owed}
-use Rattle.hm_large.specs.State.{State}
-use Rattle.hm_large.specs.Rules.{in_space, taken}
-use Rattle.hm_large.specs.Laws.{IsSound}
-use Rattle.hm_large.specs.Draws.{stream_after}
-use Rattle.hm_large.specs.Kept.{kept_of, kept_or, kept_at, IsOpen, Shows}
-use Rattle.hm_large.specs.Stored.{SameStore}
-use Rattle.hm_large.proofs.Places.{FreeIsOpen, within_spans, spans_within}
-use Rattle.hm_large.proofs.Tables.{at_marked}
-use Rattle.hm_large.proofs.BlockLists.{weight, how_many_same, length_same}
-use Rattle.hm_large.proofs.Legal.{live_once}
+use Rattle.hm_large_rules.specs.State.{Block, Blocks, covers, spans, owed, in_space, taken, State, IsOpen}
+use Rattle.hm_large_rules.specs.Steps.{mark, marked}
+use Rattle.hm_large_rules.specs.Laws.{IsSound}
+use Rattle.hm_large_rules.specs.Draws.{stream_after}
+use Rattle.hm_large.specs.Kept.{kept_of, kept_or, kept_at, Shows}
+use Rattle.hm_large.specs.Gives.{SameStore}
+use Rattle.hm_large.proofs.Addresses.{FreeIsOpen, within_spans, spans_within}
+use Rattle.hm_large_rules.proofs.BlockLists.{at_marked, weight, how_many_same, length_same}
+use Rattle.hm_large_rules.proofs.Legal.{live_once}
 
 pub shows_same : (c : Config) (n : ℕ) (s : State) (k new : Store) (words : ℕ) → Shows c n s k → SameStore k new → new.words ≡ stream_after n words → Shows c n (record s { words = words }) new
 shows_same c n s k new words h same drawn = record {
@@ -29,14 +27,14 @@ shows_same c n s k new words h same drawn = record {
   quarantine = same.quarantine ∙ h.quarantine;
   words = drawn;
   owed_is = same.owed_same ∙ h.owed_is;
-  held_are = h.held_are;
-  places = h.places;
+  quarantined_are = h.quarantined_are;
+  indices = h.indices;
   new = h.new;
 }
 
 -- what the store is once a block was put in
 pub record Gives (old new : Store) (a asked size guard : ℕ) : Type 0 where
-  pub blocks : (q : ℕ) → map.get new.blocks.blocks q ≡ cond (a == q) (Some (record { asked = asked; size = size; guard = guard; held = false; failed = false })) (map.get old.blocks.blocks q)
+  pub blocks : (q : ℕ) → map.get new.blocks.blocks q ≡ cond (a == q) (Some (record { asked = asked; size = size; guard = guard; quarantined = false; failed = false })) (map.get old.blocks.blocks q)
   pub space : (q : ℕ) → IsFree new.space q ↔ (IsFree old.space q × (IsWithin (a - 4096 * guard) (size + 2 * (4096 * guard)) q → ⊥))
   pub out : new.space.out ≡ old.space.out + 1
   pub quarantine : new.quarantine ≡ old.quarantine
@@ -59,25 +57,25 @@ open_given c s old new a words x low clear free takes q = (λ f. to ((takes q).0
 pub shows_given : (c : Config) (n : ℕ) (s : State) (k new : Store) (a words : ℕ) (x : Block) → x.failed ≡ false → 4096 * x.guard ≤ a → ((q : ℕ) → spans a x.size x.guard q ≡ true → taken s q ≡ 0)
     → Shows c n s k → Gives k new a x.asked x.size x.guard → new.words ≡ stream_after n words → Shows c n (record s { live = (a, x) ∷ s.live; words = words }) new
 shows_given c n s k new a words x fresh low clear h gives drawn = record {
-  blocks = λ q. gives.blocks q ∙ (ap (λ o. cond (a == q) (Some (record { asked = x.asked; size = x.size; guard = x.guard; held = false; failed = false })) o) (h.blocks q) ∙ (ap (λ f. cond (a == q) (Some (record { asked = x.asked; size = x.size; guard = x.guard; held = false; failed = f })) (kept_at s q)) (sym fresh) ∙ pushed (a == q) q));
+  blocks = λ q. gives.blocks q ∙ (ap (λ o. cond (a == q) (Some (record { asked = x.asked; size = x.size; guard = x.guard; quarantined = false; failed = false })) o) (h.blocks q) ∙ (ap (λ f. cond (a == q) (Some (record { asked = x.asked; size = x.size; guard = x.guard; quarantined = false; failed = f })) (kept_at s q)) (sym fresh) ∙ pushed (a == q) q));
   space = open_given c s k.space new.space a words x low clear h.space gives.space;
   out = omega (arith, gives.out, h.out);
   quarantine = gives.quarantine ∙ h.quarantine;
   words = drawn;
   owed_is = gives.owed_more ∙ (omega (arith, h.owed_is, owed_one));
-  held_are = h.held_are;
-  places = h.places;
+  quarantined_are = h.quarantined_are;
+  indices = h.indices;
   new = h.new;
 }
   where
-    pushed : (t : Bool) (q : ℕ) → cond t (Some (kept_of false x)) (kept_at s q) ≡ kept_or (cond t (Some x) (at q s.live)) (at q s.held)
+    pushed : (t : Bool) (q : ℕ) → cond t (Some (kept_of false x)) (kept_at s q) ≡ kept_or (cond t (Some x) (at q s.live)) (at q s.quarantined)
     pushed true q = refl
     pushed false q = refl
 
     owed_one : owed ((a, x) ∷ s.live) ≡ 1 + owed s.live
     owed_one = ap (λ f. weight (not f) + owed s.live) fresh
 
--- ---- a page failed as the block at a was to be taken back
+-- ---- a page fault occurred as the block at a was to be taken back
 marked_none : (a : ℕ) (m : Blocks) → times a (keys m) ≡ 0 → marked a m ≡ m
 marked_none a [] e = refl
 marked_none a (y ∷ m) e =
@@ -105,19 +103,19 @@ owed_marked a x (y ∷ m) e once =
         by_flag true w same = omega arith
         by_flag false w same = omega arith
 
-kept_marked : (s : State) (a q : ℕ) (x : Block) → at a s.live ≡ Some x → kept_or (at q (marked a s.live)) (at q s.held) ≡ cond (a == q) (Some (record (kept_of false x) { failed = true })) (kept_at s q)
-kept_marked s a q x e = ap (λ (o : Option Block). kept_or o (at q s.held)) (at_marked q a s.live) ∙ ⊎_elim here there (cases_eq a q)
+kept_marked : (s : State) (a q : ℕ) (x : Block) → at a s.live ≡ Some x → kept_or (at q (marked a s.live)) (at q s.quarantined) ≡ cond (a == q) (Some (record (kept_of false x) { failed = true })) (kept_at s q)
+kept_marked s a q x e = ap (λ (o : Option Block). kept_or o (at q s.quarantined)) (at_marked q a s.live) ∙ ⊎_elim here there (cases_eq a q)
   where
-    here : a ≡ q → kept_or (option_map (λ (b : Block). (mark a (q, b)).1) (at q s.live)) (at q s.held) ≡ cond (a == q) (Some (record (kept_of false x) { failed = true })) (kept_at s q)
+    here : a ≡ q → kept_or (option_map (λ (b : Block). (mark a (q, b)).1) (at q s.live)) (at q s.quarantined) ≡ cond (a == q) (Some (record (kept_of false x) { failed = true })) (kept_at s q)
     here same =
-        ap (λ (o : Option Block). kept_or (option_map (λ (b : Block). (mark a (q, b)).1) o) (at q s.held)) (subst (λ (k : ℕ). at k s.live ≡ Some x) same e)
+        ap (λ (o : Option Block). kept_or (option_map (λ (b : Block). (mark a (q, b)).1) o) (at q s.quarantined)) (subst (λ (k : ℕ). at k s.live ≡ Some x) same e)
         ∙ (ap (λ t. Some (record (kept_of false x) { failed = t || x.failed })) (same_eq q a (sym same)) ∙ sym (ap (λ t. cond t (Some (record (kept_of false x) { failed = true })) (kept_at s q)) (same_eq a q same)))
 
-    unmarked : (q == a) ≡ false → (live : Option Block) → kept_or (option_map (λ (b : Block). (mark a (q, b)).1) live) (at q s.held) ≡ kept_or live (at q s.held)
+    unmarked : (q == a) ≡ false → (live : Option Block) → kept_or (option_map (λ (b : Block). (mark a (q, b)).1) live) (at q s.quarantined) ≡ kept_or live (at q s.quarantined)
     unmarked other None = refl
     unmarked other (Some b) = ap (λ t. Some (record (kept_of false b) { failed = t || b.failed })) other
 
-    there : (a ≡ q → ⊥) → kept_or (option_map (λ (b : Block). (mark a (q, b)).1) (at q s.live)) (at q s.held) ≡ cond (a == q) (Some (record (kept_of false x) { failed = true })) (kept_at s q)
+    there : (a ≡ q → ⊥) → kept_or (option_map (λ (b : Block). (mark a (q, b)).1) (at q s.live)) (at q s.quarantined) ≡ cond (a == q) (Some (record (kept_of false x) { failed = true })) (kept_at s q)
     there ne = unmarked (other_eq q a (λ e. ne (sym e))) (at q s.live) ∙ sym (ap (λ t. cond t (Some (record (kept_of false x) { failed = true })) (kept_at s q)) (other_eq a q ne))
 
 pub shows_marked : (c : Config) (n : ℕ) (s : State) (k new : Store) (a : ℕ) (x : Block) → IsSound c s → at a s.live ≡ Some x → Shows c n s k
@@ -131,7 +129,7 @@ shows_marked c n s k new a x sound e h blocks space quarantine words less = reco
   quarantine = quarantine ∙ h.quarantine;
   words = words ∙ h.words;
   owed_is = omega (arith, less, h.owed_is, owed_marked a x s.live e (live_once c s a sound));
-  held_are = h.held_are;
-  places = h.places;
+  quarantined_are = h.quarantined_are;
+  indices = h.indices;
   new = h.new;
 }

@@ -1,30 +1,22 @@
 -- The table and the runs after a change, address by address.
-use Rattle.std.proofs.Common.{◌≡◌, ◌⊎◌, inl, inr, ⊎_elim, ℕ, ◌+◌, ◌<◌, ◌≤◌, ◌==◌, Bool, true, false, cond, List, [], ◌∷◌, length, Option, Some, None, option_map, sym, ◌∙◌, ap, subst, refl, arith}
-use Rattle.std.specs.Ordering.{nat_cmp, eq_by_cmp}
+use Rattle.std.proofs.Common.{◌≡◌, ◌⊎◌, ⊎_elim, ℕ, ◌+◌, ◌≤◌, ◌==◌, Bool, true, false, cond, List, ◌∷◌, length, Option, Some, None, option_map, sym, ◌∙◌, ap, subst, refl}
 use Rattle.std.specs.FinMap as finite
 use Rattle.std.specs.FinMap.{get-insert, get-remove}
-use Rattle.std.proofs.lemmas.Bool.{cases_eq, cases_lt}
-use Rattle.std.proofs.lemmas.Bool.Decides.{nat_tests}
+use Rattle.std.proofs.lemmas.Bool.{cases_eq}
 use Rattle.std.proofs.lemmas.Cmp.{nat_cmp_total}
 use Rattle.std.proofs.lemmas.Option.{none-some, same_Some}
 use Rattle.hm_model.specs.Maps.{at, removed}
-use Rattle.hm_model.proofs.Lists.{same_eq, other_eq, eq_same}
+use Rattle.hm_model.proofs.Lists.{same_eq, other_eq}
 use Rattle.hm_outside.specs.PageRuns.{PageRuns, MeetsNone}
 use Rattle.hm_sizes.specs.declared.config.Config.{Config}
-use Rattle.hm_large.specs.Blocks.{Block, Blocks, mark, marked}
-use Rattle.hm_large.specs.State.{State}
-use Rattle.hm_large.specs.Rules.{taken, IsCandidate}
-use Rattle.hm_large.specs.Laws.{IsSound}
+use Rattle.hm_large_rules.specs.State.{Block, Blocks, State}
+use Rattle.hm_large_rules.specs.Steps.{mark, marked}
+use Rattle.hm_large_rules.specs.Rules.{IsCandidate}
+use Rattle.hm_large_rules.specs.Laws.{IsSound}
 use Rattle.hm_large.specs.Region.{HoldsBlocks}
-use Rattle.hm_large.proofs.BlockLists.{at_covered, in_space_at, covers_own, at_removed, at_removed_same}
-use Rattle.hm_large.proofs.Places.{spans_from}
-
--- ---- tests of keys
-pub tree_test : (k q : ℕ) → eq_by_cmp nat_cmp k q ≡ (k == q)
-tree_test k q = grind (arith, nat_tests)
-
-pub map_test : (q k : ℕ) → eq_by_cmp nat_cmp q k ≡ (k == q)
-map_test q k = grind (arith, nat_tests)
+use Rattle.hm_large_rules.proofs.BlockLists.{in_space_at, at_removed, at_removed_same, at_marked}
+use Rattle.hm_large_rules.proofs.Candidates.{not_live, bytes_apart}
+use Rattle.hm_large_rules.proofs.SizeMaps.{map_test}
 
 -- ---- the runs
 -- a new run is that of a new block
@@ -49,14 +41,6 @@ holds_removed live runs a h q = ⊎_elim here there (cases_eq a q)
     there ne = value ∙ (ap (λ (t : Bool). cond t None (finite.get runs q)) (other_eq a q ne) ∙ (h q ∙ sym (ap (option_map (λ (b : Block). b.bytes)) (at_removed q a live ne))))
 
 -- a mark changes no bytes
-pub at_marked : (q a : ℕ) (m : Blocks) → at q (marked a m) ≡ option_map (λ (b : Block). (mark a (q, b)).1) (at q m)
-at_marked q a [] = refl
-at_marked q a (y ∷ m) =
-    elim (y.0 == q) as (λ t. (y.0 == q) ≡ t → cond t (Some (mark a y).1) (at q (marked a m)) ≡ option_map (λ (b : Block). (mark a (q, b)).1) (cond t (Some y.1) (at q m))) [
-      | true ↦ λ is. (let e : y.0 ≡ q = eq_same y.0 q is in ap (λ k. Some (mark a (k, y.1)).1) e)
-      | false ↦ λ is. at_marked q a m
-    ] refl
-
 pub holds_marked : (live : Blocks) (runs : PageRuns) (a : ℕ) → HoldsBlocks live runs → HoldsBlocks (marked a live) runs
 holds_marked live runs a h q = h q ∙ (kept (at q live) ∙ sym (ap (option_map (λ (b : Block). b.bytes)) (at_marked q a live)))
   where
@@ -64,27 +48,8 @@ holds_marked live runs a h q = h q ∙ (kept (at q live) ∙ sym (ap (option_map
     kept None = refl
     kept (Some b) = refl
 
--- ---- a candidate's place is free
+-- ---- a new run meets none
 module _ (c : Config) (s : State) (align size guard a : ℕ) where
-  own_span : 1 ≤ size → IsCandidate c s align size guard a → taken s a ≡ 0
-  own_span some k = k.free a (spans_from a size guard a (omega arith) (omega arith))
-
-  pub not_live : 1 ≤ size → IsSound c s → IsCandidate c s align size guard a → (x : Block) → at a s.live ≡ Some x → ⊥
-  not_live some h k x e = omega (arith, own_span some k, at_covered a a x s.live e (covers_own c (a, x) (in_space_at c a x s.live h.live e)))
-
-  pub not_held : 1 ≤ size → IsSound c s → IsCandidate c s align size guard a → (x : Block) → at a s.held ≡ Some x → ⊥
-  not_held some h k x e = omega (arith, own_span some k, at_covered a a x s.held e (covers_own c (a, x) (in_space_at c a x s.held h.held e)))
-
-  -- its bytes lie apart from those of each live block
-  pub bytes_apart : 1 ≤ size → IsSound c s → IsCandidate c s align size guard a → (q : ℕ) (x : Block) → at q s.live ≡ Some x → (q + x.size ≤ a) ⊎ (a + size ≤ q)
-  bytes_apart some h k q x e = ⊎_elim (λ (lt : q < a). ⊎_elim (λ in_x. absurd (in_block lt in_x)) inl (cases_lt a (q + x.size))) (λ (le : a ≤ q). ⊎_elim (λ inside. absurd (in_new le inside)) inr (cases_lt q (a + size))) (cases_lt q a)
-    where
-      in_block : q < a → a < q + x.size → ⊥
-      in_block lt in_x = omega (arith, own_span some k, at_covered a q x s.live e (spans_from q x.size x.guard a (omega arith) (omega arith)))
-
-      in_new : a ≤ q → q < a + size → ⊥
-      in_new le inside = omega (arith, k.free q (spans_from a size guard q (omega arith) (omega arith)), at_covered q q x s.live e (covers_own c (q, x) (in_space_at c q x s.live h.live e)))
-
   pub meets_none : (runs : PageRuns) → 1 ≤ size → IsSound c s → IsCandidate c s align size guard a → HoldsBlocks s.live runs → MeetsNone runs a size
   meets_none runs some h k holds = record {
     fresh = none (at a s.live) refl;
@@ -93,11 +58,11 @@ module _ (c : Config) (s : State) (align size guard a : ℕ) where
     where
       none : (o : Option Block) → at a s.live ≡ o → finite.get runs a ≡ None
       none None e = holds a ∙ ap (option_map (λ (b : Block). b.bytes)) e
-      none (Some x) e = absurd (not_live some h k x e)
+      none (Some x) e = absurd (not_live c s align size guard a some h k x e)
 
       by_block : (q : ℕ) (b : List ℕ) (o : Option Block) → at q s.live ≡ o → option_map (λ (x : Block). x.bytes) (at q s.live) ≡ Some b → (q + length b ≤ a) ⊎ (a + size ≤ q)
       by_block q b None e f = absurd (none-some b (sym (ap (option_map (λ (x : Block). x.bytes)) e) ∙ f))
       by_block q b (Some x) e f =
           let same : x.bytes ≡ b = same_Some x.bytes b (sym (ap (option_map (λ (y : Block). y.bytes)) e) ∙ f) in
           let count : length b ≡ x.size = ap length (sym same) ∙ (in_space_at c q x s.live h.live e).whole in
-          subst (λ (n : ℕ). (q + n ≤ a) ⊎ (a + size ≤ q)) (sym count) (bytes_apart some h k q x e)
+          subst (λ (n : ℕ). (q + n ≤ a) ⊎ (a + size ≤ q)) (sym count) (bytes_apart c s align size guard a some h k q x e)

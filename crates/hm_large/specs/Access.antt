@@ -6,14 +6,15 @@ use Rattle.hm_model.specs.declared.entry.Reply.TheVariants as reply
 use Rattle.hm_model.specs.Runs.{expand}
 use Rattle.hm_outside.specs.declared.pages.Pages as pages
 use Rattle.hm_outside.specs.PageRuns.{PageRuns}
-use Rattle.hm_large.specs.declared.access.Reading.{Reading}
-use Rattle.hm_large.specs.declared.access.Reading.TheVariants as reading
-use Rattle.hm_large.specs.Blocks.{Blocks, first_trap, bytes_read}
+use Rattle.hm_large.specs.declared.access.Fetched.{Fetched}
+use Rattle.hm_large.specs.declared.access.Fetched.TheVariants as fetched
+use Rattle.hm_large_rules.specs.State.{Blocks}
+use Rattle.hm_large_rules.specs.Bytes.{first_trap, bytes_read}
 
 -- the reply to a fetch
-abbrev pub fetch_reply : Reading → Reply
-fetch_reply (reading.Bytes runs) = reply.Bytes runs
-fetch_reply (reading.Trap q) = reply.Trap q
+abbrev pub fetch_reply : Fetched → Reply
+fetch_reply (fetched.Bytes runs) = reply.Bytes runs
+fetch_reply (fetched.Trap q) = reply.Trap q
 
 -- the reply to a fill, by the address at which it traps
 abbrev pub fill_reply : Option ℕ → Reply
@@ -21,9 +22,9 @@ fill_reply None = reply.Filled
 fill_reply (Some q) = reply.Trap q
 
 -- the bytes that the blocks have, or the first address at which they have none
-abbrev pub IsRead : Blocks → ℕ → ℕ → Reading → Type 0
-IsRead live addr len (reading.Bytes runs) = (first_trap live addr len ≡ None) × (expand runs ≡ bytes_read live addr len)
-IsRead live addr len (reading.Trap q) = first_trap live addr len ≡ Some q
+abbrev pub IsRead : Blocks → ℕ → ℕ → Fetched → Type 0
+IsRead live addr len (fetched.Bytes runs) = (first_trap live addr len ≡ None) × (expand runs ≡ bytes_read live addr len)
+IsRead live addr len (fetched.Trap q) = first_trap live addr len ≡ Some q
 
 -- the pages are as before, and of the same region, but for their runs and bytes
 pub record SameButPageRuns {P : Type 0} (meaning : pages.Ghosts P) (before now : P) : Type 0 where

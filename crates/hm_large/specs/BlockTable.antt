@@ -9,7 +9,7 @@ use Rattle.hm_region_table.specs.Table.{Blocks, Table}
 -- the size of a block that is live
 abbrev pub live_size : Option KeptBlock → Option ℕ
 live_size None = None
-live_size (Some b) = if b.held then None else Some b.size
+live_size (Some b) = if b.quarantined then None else Some b.size
 
 -- the starts and sizes are those of the live blocks
 abbrev pub AreLive : Blocks → tree.BTreeMap ℕ ℕ → Type 0
@@ -23,7 +23,7 @@ Updates old new a block = (q : ℕ) → map.get new.blocks q ≡ (if a == q then
 pub record CanAdd (table : Table) (a : ℕ) (block : KeptBlock) : Type 0 where
   pub fresh : map.get table.blocks a ≡ None
   pub room : 1 ≤ table.spare
-  pub live : block.held ≡ false
+  pub live : block.quarantined ≡ false
 
 -- the block was put in, and took room
 pub record Adds (old new : Table) (a : ℕ) (block : KeptBlock) : Type 0 where

@@ -98,12 +98,12 @@ impl BlockTable {
     /// memory.
     pub fn replace(&mut self, addr: u64, block: Block)
         requires there { IsSome (map.get self.old.blocks addr) }
-        requires same { block.held ≡ false → live_size (map.get self.old.blocks addr) ≡ Some block.size }
+        requires same { block.quarantined ≡ false → live_size (map.get self.old.blocks addr) ≡ Some block.size }
         ensures put { Updates self.old self.new addr (Some block) }
         ensures spare { self.new.spare ≡ self.old.spare }
     {
         exchange(&mut self.table, addr, block);
-        if block.held {
+        if block.quarantined {
             let _size = self.live.remove(&addr);
         }
     }

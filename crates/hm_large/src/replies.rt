@@ -2,7 +2,7 @@
 ghost use Rattle.std.specs.Prelude.{◌≡◌, ◌⊎◌};
 ghost use Rattle.hm_model.specs.Replies.{IsBlockReply, IsBlockFreeReply};
 ghost use Rattle.hm_large.specs.Access.{fill_reply};
-ghost use Rattle.hm_large.specs.Stored.{measured_reply};
+ghost use Rattle.hm_large.specs.Judgements.{measured_reply};
 
 use hm_model::Reply;
 use hm_region_table::Block as KeptBlock;

@@ -3,26 +3,18 @@
 ghost use Rattle.std.specs.Prelude.{◌≡◌, ◌+◌, ◌*◌, ◌^◌, ◌<◌, ◌≤◌, ℕ, IfOk, IfSome, MatchOption, max};
 ghost use Rattle.hm_sizes.specs.Configs.{IsValid};
 ghost use Rattle.hm_sizes.specs.declared.config.Config.{Config};
-ghost use Rattle.hm_large.specs.State.{State, start};
-ghost use Rattle.hm_large.specs.Rules.{IsCandidate, IsLeastCandidate};
+ghost use Rattle.hm_large_rules.specs.State.{State, start};
+ghost use Rattle.hm_large_rules.specs.Rules.{IsCandidate, IsLeastCandidate};
 ghost use Rattle.hm_large.specs.Kept.{Shows};
 
 use crate::block_table::BlockTable;
 use hm_base::NoMemory;
 use hm_choice::Stream;
+use hm_large_rules::{ARRAY_LENGTH, RING_LENGTH, STREAM};
 use hm_quarantine::Quarantine;
 use hm_sizes::{Config, LARGE_START, PAGE};
 use hm_space::Space;
 use std::alloc::Global;
-
-// The number of the region's stream.
-const STREAM: u64 = 196;
-
-/// The length of the quarantine's array.
-pub const ARRAY_LENGTH: u32 = 256;
-
-/// The length of its ring.
-const RING_LENGTH: u32 = 1024;
 
 /// The blocks, the free ranges, the quarantine and the words of a large region.
 #[derive(Drop)]
@@ -67,7 +59,7 @@ impl Store {
         requires some { 1 ≤ size }
         requires most { size ≤ 2 ^ 32 }
         requires guard { guard ≤ 2 ^ 32 }
-        ensures fits { (c : Config) (number : ℕ) (s : State) → Shows c number s self.now
+        ensures fits { (c : Config) (seed : ℕ) (s : State) → Shows c seed s self.now
             → MatchOption result ((a : ℕ) → IsCandidate c s align size guard a → ⊥)
             (IsLeastCandidate c s align size guard) }
         ensures below { IfSome result (λ a. a + size + 4096 * guard < 2 ^ 64) }

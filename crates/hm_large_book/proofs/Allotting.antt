@@ -4,8 +4,8 @@ use Rattle.std.specs.Prelude.{unwrap_or, IsTrue, ◌↔◌, MatchOption}
 use Rattle.std.proofs.lemmas.Bool.{and_parts, and_from}
 use Rattle.hm_sizes.specs.declared.config.Config.{Config}
 use Rattle.hm_sizes.specs.Configs.{IsValid}
-use Rattle.hm_large_book.specs.Places.{IsSpaceOf}
-use Rattle.hm_large_book.specs.Changes.{HasPlace}
+use Rattle.hm_large_book.specs.Spaces.{IsSpaceOf}
+use Rattle.hm_large_book.specs.Changes.{HasSpace}
 use Rattle.hm_choice.specs.Stream.{Words, next_word, after_word}
 use Rattle.hm_model.specs.declared.entry.Entry.{Entry}
 use Rattle.hm_model.specs.declared.entry.Draws.{Draws}
@@ -13,11 +13,12 @@ use Rattle.hm_model.specs.declared.entry.Call.TheVariants.{Allot}
 use Rattle.hm_model.specs.declared.entry.Reply.{Reply}
 use Rattle.hm_model.specs.declared.entry.Reply.TheVariants.{Given, NoSpace, PagesFailed}
 use Rattle.hm_model.specs.Calls.{one_word}
-use Rattle.hm_large.specs.Blocks.{size_for, guard_of, new_block}
+use Rattle.hm_large_rules.specs.State.{size_for, State, array_length, ring_length}
+use Rattle.hm_large_rules.specs.Draws.{guard_of, stream_after}
+use Rattle.hm_large_rules.specs.Steps.{new_block, changed}
 use Rattle.hm_quarantine.specs.LookingBack.{AreIndices, kept_after}
-use Rattle.hm_large.specs.State.{State, changed, array_length, ring_length}
-use Rattle.hm_large.specs.Rules.{Allows, chose_guard, IsCandidate, IsLeastCandidate}
-use Rattle.hm_large.specs.Draws.{EntryDraws, stream_after}
+use Rattle.hm_large_rules.specs.Rules.{Allows, chose_guard, IsCandidate, IsLeastCandidate}
+use Rattle.hm_large_rules.specs.Drawn.{IsDrawnEvent}
 use Rattle.hm_model.specs.declared.judgement.Judgement.{Judgement}
 use Rattle.hm_model.specs.declared.judgement.Judgement.TheVariants.{Taken, NotLegal, NotDrawn}
 use Rattle.hm_large_book.specs.declared.book.LargeBook.{LargeBook}
@@ -29,9 +30,9 @@ use Rattle.hm_large_book.proofs.Judging.{blocks_words}
 
 module _ (k : LargeBook) (e : Entry) (asked align : ℕ) (reply : Reply) where
   -- an entry that is not allowed
-  pub not_legal : (new : LargeBook) → new.config ≡ k.config → new.number ≡ k.number → ((s : State) → Stands s k → Allows (terms_of k.config) s e (Allot asked align) reply → ⊥)
+  pub not_legal : (new : LargeBook) → new.config ≡ k.config → new.seed ≡ k.seed → ((s : State) → Stands s k → Allows (terms_of k.config) s e (Allot asked align) reply → ⊥)
       → Judges k e (Allot asked align) reply new NotLegal
-  not_legal new config number not = record { judged = λ s st. not s st; config_same = config; number_same = number }
+  not_legal new config seed not = record { judged = λ s st. not s st; config_same = config; seed_same = seed }
 
   -- one that is allowed, by the word that comes next
   pub allot_judged : (b : BlockBook) (words : Words) (size : ℕ) (j : Judgement) → size ≡ size_for asked → words ≡ after_word k.words
@@ -39,12 +40,12 @@ module _ (k : LargeBook) (e : Entry) (asked align : ℕ) (reply : Reply) where
       → ((s : State) → Stands s k → ShowsBlocks k.config (changed e (Allot asked align) reply s) b)
       → ((s : State) → ((changed e (Allot asked align) reply s).frees ≡ s.frees) × ((changed e (Allot asked align) reply s).faults ≡ s.faults))
       → JudgesGuard k.words e size j → Judges k e (Allot asked align) reply (record k { blocks = b; words = words }) j
-  allot_judged b words size j is took allows shows same h = record { judged = λ s st. by j h s st; config_same = refl; number_same = refl }
+  allot_judged b words size j is took allows shows same h = record { judged = λ s st. by j h s st; config_same = refl; seed_same = refl }
     where
-      to_draws : (s : State) → Stands s k → DrawsGuard k.words e size → EntryDraws k.number s e (Allot asked align) reply
+      to_draws : (s : State) → Stands s k → DrawsGuard k.words e size → IsDrawnEvent k.seed s e (Allot asked align) reply
       to_draws s st d = (d.word ∙ ap (λ w. one_word (next_word w)) st.shows.words, d.guard ∙ (λ i. Some (guard_of (is i) (next_word (st.shows.words i)))))
 
-      from_draws : (s : State) → Stands s k → EntryDraws k.number s e (Allot asked align) reply → DrawsGuard k.words e size
+      from_draws : (s : State) → Stands s k → IsDrawnEvent k.seed s e (Allot asked align) reply → DrawsGuard k.words e size
       from_draws s st d = record { word = d.0 ∙ sym (ap (λ w. one_word (next_word w)) st.shows.words); guard = d.1 ∙ sym (λ i. Some (guard_of (is i) (next_word (st.shows.words i)))) }
 
       by : (j : Judgement) → JudgesGuard k.words e size j → (s : State) → Stands s k → IsJudged k s e (Allot asked align) reply (record k { blocks = b; words = words }) j
@@ -54,8 +55,8 @@ module _ (k : LargeBook) (e : Entry) (asked align : ℕ) (reply : Reply) where
         record {
           blocks = blocks_words k.config (changed e (Allot asked align) reply s) b (e.draws.used + s.words) (shows s st);
           quarantine = st.shows.quarantine ∙ ap (λ f. kept_after array_length ring_length f) (sym (same s).0);
-          places = subst (AreIndices array_length) (sym (same s).0) st.shows.places;
-          words = took ∙ ap after_word st.shows.words ∙ ap (stream_after k.number) {x = suc s.words} {y = e.draws.used + s.words} (omega (arith, ap (λ (d : Draws). d.used) h.word));
+          indices = subst (AreIndices array_length) (sym (same s).0) st.shows.indices;
+          words = took ∙ ap after_word st.shows.words ∙ ap (stream_after k.seed) {x = suc s.words} {y = e.draws.used + s.words} (omega (arith, ap (λ (d : Draws). d.used) h.word));
           faults = st.shows.faults ∙ sym (same s).1;
         },
       )
@@ -72,16 +73,16 @@ parts3 a b c e = (let o = and_parts (a && b) c e in let i = and_parts a b o.0 in
 off_on : (b : Bool) → b ≡ false → b ≡ true → ⊥
 off_on b off on = true≢false (sym on ∙ off)
 
--- the places that a search says
-abbrev pub Places : LargeBook → ℕ → ℕ → ℕ → Option ℕ → Type 0
-Places k size guard align place = (c : Config) (s : State) → IsValid c → IsSpaceOf c s k.blocks.space
-    → MatchOption place ((a : ℕ) → IsCandidate c s align size guard a → ⊥) (IsLeastCandidate c s align size guard)
+-- the addresses that a search says
+abbrev pub Least : LargeBook → ℕ → ℕ → ℕ → Option ℕ → Type 0
+Least k size guard align least = (c : Config) (s : State) → IsValid c → IsSpaceOf c s k.blocks.space
+    → MatchOption least ((a : ℕ) → IsCandidate c s align size guard a → ⊥) (IsLeastCandidate c s align size guard)
 
-module _ (k : LargeBook) (e : Entry) (asked align guard size : ℕ) (place : Option ℕ) (guard_is : guard ≡ unwrap_or e.choices.guard 0) (size_is : size ≡ size_for asked) (places : Places k size guard align place)
+module _ (k : LargeBook) (e : Entry) (asked align guard size : ℕ) (least : Option ℕ) (guard_is : guard ≡ unwrap_or e.choices.guard 0) (size_is : size ≡ size_for asked) (indices : Least k size guard align least)
     (chosen : Bool) (exact : IsTrue chosen ↔ (e.choices ≡ chose_guard guard)) where
-  at_own : (s : State) → Stands s k → MatchOption place ((a : ℕ) → IsCandidate k.config s align (size_for asked) (unwrap_or e.choices.guard 0) a → ⊥) (IsLeastCandidate k.config s align (size_for asked) (unwrap_or e.choices.guard 0))
-  at_own s st = subst (λ (z : ℕ). MatchOption place ((a : ℕ) → IsCandidate k.config s align z (unwrap_or e.choices.guard 0) a → ⊥) (IsLeastCandidate k.config s align z (unwrap_or e.choices.guard 0))) size_is
-      (subst (λ (g : ℕ). MatchOption place ((a : ℕ) → IsCandidate k.config s align size g a → ⊥) (IsLeastCandidate k.config s align size g)) guard_is (places k.config s st.valid st.shows.blocks.space))
+  at_own : (s : State) → Stands s k → MatchOption least ((a : ℕ) → IsCandidate k.config s align (size_for asked) (unwrap_or e.choices.guard 0) a → ⊥) (IsLeastCandidate k.config s align (size_for asked) (unwrap_or e.choices.guard 0))
+  at_own s st = subst (λ (z : ℕ). MatchOption least ((a : ℕ) → IsCandidate k.config s align z (unwrap_or e.choices.guard 0) a → ⊥) (IsLeastCandidate k.config s align z (unwrap_or e.choices.guard 0))) size_is
+      (subst (λ (g : ℕ). MatchOption least ((a : ℕ) → IsCandidate k.config s align size g a → ⊥) (IsLeastCandidate k.config s align size g)) guard_is (indices k.config s st.valid st.shows.blocks.space))
 
   chose_own : chosen ≡ true → e.choices ≡ chose_guard (unwrap_or e.choices.guard 0)
   chose_own on = exact.0 on ∙ ap chose_guard guard_is
@@ -90,9 +91,9 @@ module _ (k : LargeBook) (e : Entry) (asked align guard size : ℕ) (place : Opt
   own_chosen h = exact.1 (h ∙ ap chose_guard (sym guard_is))
 
   -- no space
-  module _ (none : Bool) (none_is : none ≡ is_none place) where
+  module _ (none : Bool) (none_is : none ≡ is_none least) where
     pub space_allows : (chosen && none) ≡ true → (s : State) → Stands s k → Allows (terms_of k.config) s e (Allot asked align) NoSpace
-    space_allows on s st = (by place (at_own s st) (sym none_is ∙ (parts2 chosen none on).1), chose_own (parts2 chosen none on).0)
+    space_allows on s st = (by least (at_own s st) (sym none_is ∙ (parts2 chosen none on).1), chose_own (parts2 chosen none on).0)
       where
         by : (o : Option ℕ) → MatchOption o ((a : ℕ) → IsCandidate k.config s align (size_for asked) (unwrap_or e.choices.guard 0) a → ⊥) (IsLeastCandidate k.config s align (size_for asked) (unwrap_or e.choices.guard 0))
             → is_none o ≡ true → (a : ℕ) → IsCandidate k.config s align (size_for asked) (unwrap_or e.choices.guard 0) a → ⊥
@@ -100,31 +101,31 @@ module _ (k : LargeBook) (e : Entry) (asked align guard size : ℕ) (place : Opt
         by (Some a) m is = absurd (true≢false (sym is))
 
     pub space_refuses : (chosen && none) ≡ false → (s : State) → Stands s k → Allows (terms_of k.config) s e (Allot asked align) NoSpace → ⊥
-    space_refuses off s st h = off_on (chosen && none) off (and_from chosen none (own_chosen h.1) (none_is ∙ by place (at_own s st)))
+    space_refuses off s st h = off_on (chosen && none) off (and_from chosen none (own_chosen h.1) (none_is ∙ by least (at_own s st)))
       where
         by : (o : Option ℕ) → MatchOption o ((a : ℕ) → IsCandidate k.config s align (size_for asked) (unwrap_or e.choices.guard 0) a → ⊥) (IsLeastCandidate k.config s align (size_for asked) (unwrap_or e.choices.guard 0)) → is_none o ≡ true
         by None m = refl
         by (Some a) m = absurd (h.0 a m.fits)
 
-  -- a page failed
-  module _ (some risen : Bool) (some_is : some ≡ is_some place) (risen_is : IsTrue risen ↔ (e.faults_before < e.faults_after)) where
-    pub failed_allows : ((chosen && some) && risen) ≡ true → (s : State) → Stands s k → Allows (terms_of k.config) s e (Allot asked align) PagesFailed
-    failed_allows on s st = (let p = parts3 chosen some risen on in ((by place (at_own s st) (sym some_is ∙ p.1), risen_is.0 p.2), chose_own p.0))
+  -- a page fault occurred
+  module _ (some risen : Bool) (some_is : some ≡ is_some least) (risen_is : IsTrue risen ↔ (e.faults_before < e.faults_after)) where
+    pub fault_allows : ((chosen && some) && risen) ≡ true → (s : State) → Stands s k → Allows (terms_of k.config) s e (Allot asked align) PagesFailed
+    fault_allows on s st = (let p = parts3 chosen some risen on in ((by least (at_own s st) (sym some_is ∙ p.1), risen_is.0 p.2), chose_own p.0))
       where
         by : (o : Option ℕ) → MatchOption o ((a : ℕ) → IsCandidate k.config s align (size_for asked) (unwrap_or e.choices.guard 0) a → ⊥) (IsLeastCandidate k.config s align (size_for asked) (unwrap_or e.choices.guard 0))
             → is_some o ≡ true → (a : ℕ) × IsCandidate k.config s align (size_for asked) (unwrap_or e.choices.guard 0) a
         by None m is = absurd (true≢false (sym is))
         by (Some a) m is = (a, m.fits)
 
-    pub failed_refuses : ((chosen && some) && risen) ≡ false → (s : State) → Stands s k → Allows (terms_of k.config) s e (Allot asked align) PagesFailed → ⊥
-    failed_refuses off s st h = off_on ((chosen && some) && risen) off (and_from (chosen && some) risen (and_from chosen some (own_chosen h.1) (some_is ∙ by place (at_own s st))) (risen_is.1 h.0.1))
+    pub fault_refuses : ((chosen && some) && risen) ≡ false → (s : State) → Stands s k → Allows (terms_of k.config) s e (Allot asked align) PagesFailed → ⊥
+    fault_refuses off s st h = off_on ((chosen && some) && risen) off (and_from (chosen && some) risen (and_from chosen some (own_chosen h.1) (some_is ∙ by least (at_own s st))) (risen_is.1 h.0.1))
       where
         by : (o : Option ℕ) → MatchOption o ((a : ℕ) → IsCandidate k.config s align (size_for asked) (unwrap_or e.choices.guard 0) a → ⊥) (IsLeastCandidate k.config s align (size_for asked) (unwrap_or e.choices.guard 0)) → is_some o ≡ true
         by None m = absurd (m h.0.0.0 h.0.0.1)
         by (Some a) m = refl
 
   -- a block was given
-  module _ (a usable : ℕ) (sized placed : Bool) (sized_is : IsTrue sized ↔ (usable ≡ size)) (placed_is : IsTrue placed ↔ (place ≡ Some a)) where
+  module _ (a usable : ℕ) (sized placed : Bool) (sized_is : IsTrue sized ↔ (usable ≡ size)) (placed_is : IsTrue placed ↔ (least ≡ Some a)) where
     pub given_least : ((chosen && sized) && placed) ≡ true → (s : State) → Stands s k → IsLeastCandidate k.config s align (size_for asked) (unwrap_or e.choices.guard 0) a
     given_least on s st = subst (λ (o : Option ℕ). MatchOption o ((a : ℕ) → IsCandidate k.config s align (size_for asked) (unwrap_or e.choices.guard 0) a → ⊥) (IsLeastCandidate k.config s align (size_for asked) (unwrap_or e.choices.guard 0)))
         (placed_is.0 (parts3 chosen sized placed on).2) (at_own s st)
@@ -133,7 +134,7 @@ module _ (k : LargeBook) (e : Entry) (asked align guard size : ℕ) (place : Opt
     given_allows on s st = (let p = parts3 chosen sized placed on in ((given_least on s st, sized_is.0 p.1 ∙ size_is), chose_own p.0))
 
     pub given_refuses : ((chosen && sized) && placed) ≡ false → (s : State) → Stands s k → Allows (terms_of k.config) s e (Allot asked align) (Given a usable) → ⊥
-    given_refuses off s st h = off_on ((chosen && sized) && placed) off (and_from (chosen && sized) placed (and_from chosen sized (own_chosen h.1) (sized_is.1 (h.0.1 ∙ sym size_is))) (placed_is.1 (by place (at_own s st))))
+    given_refuses off s st h = off_on ((chosen && sized) && placed) off (and_from (chosen && sized) placed (and_from chosen sized (own_chosen h.1) (sized_is.1 (h.0.1 ∙ sym size_is))) (placed_is.1 (by least (at_own s st))))
       where
         by : (o : Option ℕ) → MatchOption o ((a : ℕ) → IsCandidate k.config s align (size_for asked) (unwrap_or e.choices.guard 0) a → ⊥) (IsLeastCandidate k.config s align (size_for asked) (unwrap_or e.choices.guard 0)) → o ≡ Some a
         by None m = absurd (m a h.0.0.fits)
@@ -142,8 +143,8 @@ module _ (k : LargeBook) (e : Entry) (asked align guard size : ℕ) (place : Opt
             le_same : b ≤ a → a ≤ b → b ≡ a
             le_same x y = omega arith
 
-    pub given_place : ((chosen && sized) && placed) ≡ true → (s : State) → Stands s k → HasPlace k.blocks a asked guard
-    given_place on s st = record {
+    pub given_space : ((chosen && sized) && placed) ≡ true → (s : State) → Stands s k → HasSpace k.blocks a asked guard
+    given_space on s st = record {
       config = k.config;
       s = s;
       align = align;

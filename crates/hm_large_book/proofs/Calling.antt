@@ -5,8 +5,8 @@ use Rattle.hm_model.specs.declared.entry.Call.{Call}
 use Rattle.hm_model.specs.declared.entry.Call.TheVariants.{Allot, GiveBack, Measure, Fetch, Fill}
 use Rattle.hm_model.specs.declared.entry.Reply.{Reply}
 use Rattle.hm_model.specs.declared.entry.Reply.TheVariants.{Given, NoSpace, PagesFailed, Freed, WrongSize, NotLive, Usable, Bytes, Filled, Trap}
-use Rattle.hm_large.specs.State.{State}
-use Rattle.hm_large.specs.Rules.{Terms, Allows}
+use Rattle.hm_large_rules.specs.State.{State}
+use Rattle.hm_large_rules.specs.Rules.{Terms, Allows}
 use Rattle.hm_model.specs.declared.judgement.Judgement.TheVariants.{NotLegal}
 use Rattle.hm_large_book.specs.declared.book.LargeBook.{LargeBook}
 use Rattle.hm_large_book.specs.Judged.{terms_of, Judges}
@@ -41,7 +41,7 @@ module _ (t : Terms) (s : State) (e : Entry) where
   fill_none a runs r f q al = al
 
 refused : (k : LargeBook) (e : Entry) (call : Call) (r : Reply) → ((s : State) → Allows (terms_of k.config) s e call r → ⊥) → Judges k e call r k NotLegal
-refused k e call r none = record { judged = λ s st. none s; config_same = refl; number_same = refl }
+refused k e call r none = record { judged = λ s st. none s; config_same = refl; seed_same = refl }
 
 module _ (k : LargeBook) (e : Entry) (r : Reply) where
   pub allot_refused : (asked align : ℕ) → ((a u : ℕ) → r ≡ Given a u → ⊥) → (r ≡ NoSpace → ⊥) → (r ≡ PagesFailed → ⊥) → Judges k e (Allot asked align) r k NotLegal

@@ -7,11 +7,10 @@ use Rattle.hm_model.specs.declared.entry.Reply.TheVariants.{WrongSize, NotLive, 
 use Rattle.hm_model.specs.Maps.{at, has}
 use Rattle.hm_model.specs.Runs.{expand}
 use Rattle.hm_sizes.specs.declared.config.Config.{Config}
-use Rattle.hm_large.specs.Blocks.{Block, Blocks, first_trap, bytes_read}
-use Rattle.hm_large.specs.State.{State}
-use Rattle.hm_large.specs.Rules.{wrong_size}
-use Rattle.hm_large.specs.Kept.{AreGuarded}
-use Rattle.hm_large.specs.Laws.{IsSound}
+use Rattle.hm_large_rules.specs.State.{Block, Blocks, State, AreGuarded}
+use Rattle.hm_large_rules.specs.Bytes.{first_trap, bytes_read}
+use Rattle.hm_large_rules.specs.Rules.{wrong_size}
+use Rattle.hm_large_rules.specs.Laws.{IsSound}
 use Rattle.hm_large_book.specs.declared.blocks.LiveBlock.{LiveBlock}
 use Rattle.hm_model.specs.declared.judgement.Judgement.{Judgement}
 use Rattle.hm_large_book.specs.declared.book.LargeBook.{LargeBook}

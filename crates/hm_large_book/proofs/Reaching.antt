@@ -13,18 +13,16 @@ use Rattle.hm_model.specs.Maps.{at, times, keys}
 use Rattle.hm_model.specs.Overlaid.{overlaid}
 use Rattle.hm_model.proofs.Overlaid.{overlaid_apart, overlaid_written}
 use Rattle.hm_sizes.specs.declared.config.Config.{Config}
-use Rattle.hm_large.specs.Blocks.{Block, Blocks, covers, covered, byte_at, first_trap, bytes_read, overlay, written_over}
-use Rattle.hm_large.specs.State.{State}
-use Rattle.hm_large.specs.Laws.{IsInSpace, AreInSpace, IsSound}
-use Rattle.hm_large.specs.Kept.{AreGuarded}
-use Rattle.hm_large.specs.Stored.{IsLeft}
-use Rattle.hm_large.proofs.BlockLists.{weight, in_space_at}
-use Rattle.hm_large.proofs.Legal.{live_once}
-use Rattle.hm_large.proofs.Places.{spans_from}
+use Rattle.hm_large_rules.specs.State.{Block, Blocks, covers, covered, State, AreGuarded}
+use Rattle.hm_large_rules.specs.Bytes.{byte_at, first_trap, bytes_read, overlay, overlaid_blocks, IsLeft}
+use Rattle.hm_large_rules.specs.Laws.{IsInSpace, AreInSpace, IsSound}
+use Rattle.hm_large_rules.proofs.BlockLists.{weight, in_space_at}
+use Rattle.hm_large_rules.proofs.Legal.{live_once}
+use Rattle.hm_large_rules.proofs.Candidates.{spans_from}
 use Rattle.hm_large.proofs.Accessed.{bytes_there, none_left, trap_left}
 use Rattle.hm_large_book.specs.declared.blocks.LiveBlock.{LiveBlock}
 use Rattle.hm_large_book.specs.Book.{block_of, block_in, blocks_in, reaches}
-use Rattle.hm_large_book.specs.declared.bytes.Place.{Place}
+use Rattle.hm_large_book.specs.declared.bytes.Position.{Position}
 use Rattle.hm_large_book.specs.Bytes.{LiesAt, over_block}
 use Rattle.hm_large_book.proofs.Finding.{at_index, slice_pairs}
 
@@ -63,7 +61,7 @@ module _ (c : Config) (s : State) (live : List (ℕ × LiveBlock)) (sound : IsSo
   pub trap_some : AreGuarded s.live → (q len left : ℕ) → IsLeft s.live q left → left < len → first_trap s.live q len ≡ None → ⊥
   trap_some guarded q len left h lt none = none-some (q + left) (sym none ∙ trap_left c s q len left sound guarded h lt)
 
-  module _ (a len : ℕ) (p : Place) (lies : LiesAt live a len p) (some : 1 ≤ len) where
+  module _ (a len : ℕ) (p : Position) (lies : LiesAt live a len p) (some : 1 ≤ len) where
     pub lies_none : first_trap s.live a len ≡ None
     lies_none =
         let e = lies.entry in
@@ -153,8 +151,8 @@ module _ (c : Config) (a : ℕ) (w : List ℕ) (some : 1 ≤ length w) where
           omega (arith, ap weight own, once q, covered_index q m i e is (covers_byte e q (placed_index m i e is placed.1) (omega (arith, low, from)) (omega (arith, below, high))))
 
 -- the list after writing over the block
-pub written_one : (c : Config) (s : State) (live : List (ℕ × LiveBlock)) (a : ℕ) (w : List ℕ) (p : Place) (lies : LiesAt live a (length w) p) (e new : ℕ × LiveBlock) → 1 ≤ length w → IsSound c s → blocks_in live ≡ s.live
-    → slice_get live p.block ≡ Some e → block_in new ≡ over_block p.offset w (block_in e) → blocks_in (set live p.block new) ≡ written_over a w s.live
+pub written_one : (c : Config) (s : State) (live : List (ℕ × LiveBlock)) (a : ℕ) (w : List ℕ) (p : Position) (lies : LiesAt live a (length w) p) (e new : ℕ × LiveBlock) → 1 ≤ length w → IsSound c s → blocks_in live ≡ s.live
+    → slice_get live p.block ≡ Some e → block_in new ≡ over_block p.offset w (block_in e) → blocks_in (set live p.block new) ≡ overlaid_blocks a w s.live
 written_one c s live a w p lies e new some sound is there_e made =
     let same : lies.entry ≡ e = same_Some lies.entry e (sym lies.there ∙ there_e) in
     let begins : e.0 + p.offset ≡ a = subst (λ (z : ℕ × LiveBlock). z.0 + p.offset ≡ a) same lies.begins in
@@ -167,10 +165,10 @@ written_one c s live a w p lies e new some sound is there_e made =
     ∙ ap (set (blocks_in live) p.block) made
     ∙ ap (λ (l : List ℕ). set (blocks_in live) p.block (e.0, record (block_of e.1) { bytes = l })) over
     ∙ sym (over_one c a w some (blocks_in live) p.block (block_in e) got placed once (omega (arith, begins)) (omega (arith, begins, fits)))
-    ∙ ap (written_over a w) is
+    ∙ ap (overlaid_blocks a w) is
 
 -- what a part of the block's bytes says of the range
-pub range_is : (c : Config) (s : State) (live : List (ℕ × LiveBlock)) (a len : ℕ) (p : Place) (lies : LiesAt live a len p) (e : ℕ × LiveBlock) (bytes : List ℕ) (runs : List ℕ) (r : Bool) → 1 ≤ len → IsSound c s → blocks_in live ≡ s.live
+pub range_is : (c : Config) (s : State) (live : List (ℕ × LiveBlock)) (a len : ℕ) (p : Position) (lies : LiesAt live a len p) (e : ℕ × LiveBlock) (bytes : List ℕ) (runs : List ℕ) (r : Bool) → 1 ≤ len → IsSound c s → blocks_in live ≡ s.live
     → slice_get live p.block ≡ Some e → bytes ≡ e.1.bytes → IsTrue r ↔ ((length runs ≡ len) × (runs ≡ take len (drop p.offset bytes)))
     → IsTrue r ↔ ((length runs ≡ len) × (first_trap s.live a len ≡ None) × (runs ≡ bytes_read s.live a len))
 range_is c s live a len p lies e bytes runs r some sound is there_e same exact =
@@ -178,7 +176,7 @@ range_is c s live a len p lies e bytes runs r some sound is there_e same exact =
     let read : bytes_read s.live a len ≡ take len (drop p.offset bytes) = lies_bytes c s live sound is a len p lies some ∙ ap (λ l. take len (drop p.offset l)) (sym own) in
     ((λ t. (let x = exact.0 t in (x.0, lies_none c s live sound is a len p lies some, x.1 ∙ sym read))), (λ h. exact.1 (h.0, h.2 ∙ read)))
 
-pub fits_at : (live : List (ℕ × LiveBlock)) (a len : ℕ) (p : Place) (e : ℕ × LiveBlock) → LiesAt live a len p → slice_get live p.block ≡ Some e → (p.offset + len ≤ length e.1.bytes) × (p.offset ≤ a)
+pub fits_at : (live : List (ℕ × LiveBlock)) (a len : ℕ) (p : Position) (e : ℕ × LiveBlock) → LiesAt live a len p → slice_get live p.block ≡ Some e → (p.offset + len ≤ length e.1.bytes) × (p.offset ≤ a)
 fits_at live a len p e lies is =
     (subst (λ (z : ℕ × LiveBlock). p.offset + len ≤ length z.1.bytes) (same_Some lies.entry e (sym lies.there ∙ is)) lies.fits, omega (arith, lies.begins))
 

@@ -1,6 +1,6 @@
 -- Bytes beside the runs that stand for them, run by run.
 use Rattle.std.proofs.Common.{◌≡◌, ℕ, ◌+◌, ◌-◌, ◌<◌, ◌≤◌, List, [], ◌∷◌, ◌++◌, length, take, drop, replicate, get_or, refl, sym, ◌∙◌, ap, arith, append_assoc, length-append, length-take, length-drop}
-use Rattle.std.proofs.lemmas.List.{take_at, take-append-drop, drop-drop, drop-take, length-replicate, take-replicate, drop-replicate, replicate-append-replicate, take_more, replicate_more, get_or-replicate}
+use Rattle.std.proofs.lemmas.List.{take_at, take-append-drop, drop-drop, drop-take, length-replicate, take-replicate, drop-replicate, replicate-append-replicate}
 use Rattle.std.proofs.lemmas.Slice.{drop-append-drop}
 use Rattle.std.proofs.Math.Seq.{take-add, drop-append_seam, take-append_seam}
 use Rattle.hm_base.specs.Lists.{written}
@@ -56,7 +56,7 @@ module _ (pairs : List (ℕ × ℕ)) (i byte n : ℕ) (lt : i < length pairs) (i
       ∙ ap (λ (k : ℕ). take k (replicate n byte ++ rest)) (sym (length-replicate {A = ℕ} n byte))
       ∙ take-append_seam (replicate n byte) rest
 
-  -- ---- from a place on
+  -- ---- from an offset on
   pub run_alike : (b : List ℕ) (from at : ℕ) → at ≡ from + length (expand (take i pairs)) → take (length (expand (take i pairs))) (drop from b) ≡ expand (take i pairs) → take n (drop at b) ≡ replicate n byte
       → take (length (expand (take (i + 1) pairs))) (drop from b) ≡ expand (take (i + 1) pairs)
   run_alike b from at at_is so_far part =
@@ -79,12 +79,13 @@ module _ (pairs : List (ℕ × ℕ)) (i byte n : ℕ) (lt : i < length pairs) (i
       ∙ ap (λ (k : ℕ). take n (drop count (take k (drop from b)))) (sym total)
       ∙ part_alike count (take (length (expand pairs)) (drop from b)) refl all
 
-  -- ---- written from a place on
+  -- ---- written from an offset on
   pub runs_on : (b : List ℕ) (from at : ℕ) (now new : List ℕ) → at ≡ from + length (expand (take i pairs)) → from + length (expand pairs) ≤ length b → now ≡ written b from (expand (take i pairs))
       → new ≡ with_byte now at n byte → new ≡ written b from (expand (take (i + 1) pairs))
   runs_on b from at now new at_is fits so_far is =
       let w = expand (take i pairs) in
-      is ∙ ap (λ (k : ℕ). take at now ++ replicate n byte ++ drop (at + k) now) (sym (length-replicate {A = ℕ} n byte))
+      is ∙ sym (append_assoc (take at now) (replicate n byte) (drop (at + n) now))
+      ∙ ap (λ (k : ℕ). take at now ++ replicate n byte ++ drop (at + k) now) (sym (length-replicate {A = ℕ} n byte))
       ∙ ap (λ (l : List ℕ). written l at (replicate n byte)) so_far
       ∙ ap (λ (k : ℕ). written (written b from w) k (replicate n byte)) at_is
       ∙ two_written b from w (replicate n byte) (omega (arith, fits, next_within, length-replicate {A = ℕ} n byte))
@@ -124,8 +125,3 @@ piece_there b from len done byte piece is within fits all =
     sym front ∙ part
 
 -- ---- equal bytes, byte by byte
-pub all_next : (bytes : List ℕ) (i byte d : ℕ) → i < length bytes → take i bytes ≡ replicate i byte → get_or bytes i d ≡ byte → take (i + 1) bytes ≡ replicate (i + 1) byte
-all_next bytes i byte d lt so_far is = take_more bytes i d lt ∙ (λ j. so_far j ++ is j ∷ []) ∙ replicate_more i byte
-
-pub not_all : (bytes : List ℕ) (i byte d : ℕ) → i < length bytes → (get_or bytes i d ≡ byte → ⊥) → bytes ≡ replicate (length bytes) byte → ⊥
-not_all bytes i byte d lt other all = other (ap (λ (l : List ℕ). get_or l i d) all ∙ get_or-replicate (length bytes) i byte d lt)

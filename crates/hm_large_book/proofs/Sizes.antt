@@ -4,8 +4,8 @@ use Rattle.std.specs.Prelude.{◌↔◌}
 use Rattle.std.proofs.lemmas.Option.{none-some, same_Some}
 use Rattle.hm_model.specs.Maps.{at}
 use Rattle.hm_model.proofs.Lists.{same_eq, eq_same}
-use Rattle.hm_large.specs.Blocks.{Block, Blocks}
-use Rattle.hm_large.specs.Rules.{wrong_size}
+use Rattle.hm_large_rules.specs.State.{Block, Blocks}
+use Rattle.hm_large_rules.specs.Rules.{wrong_size}
 use Rattle.hm_large_book.specs.declared.blocks.Extent.{Extent}
 use Rattle.hm_large_book.specs.Book.{extent_of, Accepts}
 

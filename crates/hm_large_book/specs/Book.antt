@@ -1,21 +1,19 @@
 -- What a book of the large region says of a state.
 use Rattle.std.specs.Prelude.{◌≡◌, ℕ, ◌+◌, ◌&&◌, nat_le, nat_lt, Bool, List, map, length, take, Option, Some, None}
 use Rattle.hm_model.specs.Maps.{at}
-use Rattle.hm_large.specs.Rules.{wrong_size}
+use Rattle.hm_large_rules.specs.Rules.{wrong_size}
 use Rattle.hm_quarantine.specs.Delay.{delay, slots_of}
 use Rattle.hm_quarantine.specs.LookingBack.{AreIndices, kept_after}
 use Rattle.hm_sizes.specs.declared.config.Config.{Config}
 use Rattle.hm_sizes.specs.Configs.{IsValid}
-use Rattle.hm_large.specs.Blocks.{Block, Blocks}
-use Rattle.hm_large.specs.State.{State, array_length, ring_length}
-use Rattle.hm_large.specs.Draws.{stream_after}
-use Rattle.hm_large.specs.Kept.{AreGuarded}
-use Rattle.hm_large.specs.Laws.{IsSound}
+use Rattle.hm_large_rules.specs.State.{Block, Blocks, State, array_length, ring_length, AreGuarded}
+use Rattle.hm_large_rules.specs.Draws.{stream_after}
+use Rattle.hm_large_rules.specs.Laws.{IsSound}
 use Rattle.hm_large_book.specs.declared.blocks.LiveBlock.{LiveBlock}
 use Rattle.hm_large_book.specs.declared.blocks.Extent.{Extent}
 use Rattle.hm_large_book.specs.declared.blocks.BlockBook.{BlockBook}
 use Rattle.hm_large_book.specs.declared.book.LargeBook.{LargeBook}
-use Rattle.hm_large_book.specs.Places.{IsSpaceOf}
+use Rattle.hm_large_book.specs.Spaces.{IsSpaceOf}
 
 -- ---- blocks
 abbrev pub block_of : LiveBlock → Block
@@ -55,17 +53,17 @@ IsAccepted blocks a stated = (extent : Extent) × Accepts blocks a stated extent
 -- the lists and the free ranges say what the state says; the blocks in quarantine are kept without their bytes
 pub record ShowsBlocks (c : Config) (s : State) (k : BlockBook) : Type 0 where
   pub live : blocks_in k.live.items ≡ s.live
-  pub held : k.held.items ≡ extents_of s.held
+  pub quarantined : k.quarantined.items ≡ extents_of s.quarantined
   pub recent : k.recent.items ≡ take (delay array_length ring_length) (slots_of s.frees)
   pub space : IsSpaceOf c s k.space
-  pub out : k.space.out ≡ length s.live + length s.held
+  pub out : k.space.out ≡ length s.live + length s.quarantined
 
 -- ---- the book
 pub record Shows (s : State) (k : LargeBook) : Type 0 where
   pub blocks : ShowsBlocks k.config s k.blocks
   pub quarantine : k.quarantine ≡ kept_after array_length ring_length s.frees
-  pub places : AreIndices array_length s.frees
-  pub words : k.words ≡ stream_after k.number s.words
+  pub indices : AreIndices array_length s.frees
+  pub words : k.words ≡ stream_after k.seed s.words
   pub faults : k.faults ≡ s.faults
 
 -- the book shows a state in which no two blocks meet and each live one has a guard

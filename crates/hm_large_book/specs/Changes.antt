@@ -3,10 +3,9 @@ use Rattle.std.specs.Prelude.{◌≡◌, ℕ, Some}
 use Rattle.hm_model.specs.Maps.{at}
 use Rattle.hm_sizes.specs.Configs.{IsValid}
 use Rattle.hm_sizes.specs.declared.config.Config.{Config}
-use Rattle.hm_large.specs.Blocks.{Block, size_for}
-use Rattle.hm_large.specs.State.{State}
-use Rattle.hm_large.specs.Rules.{IsCandidate}
-use Rattle.hm_large.specs.Laws.{IsSound}
+use Rattle.hm_large_rules.specs.State.{Block, size_for, State}
+use Rattle.hm_large_rules.specs.Rules.{IsCandidate}
+use Rattle.hm_large_rules.specs.Laws.{IsSound}
 use Rattle.hm_large_book.specs.declared.blocks.BlockBook.{BlockBook}
 use Rattle.hm_large_book.specs.declared.blocks.Extent.{Extent}
 use Rattle.hm_large_book.specs.Book.{extent_of, ShowsBlocks}
@@ -19,7 +18,7 @@ pub record IsShown (k : BlockBook) : Type 0 where
   pub shows : ShowsBlocks config s k
 
 -- a block for the request may stand at the address
-pub record HasPlace (k : BlockBook) (a asked guard : ℕ) : Type 0 where
+pub record HasSpace (k : BlockBook) (a asked guard : ℕ) : Type 0 where
   pub config : Config
   pub s : State
   pub align : ℕ

@@ -2,10 +2,10 @@
 use Rattle.std.specs.Prelude.{◌≡◌, ℕ, ◌+◌, Some}
 use Rattle.hm_model.specs.declared.entry.Entry.{Entry}
 use Rattle.hm_model.specs.Maps.{at}
-use Rattle.hm_large.specs.Blocks.{Block}
-use Rattle.hm_large.specs.State.{State, takes_back, releases}
-use Rattle.hm_large.specs.Rules.{Releases}
-use Rattle.hm_large.specs.Draws.{FreeDraws}
+use Rattle.hm_large_rules.specs.State.{Block, State}
+use Rattle.hm_large_rules.specs.Steps.{takes_back, releases}
+use Rattle.hm_large_rules.specs.Rules.{ReleasesFor}
+use Rattle.hm_large_rules.specs.Drawn.{IsDrawnFree}
 use Rattle.hm_large_book.specs.declared.blocks.Extent.{Extent}
 use Rattle.hm_model.specs.declared.judgement.Judgement.{Judgement}
 use Rattle.hm_model.specs.declared.judgement.Judgement.TheVariants.{Taken, NotLegal, NotDrawn}
@@ -20,14 +20,14 @@ freed_to s e a x = record (releases e.choices.released (takes_back a e.draws.w0 
 -- which of the first two does not hold
 abbrev pub IsFreeJudged : LargeBook → State → Entry → ℕ → Block → LargeBook → Judgement → Type 0
 IsFreeJudged old s e a x new Taken =
-    Releases (Some x) (takes_back a e.draws.w0 (Some x) s) e.choices.released × FreeDraws old.number s a e (Some x)
+    ReleasesFor (Some x) (takes_back a e.draws.w0 (Some x) s) e.choices.released × IsDrawnFree old.seed s a e (Some x)
     × Shows (freed_to s e a x) new
-IsFreeJudged old s e a x new NotLegal = Releases (Some x) (takes_back a e.draws.w0 (Some x) s) e.choices.released → ⊥
+IsFreeJudged old s e a x new NotLegal = ReleasesFor (Some x) (takes_back a e.draws.w0 (Some x) s) e.choices.released → ⊥
 IsFreeJudged old s e a x new NotDrawn =
-    Releases (Some x) (takes_back a e.draws.w0 (Some x) s) e.choices.released × (FreeDraws old.number s a e (Some x) → ⊥)
+    ReleasesFor (Some x) (takes_back a e.draws.w0 (Some x) s) e.choices.released × (IsDrawnFree old.seed s a e (Some x) → ⊥)
 
 pub record JudgesFree (old : LargeBook) (e : Entry) (a : ℕ) (extent : Extent) (new : LargeBook) (j : Judgement) : Type 0 where
   pub judged : (s : State) (x : Block) → Stands s old → at a s.live ≡ Some x → extent ≡ extent_of x
       → IsFreeJudged old s e a x new j
   pub config_same : new.config ≡ old.config
-  pub number_same : new.number ≡ old.number
+  pub seed_same : new.seed ≡ old.seed

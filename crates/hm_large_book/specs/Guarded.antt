@@ -3,7 +3,7 @@ use Rattle.std.specs.Prelude.{◌≡◌, ℕ, Some}
 use Rattle.hm_choice.specs.Stream.{Words, next_word}
 use Rattle.hm_model.specs.declared.entry.Entry.{Entry}
 use Rattle.hm_model.specs.Calls.{one_word}
-use Rattle.hm_large.specs.Blocks.{guard_of}
+use Rattle.hm_large_rules.specs.Draws.{guard_of}
 use Rattle.hm_model.specs.declared.judgement.Judgement.{Judgement}
 use Rattle.hm_model.specs.declared.judgement.Judgement.TheVariants.{Taken, NotLegal, NotDrawn}
 

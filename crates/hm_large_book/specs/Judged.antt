@@ -5,9 +5,10 @@ use Rattle.hm_model.specs.declared.entry.Call.{Call}
 use Rattle.hm_model.specs.declared.entry.Reply.{Reply}
 use Rattle.hm_model.specs.Calls.{no_choices, no_words}
 use Rattle.hm_sizes.specs.declared.config.Config.{Config}
-use Rattle.hm_large.specs.State.{State, changed}
-use Rattle.hm_large.specs.Rules.{Terms, Allows}
-use Rattle.hm_large.specs.Draws.{EntryDraws}
+use Rattle.hm_large_rules.specs.State.{State}
+use Rattle.hm_large_rules.specs.Steps.{changed}
+use Rattle.hm_large_rules.specs.Rules.{Terms, Allows}
+use Rattle.hm_large_rules.specs.Drawn.{IsDrawnEvent}
 use Rattle.hm_model.specs.declared.judgement.Judgement.{Judgement}
 use Rattle.hm_model.specs.declared.judgement.Judgement.TheVariants.{Taken, NotLegal, NotDrawn}
 use Rattle.hm_large_book.specs.declared.book.LargeBook.{LargeBook}
@@ -31,16 +32,16 @@ changed_to s e call reply = record (changed e call reply s) { words = e.draws.us
 -- it is allowed, it is drawn, and the new book shows the state after it; or which of the first two does not hold
 abbrev pub IsJudged : LargeBook → State → Entry → Call → Reply → LargeBook → Judgement → Type 0
 IsJudged old s e call reply new Taken =
-    Allows (terms_of old.config) s e call reply × EntryDraws old.number s e call reply × Shows (changed_to s e call reply) new
+    Allows (terms_of old.config) s e call reply × IsDrawnEvent old.seed s e call reply × Shows (changed_to s e call reply) new
 IsJudged old s e call reply new NotLegal = Allows (terms_of old.config) s e call reply → ⊥
 IsJudged old s e call reply new NotDrawn =
-    Allows (terms_of old.config) s e call reply × (EntryDraws old.number s e call reply → ⊥)
+    Allows (terms_of old.config) s e call reply × (IsDrawnEvent old.seed s e call reply → ⊥)
 
--- the same in every state that the old book shows; the configuration and the number of the run stay
+-- the same in every state that the old book shows; the configuration and the seed stay
 pub record Judges (old : LargeBook) (e : Entry) (call : Call) (reply : Reply) (new : LargeBook) (j : Judgement) : Type 0 where
   pub judged : (s : State) → Stands s old → IsJudged old s e call reply new j
   pub config_same : new.config ≡ old.config
-  pub number_same : new.number ≡ old.number
+  pub seed_same : new.seed ≡ old.seed
 
 -- some state is shown
 abbrev pub Holds : LargeBook → Type 0

@@ -1,4 +1,4 @@
-pub mod Places
+pub mod Spaces
 pub mod Book
 pub mod Bytes
 pub mod Changes

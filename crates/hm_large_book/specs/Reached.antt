@@ -4,8 +4,8 @@ use Rattle.hm_model.specs.declared.entry.Entry.{Entry}
 use Rattle.hm_model.specs.Entries.{AreDraws}
 use Rattle.hm_sizes.specs.Configs.{IsValid}
 use Rattle.hm_sizes.specs.declared.config.Config.{Config}
-use Rattle.hm_large.specs.Rules.{Asks, Allowed, IsLegal, state}
-use Rattle.hm_large.specs.Draws.{Drawn, IsDrawn}
+use Rattle.hm_large_rules.specs.Rules.{Asks, Allowed, IsLegal, state}
+use Rattle.hm_large_rules.specs.Drawn.{IsDrawnEntry, IsDrawn}
 use Rattle.hm_model.specs.declared.judgement.Judgement.{Judgement}
 use Rattle.hm_model.specs.declared.judgement.Judgement.TheVariants.{Taken, NotLegal, NotDrawn}
 use Rattle.hm_large_book.specs.declared.book.LargeBook.{LargeBook}
@@ -22,7 +22,7 @@ pub record IsFormed (faults : ℕ) (e : Entry) : Type 0 where
 -- the entries are a legal and drawn history, and the book shows the state after them
 pub record IsBookOf (c : Config) (seed : ℕ) (es : List Entry) (k : LargeBook) : Type 0 where
   pub config_is : k.config ≡ c
-  pub number_is : k.number ≡ seed
+  pub seed_is : k.seed ≡ seed
   pub valid : IsValid c
   pub legal : IsLegal (terms_of c) es
   pub drawn : IsDrawn seed es
@@ -39,7 +39,7 @@ pub record IsReached (k : LargeBook) : Type 0 where
 -- allowed and not drawn
 abbrev pub Says : Config → ℕ → List Entry → Entry → LargeBook → Judgement → Type 0
 Says c seed es e new Taken =
-    Allowed (terms_of c) (state (terms_of c) es) e × Drawn seed (state (terms_of c) es) e × IsBookOf c seed (es ++ e ∷ []) new
+    Allowed (terms_of c) (state (terms_of c) es) e × IsDrawnEntry seed (state (terms_of c) es) e × IsBookOf c seed (es ++ e ∷ []) new
 Says c seed es e new NotLegal = Allowed (terms_of c) (state (terms_of c) es) e → ⊥
 Says c seed es e new NotDrawn =
-    Allowed (terms_of c) (state (terms_of c) es) e × (Drawn seed (state (terms_of c) es) e → ⊥)
+    Allowed (terms_of c) (state (terms_of c) es) e × (IsDrawnEntry seed (state (terms_of c) es) e → ⊥)

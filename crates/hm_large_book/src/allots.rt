@@ -1,14 +1,14 @@
 //! Entries of a call that allots a large block.
 ghost use Rattle.std.specs.Prelude.{◌≡◌, ◌≤◌, ◌^◌, ◌↔◌, IsTrue, IfOk, Some};
 ghost use Rattle.hm_choice.specs.Stream.{after_word};
-ghost use Rattle.hm_large.specs.Rules.{chose_guard};
+ghost use Rattle.hm_large_rules.specs.Rules.{chose_guard};
 ghost use Rattle.hm_large_book.specs.Guarded.{JudgesGuard};
 ghost use Rattle.hm_large_book.specs.Judged.{Judges, Holds};
 
 use crate::book::LargeBook;
 use crate::changes::size_of_block;
 use crate::judgement::rose;
-use crate::places::least_place;
+use crate::least::least_address;
 use hm_base::NoMemory;
 use hm_choice::Stream;
 use hm_model::{Call, Choices, Draws, Entry, Judgement, Reply};
@@ -31,11 +31,11 @@ fn is_same(number: u64, other: u64) -> bool
     number == other
 }
 
-// Whether the place that was found is this one.
-fn is_place(place: Option<u64>, addr: u64) -> bool
-    ensures { IsTrue result ↔ (place ≡ Some addr) }
+// Whether the address that was found is this one.
+fn is_found(least: Option<u64>, addr: u64) -> bool
+    ensures { IsTrue result ↔ (least ≡ Some addr) }
 {
-    match place {
+    match least {
         Some(found) => found == addr,
         None => false,
     }
@@ -50,7 +50,7 @@ fn guarded(words: &mut Stream, entry: &Entry, size: u64) -> Judgement
     let most = (size / (2 * PAGE)).max(1);
     let (word, more) = words.draw(most as u32);
     let pages = 1 + u64::from(more);
-    if (entry.draws == Draws::one(word)) & is_place(entry.choices.guard, pages) {
+    if (entry.draws == Draws::one(word)) & is_found(entry.choices.guard, pages) {
         Judgement::Taken
     } else {
         Judgement::NotDrawn
@@ -73,10 +73,10 @@ impl LargeBook {
     {
         let guard = entry.choices.guard.unwrap_or(0);
         let size = size_of_block(asked);
-        let place = least_place(&self.blocks.space, size, guard, align);
+        let least = least_address(&self.blocks.space, size, guard, align);
         let chosen = chose(entry, guard);
         let sized = is_same(usable, size);
-        let placed = is_place(place, addr);
+        let placed = is_found(least, addr);
         let allowed = chosen & sized & placed;
         if !allowed {
             return Ok(Judgement::NotLegal);
@@ -92,9 +92,9 @@ impl LargeBook {
     {
         let guard = entry.choices.guard.unwrap_or(0);
         let size = size_of_block(asked);
-        let place = least_place(&self.blocks.space, size, guard, align);
+        let least = least_address(&self.blocks.space, size, guard, align);
         let chosen = chose(entry, guard);
-        let none = place.is_none();
+        let none = least.is_none();
         let allowed = chosen & none;
         if !allowed {
             return Judgement::NotLegal;
@@ -102,16 +102,16 @@ impl LargeBook {
         guarded(&mut self.words, entry, size)
     }
 
-    /// There was space, and a page failed.
-    pub(crate) fn allot_failed(&mut self, entry: &Entry, asked: u64, align: u64) -> Judgement
+    /// There was space, and a page fault occurred.
+    pub(crate) fn allot_fault(&mut self, entry: &Entry, asked: u64, align: u64) -> Judgement
         requires asked { asked ≤ 2 ^ 30 }
         ensures { Judges self.old entry.now (Call.Allot asked align) Reply.PagesFailed self.new result }
     {
         let guard = entry.choices.guard.unwrap_or(0);
         let size = size_of_block(asked);
-        let place = least_place(&self.blocks.space, size, guard, align);
+        let least = least_address(&self.blocks.space, size, guard, align);
         let chosen = chose(entry, guard);
-        let some = place.is_some();
+        let some = least.is_some();
         let rose = rose(entry);
         let allowed = chosen & some & rose;
         if !allowed {

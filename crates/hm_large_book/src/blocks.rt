@@ -1,9 +1,9 @@
 //! The blocks of the large region: those that are live, those in quarantine, and the ranges that are free.
-ghost use Rattle.std.specs.Prelude.{◌≡◌, ◌↔◌, ◌&&◌, ◌+◌, ◌<◌, nat_le, nat_lt, ℕ, length, option_map, slice_get, Some, IfSome, IfNone, IsTrue, false};
+ghost use Rattle.std.specs.Prelude.{◌≡◌, ◌↔◌, ◌&&◌, ◌+◌, ◌<◌, nat_le, nat_lt, length, option_map, slice_get, Some, IfSome, IfNone, IsTrue, false};
 ghost use Rattle.std.specs.List.{list_any};
 ghost use Rattle.hm_model.specs.Maps.{at, has};
-ghost use Rattle.hm_large.specs.Blocks.{Block};
-ghost use Rattle.hm_large.specs.Rules.{wrong_size};
+ghost use Rattle.hm_large_rules.specs.State.{Block};
+ghost use Rattle.hm_large_rules.specs.Rules.{wrong_size};
 ghost use Rattle.hm_large_book.specs.Book.{blocks_in, extent_of, reaches, Accepts, IsAccepted};
 
 use hm_frames::PageRun;
@@ -32,7 +32,7 @@ pub struct Extent {
 #[derive(Drop)]
 pub struct BlockBook {
     pub live: Vec<(u64, LiveBlock)>,
-    pub held: Vec<(u64, Extent)>,
+    pub quarantined: Vec<(u64, Extent)>,
     pub recent: Vec<u64>,
     pub space: Space,
 }
@@ -53,10 +53,10 @@ pub(crate) fn extent_at(live: &[(u64, LiveBlock)], addr: u64) -> Option<Extent>
 }
 
 /// How far the block in quarantine at an address reaches.
-pub(crate) fn held_at(held: &[(u64, Extent)], addr: u64) -> Option<Extent>
-    ensures { result ≡ at addr held.now }
+pub(crate) fn quarantined_at(quarantined: &[(u64, Extent)], addr: u64) -> Option<Extent>
+    ensures { result ≡ at addr quarantined.now }
 {
-    for (start, extent) in held {
+    for (start, extent) in quarantined {
         if *start == addr {
             return Some(*extent);
         }

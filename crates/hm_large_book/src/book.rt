@@ -1,37 +1,30 @@
 //! A book of the large region: what its state is after some entries, which are legal and drawn, and whether a further
 //! one may come next.
-ghost use Rattle.std.specs.Prelude.{◌≡◌, ◌↔◌, ℕ, IsTrue, IfOk, List, []};
+ghost use Rattle.std.specs.Prelude.{◌≡◌, ℕ, IfOk, List, []};
 ghost use Rattle.hm_model.specs.declared.entry.Entry.{Entry};
 ghost use Rattle.hm_sizes.specs.Configs.{IsValid};
 ghost use Rattle.hm_sizes.specs.Homes.{large_start};
 ghost use Rattle.hm_sizes.specs.declared.config.Config.{Config};
-ghost use Rattle.hm_large.specs.Rules.{Asks, state};
+ghost use Rattle.hm_large_rules.specs.Rules.{Asks, state};
 ghost use Rattle.hm_large_book.specs.Judged.{terms_of, Judges, Holds};
-ghost use Rattle.hm_large_book.specs.Reached.{IsFormed, IsBookOf, IsReached, Says};
+ghost use Rattle.hm_large_book.specs.Reached.{IsBookOf, IsReached, Says};
 
 use crate::blocks::BlockBook;
 use crate::formed::is_formed;
 use hm_base::NoMemory;
 use hm_choice::Stream;
-use hm_model::{Call, Entry, Judgement, Reply};
+use hm_large_rules::{ARRAY_LENGTH, RING_LENGTH, STREAM};
+use hm_model::{Call, Entry, Judgement};
 use hm_quarantine::Quarantine;
 use hm_sizes::{Config, LARGE_START};
 use std::alloc::Global;
-
-/// The number of the region's stream.
-const STREAM: u64 = 196;
-
-/// The length of the quarantine's array, and of its ring.
-pub(crate) const ARRAY_LENGTH: u32 = 256;
-
-const RING_LENGTH: u32 = 1024;
 
 /// The state of the large region after some entries.
 #[derive(Drop)]
 pub struct LargeBook {
     pub(crate) alloc: Global,
     pub(crate) config: Config,
-    pub(crate) number: u64,
+    pub(crate) seed: u64,
     pub(crate) blocks: BlockBook,
     pub(crate) quarantine: Quarantine,
     pub(crate) words: Stream,
@@ -39,7 +32,7 @@ pub struct LargeBook {
 }
 
 impl LargeBook {
-    /// The book of a region with no entries, in the run of this number.
+    /// The book of a region with no entries, of this seed.
     pub fn build(alloc: Global, config: &Config, seed: u64) -> Result<LargeBook, NoMemory>
         requires { IsValid config.now }
         ensures { IfOk result (IsBookOf config.now seed []) }
@@ -47,7 +40,7 @@ impl LargeBook {
         Ok(LargeBook {
             alloc,
             config: *config,
-            number: seed,
+            seed,
             blocks: BlockBook::build(alloc, config)?,
             quarantine: Quarantine::build(alloc, ARRAY_LENGTH, RING_LENGTH)?,
             words: Stream::start(seed, STREAM),

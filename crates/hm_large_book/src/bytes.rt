@@ -1,16 +1,14 @@
 //! The bytes of live blocks: where a range of addresses lies, whether its bytes are those of some runs, and writing runs
 //! over it. Runs are never expanded.
-ghost use Rattle.std.specs.Prelude.{◌≡◌, ◌↔◌, ◌+◌, ◌<◌, ◌≤◌, ◌^◌, ℕ, IsTrue, IfSome, IfNone, None, Some, length, replicate, take, drop};
+ghost use Rattle.std.specs.Prelude.{◌≡◌, ◌↔◌, ◌+◌, ◌<◌, ◌≤◌, ◌^◌, IsTrue, IfSome, IfNone, None, Some, length, replicate, take, drop};
 ghost use Rattle.std.specs.Bool.{MatchBool};
 ghost use Rattle.hm_base.specs.Lists.{written};
 ghost use Rattle.hm_model.specs.Runs.{expand};
 ghost use Rattle.hm_outside.specs.Piece.{bytes_in};
 ghost use Rattle.hm_sizes.specs.declared.config.Config.{Config};
-ghost use Rattle.hm_large.specs.Blocks.{first_trap, bytes_read, written_over};
-ghost use Rattle.hm_large.specs.State.{State};
-ghost use Rattle.hm_large.specs.Laws.{IsSound};
-ghost use Rattle.hm_large.specs.Kept.{AreGuarded};
-ghost use Rattle.hm_large.specs.Stored.{IsLeft};
+ghost use Rattle.hm_large_rules.specs.Bytes.{first_trap, bytes_read, overlaid_blocks, IsLeft};
+ghost use Rattle.hm_large_rules.specs.State.{State, AreGuarded};
+ghost use Rattle.hm_large_rules.specs.Laws.{IsSound};
 ghost use Rattle.hm_large_book.specs.Book.{block_in, blocks_in};
 ghost use Rattle.hm_large_book.specs.Bytes.{LiesAt, over_block};
 
@@ -60,15 +58,15 @@ pub(crate) fn traps_at(live: &[(u64, LiveBlock)], addr: u64, len: u64, trap: u64
 
 /// Which live block has a range of addresses, and how far into it they begin.
 #[derive(Clone, Copy)]
-pub struct Place {
+pub struct Position {
     pub block: usize,
     pub offset: usize,
 }
 
 // Where so many addresses lie, if one live block has them all.
-fn find_place(live: &[(u64, LiveBlock)], addr: u64, len: u64) -> Option<Place>
+fn find_position(live: &[(u64, LiveBlock)], addr: u64, len: u64) -> Option<Position>
     requires some { 1 ≤ len }
-    ensures within { IfSome result (λ place. place.block < length live.now) }
+    ensures within { IfSome result (λ position. position.block < length live.now) }
     ensures some { IfSome result (LiesAt live.now addr len) }
     ensures none { IfNone result ((c : Config) (s : State) → IsSound c s → AreGuarded s.live
         → blocks_in live.now ≡ s.live → first_trap s.live addr len ≡ None → ⊥) }
@@ -80,7 +78,7 @@ fn find_place(live: &[(u64, LiveBlock)], addr: u64, len: u64) -> Option<Place>
             if left < len {
                 None
             } else {
-                Some(Place {
+                Some(Position {
                     block: index,
                     offset: (addr - *start) as usize,
                 })
@@ -113,7 +111,7 @@ fn is_all(piece: &Piece<'_>, byte: u8) -> bool
     }
 }
 
-// Whether so many bytes from a place on are all this one.
+// Whether so many bytes from an offset on are all this one.
 fn is_run(bytes: &PageRun, from: usize, len: usize, byte: u8) -> bool
     requires within { from + len ≤ length bytes.now }
     requires most { len ≤ 2 ^ 30 }
@@ -131,7 +129,7 @@ fn is_run(bytes: &PageRun, from: usize, len: usize, byte: u8) -> bool
     true
 }
 
-// Whether the bytes from a place on are those of runs.
+// Whether the bytes from an offset on are those of runs.
 fn are_bytes(bytes: &PageRun, from: usize, pairs: &[(u8, u64)]) -> bool
     requires within { from + length (expand pairs.now) ≤ length bytes.now }
     requires most { length (expand pairs.now) ≤ 2 ^ 30 }
@@ -149,7 +147,7 @@ fn are_bytes(bytes: &PageRun, from: usize, pairs: &[(u8, u64)]) -> bool
     true
 }
 
-// Writes the bytes of runs from a place on.
+// Writes the bytes of runs from an offset on.
 fn write_runs(bytes: &mut PageRun, from: usize, pairs: &[(u8, u64)])
     requires within { from + length (expand pairs.now) ≤ length bytes.old }
     requires most { length (expand pairs.now) ≤ 2 ^ 30 }
@@ -186,8 +184,13 @@ pub(crate) fn has_bytes(live: &[(u64, LiveBlock)], addr: u64, len: u64, runs: &R
         → IsTrue result ↔ ((length (expand runs.now) ≡ len) × (first_trap s.live addr len ≡ None)
         × (expand runs.now ≡ bytes_read s.live addr len)) }
 {
-    match find_place(live, addr, len) {
-        Some(place) => part_is(&live[place.block].1.bytes, place.offset, len as usize, runs),
+    match find_position(live, addr, len) {
+        Some(position) => part_is(
+            &live[position.block].1.bytes,
+            position.offset,
+            len as usize,
+            runs,
+        ),
         None => false,
     }
 }
@@ -209,12 +212,12 @@ fn write(live: &mut [(u64, LiveBlock)], addr: u64, runs: &Runs) -> bool
     requires most { length (expand runs.now) ≤ 2 ^ 30 }
     ensures { (c : Config) (s : State) → IsSound c s → AreGuarded s.live → blocks_in live.old ≡ s.live
         → MatchBool result ((first_trap s.live addr (length (expand runs.now)) ≡ None)
-        × (blocks_in live.new ≡ written_over addr (expand runs.now) s.live))
+        × (blocks_in live.new ≡ overlaid_blocks addr (expand runs.now) s.live))
         (first_trap s.live addr (length (expand runs.now)) ≡ None → ⊥) }
 {
-    match find_place(live, addr, runs.len()) {
-        Some(place) => {
-            write_block(&mut live[place.block], place.offset, runs);
+    match find_position(live, addr, runs.len()) {
+        Some(position) => {
+            write_block(&mut live[position.block], position.offset, runs);
             true
         }
         None => false,
@@ -228,7 +231,7 @@ pub(crate) fn write_live(live: &mut Vec<(u64, LiveBlock)>, addr: u64, runs: &Run
     requires most { length (expand runs.now) ≤ 2 ^ 30 }
     ensures { (c : Config) (s : State) → IsSound c s → AreGuarded s.live → blocks_in live.old.items ≡ s.live
         → MatchBool result ((first_trap s.live addr (length (expand runs.now)) ≡ None)
-        × (blocks_in live.new.items ≡ written_over addr (expand runs.now) s.live))
+        × (blocks_in live.new.items ≡ overlaid_blocks addr (expand runs.now) s.live))
         (first_trap s.live addr (length (expand runs.now)) ≡ None → ⊥) }
 {
     write(live, addr, runs)

@@ -1,5 +1,5 @@
 //! What is said of an entry of each call, by its reply.
-ghost use Rattle.std.specs.Prelude.{◌≡◌, ◌≤◌, ◌^◌, IfOk, length};
+ghost use Rattle.std.specs.Prelude.{◌≤◌, ◌^◌, IfOk, length};
 ghost use Rattle.hm_model.specs.Calls.{IsRange};
 ghost use Rattle.hm_model.specs.Runs.{expand};
 ghost use Rattle.hm_large_book.specs.Judged.{Judges, Holds};
@@ -22,7 +22,7 @@ impl LargeBook {
         match &entry.reply {
             Reply::Given { addr, usable } => self.given(entry, asked, align, *addr, *usable),
             Reply::NoSpace => Ok(self.no_space(entry, asked, align)),
-            Reply::PagesFailed => Ok(self.allot_failed(entry, asked, align)),
+            Reply::PagesFailed => Ok(self.allot_fault(entry, asked, align)),
             _ => Ok(Judgement::NotLegal),
         }
     }
@@ -42,7 +42,7 @@ impl LargeBook {
                 block,
                 stated: other,
             } => { Ok(self.freed_wrong(entry, addr, stated, *block, *other)) }
-            Reply::PagesFailed => Ok(self.free_failed(entry, addr, stated)),
+            Reply::PagesFailed => Ok(self.free_fault(entry, addr, stated)),
             Reply::Freed => self.freed(entry, addr, stated),
             _ => Ok(Judgement::NotLegal),
         }

@@ -5,14 +5,14 @@ ghost use Rattle.hm_base.specs.Lists.{zeros};
 ghost use Rattle.hm_model.specs.Maps.{at, removed};
 ghost use Rattle.hm_sizes.specs.Configs.{IsValid};
 ghost use Rattle.hm_sizes.specs.declared.config.Config.{Config};
-ghost use Rattle.hm_large.specs.Blocks.{Block, size_for, new_block, is_quarantined, mark, marked};
-ghost use Rattle.hm_large.specs.State.{State, start, takes_back, releases};
-ghost use Rattle.hm_large.specs.Rules.{IsCandidate, ReleasesFrom};
-ghost use Rattle.hm_large.specs.Laws.{IsSound};
+ghost use Rattle.hm_large_rules.specs.State.{Block, size_for, is_quarantined, State, start};
+ghost use Rattle.hm_large_rules.specs.Steps.{new_block, mark, marked, takes_back, releases};
+ghost use Rattle.hm_large_rules.specs.Rules.{IsCandidate, Releases};
+ghost use Rattle.hm_large_rules.specs.Laws.{IsSound};
 ghost use Rattle.hm_large_book.specs.Book.{block_in, blocks_in, extent_of, ShowsBlocks};
-ghost use Rattle.hm_large_book.specs.Changes.{HasPlace, IsLive, IsShown};
+ghost use Rattle.hm_large_book.specs.Changes.{HasSpace, IsLive, IsShown};
 
-use crate::blocks::{BlockBook, Extent, LiveBlock, held_at};
+use crate::blocks::{BlockBook, Extent, LiveBlock, quarantined_at};
 use hm_base::NoMemory;
 use hm_frames::PageRun;
 use hm_sizes::{Config, LARGE_START, PAGE, large_size, raised};
@@ -20,7 +20,7 @@ use hm_space::Space;
 use std::alloc::Global;
 
 /// The most blocks in quarantine.
-const MOST_HELD: usize = 1280;
+const MOST_QUARANTINED: usize = 1280;
 
 /// Of how many of the latest frees no block leaves the quarantine.
 const DELAY: usize = 1025;
@@ -61,10 +61,10 @@ fn remove_live(live: &mut Vec<(u64, LiveBlock)>, addr: u64)
     live.retain(|block| block.0 != addr);
 }
 
-fn remove_held(held: &mut Vec<(u64, Extent)>, addr: u64)
-    ensures { held.new.items ≡ removed addr held.old.items }
+fn remove_quarantined(quarantined: &mut Vec<(u64, Extent)>, addr: u64)
+    ensures { quarantined.new.items ≡ removed addr quarantined.old.items }
 {
-    held.retain(|block| block.0 != addr);
+    quarantined.retain(|block| block.0 != addr);
 }
 
 // Notes the latest free.
@@ -76,7 +76,7 @@ fn note(recent: &mut Vec<u64>, addr: u64) -> Result<(), NoMemory>
     Ok(())
 }
 
-// Notes of one block, if it is the one at this address, that a page failed.
+// Notes of one block, if it is the one at this address, that a page fault occurred.
 fn mark_block(entry: &mut (u64, LiveBlock), addr: u64)
     ensures { block_in entry.new ≡ mark addr (block_in entry.old) }
 {
@@ -85,7 +85,7 @@ fn mark_block(entry: &mut (u64, LiveBlock), addr: u64)
     }
 }
 
-// Notes that a page failed as the block at an address was to be taken back.
+// Notes that a page fault occurred as the block at an address was to be taken back.
 fn mark(live: &mut [(u64, LiveBlock)], addr: u64)
     ensures { blocks_in live.new ≡ marked addr (blocks_in live.old) }
 {
@@ -94,7 +94,7 @@ fn mark(live: &mut [(u64, LiveBlock)], addr: u64)
     }
 }
 
-/// Notes that a page failed as the block at an address was to be taken back.
+/// Notes that a page fault occurred as the block at an address was to be taken back.
 pub(crate) fn mark_live(live: &mut Vec<(u64, LiveBlock)>, addr: u64)
     ensures { blocks_in live.new.items ≡ marked addr (blocks_in live.old.items) }
 {
@@ -102,12 +102,12 @@ pub(crate) fn mark_live(live: &mut Vec<(u64, LiveBlock)>, addr: u64)
 }
 
 // How many of these begin at other addresses.
-fn count_others(held: &[(u64, Extent)], addr: u64) -> usize
-    ensures value { result ≡ length (removed addr held.now) }
-    ensures few { result ≤ length held.now }
+fn count_others(quarantined: &[(u64, Extent)], addr: u64) -> usize
+    ensures value { result ≡ length (removed addr quarantined.now) }
+    ensures few { result ≤ length quarantined.now }
 {
     let mut count = 0;
-    for (start, _) in held {
+    for (start, _) in quarantined {
         if *start != addr {
             count += 1;
         }
@@ -124,7 +124,7 @@ impl BlockBook {
         let space = Space::build(alloc, LARGE_START, config.large_space)?;
         Ok(BlockBook {
             live: Vec::new(alloc),
-            held: Vec::new(alloc),
+            quarantined: Vec::new(alloc),
             recent: Vec::new(alloc),
             space,
         })
@@ -139,7 +139,7 @@ impl BlockBook {
         guard: u64,
     ) -> Result<(), NoMemory>
         requires asked { asked ≤ 2 ^ 30 }
-        requires place { HasPlace self.old addr asked guard }
+        requires space { HasSpace self.old addr asked guard }
         ensures { OnOk result ((c : Config) (s : State) (align : ℕ) → ShowsBlocks c s self.old
             → IsCandidate c s align (size_for asked) guard addr
             → ShowsBlocks c (record s { live = (addr, new_block asked guard) ∷ s.live }) self.new) }
@@ -160,13 +160,13 @@ impl BlockBook {
     }
 
     /// The live block at an address goes into quarantine.
-    pub(crate) fn hold(&mut self, addr: u64, extent: Extent) -> Result<(), NoMemory>
+    pub(crate) fn quarantine(&mut self, addr: u64, extent: Extent) -> Result<(), NoMemory>
         ensures { OnOk result ((c : Config) (s : State) (x : Block) (word : ℕ) → IsSound c s
             → ShowsBlocks c s self.old → at addr s.live ≡ Some x → extent ≡ extent_of x → is_quarantined x ≡ true
             → ShowsBlocks c (takes_back addr word (Some x) s) self.new) }
     {
         remove_live(&mut self.live, addr);
-        self.held.insert(0, (addr, extent))?;
+        self.quarantined.insert(0, (addr, extent))?;
         note(&mut self.recent, addr)?;
         Ok(())
     }
@@ -184,15 +184,15 @@ impl BlockBook {
 
     // Whether the quarantine may let go of a block, or of none.
     fn may_release(&self, released: Option<u64>) -> bool
-        ensures { (c : Config) (s : State) → ShowsBlocks c s self.now → IsTrue result ↔ ReleasesFrom s released }
+        ensures { (c : Config) (s : State) → ShowsBlocks c s self.now → IsTrue result ↔ Releases s released }
     {
         match released {
-            None => self.held.len() <= MOST_HELD,
+            None => self.quarantined.len() <= MOST_QUARANTINED,
             Some(addr) => {
-                let held = held_at(&self.held, addr).is_some();
+                let quarantined = quarantined_at(&self.quarantined, addr).is_some();
                 let late = self.recent.contains(&addr);
-                let left = count_others(&self.held, addr);
-                held & !late & (left <= MOST_HELD)
+                let left = count_others(&self.quarantined, addr);
+                quarantined & !late & (left <= MOST_QUARANTINED)
             }
         }
     }
@@ -201,11 +201,11 @@ impl BlockBook {
     fn let_go(&mut self, addr: u64)
         requires { IsShown self.old }
         ensures { (c : Config) (s : State) (x : Block) → IsSound c s → ShowsBlocks c s self.old
-            → at addr s.held ≡ Some x
-            → ShowsBlocks c (record s { held = removed addr s.held }) self.new }
+            → at addr s.quarantined ≡ Some x
+            → ShowsBlocks c (record s { quarantined = removed addr s.quarantined }) self.new }
     {
-        if let Some(extent) = held_at(&self.held, addr) {
-            remove_held(&mut self.held, addr);
+        if let Some(extent) = quarantined_at(&self.quarantined, addr) {
+            remove_quarantined(&mut self.quarantined, addr);
             self.space.put_back(addr - PAGE * extent.guard, span(extent.size, extent.guard));
         }
     }
@@ -214,8 +214,8 @@ impl BlockBook {
     pub(crate) fn release(&mut self, released: Option<u64>) -> bool
         requires { IsShown self.old }
         ensures { (c : Config) (s : State) → IsSound c s → ShowsBlocks c s self.old
-            → MatchBool result (ReleasesFrom s released × ShowsBlocks c (releases released s) self.new)
-            (ReleasesFrom s released → ⊥) }
+            → MatchBool result (Releases s released × ShowsBlocks c (releases released s) self.new)
+            (Releases s released → ⊥) }
     {
         if !self.may_release(released) {
             return false;

@@ -3,7 +3,7 @@ ghost use Rattle.std.specs.Prelude.{◌↔◌, IsTrue};
 ghost use Rattle.hm_model.specs.Calls.{IsRange};
 ghost use Rattle.hm_model.specs.Entries.{AreDraws};
 ghost use Rattle.hm_sizes.specs.Aligned.{IsAlignment};
-ghost use Rattle.hm_large.specs.Rules.{Asks};
+ghost use Rattle.hm_large_rules.specs.Rules.{Asks};
 ghost use Rattle.hm_large_book.specs.Reached.{IsFormed};
 
 use hm_model::{Call, Draws, Entry};

@@ -1,18 +1,17 @@
 //! Entries of a block that was taken back.
-ghost use Rattle.std.specs.Prelude.{◌≡◌, ◌↔◌, ◌<◌, ◌≤◌, ◌^◌, IsTrue, IfOk};
+ghost use Rattle.std.specs.Prelude.{◌≡◌, ◌↔◌, ◌<◌, ◌≤◌, IsTrue, IfOk};
 ghost use Rattle.hm_model.specs.Calls.{no_choices, one_word};
+ghost use Rattle.hm_large_rules.specs.State.{quarantined_below};
 ghost use Rattle.hm_large_book.specs.Book.{blocks_in, Accepts};
 ghost use Rattle.hm_large_book.specs.Changes.{IsLive};
 ghost use Rattle.hm_large_book.specs.Freed.{JudgesFree};
 ghost use Rattle.hm_large_book.specs.Judged.{Judges, Holds};
 
 use crate::blocks::{Extent, accepted};
-use crate::book::{ARRAY_LENGTH, LargeBook};
+use crate::book::LargeBook;
 use hm_base::NoMemory;
+use hm_large_rules::{ARRAY_LENGTH, QUARANTINED_BELOW};
 use hm_model::{Call, Choices, Draws, Entry, Judgement, Reply};
-
-// A freed block below this size stays in quarantine.
-const QUARANTINED_BELOW: u64 = 1 << 25;
 
 // Whether an entry chose at most what left the quarantine.
 fn chose(entry: &Entry) -> bool
@@ -36,7 +35,7 @@ impl LargeBook {
     // A block that does not go into quarantine was taken back.
     fn freed_great(&mut self, entry: &Entry, addr: u64, extent: Extent) -> Judgement
         requires live { IsLive self.old.blocks addr extent }
-        requires great { 2 ^ 25 ≤ extent.size }
+        requires great { quarantined_below ≤ extent.size }
         ensures { JudgesFree self.old entry.now addr extent self.new result }
     {
         if entry.choices.released.is_some() {
@@ -59,15 +58,15 @@ impl LargeBook {
     ) -> Result<Judgement, NoMemory>
         requires stands { Holds self.old }
         requires live { IsLive self.old.blocks addr extent }
-        requires small { extent.size < 2 ^ 25 }
+        requires small { extent.size < quarantined_below }
         ensures { IfOk result (JudgesFree self.old entry.now addr extent self.new) }
     {
-        self.blocks.hold(addr, extent)?;
+        self.blocks.quarantine(addr, extent)?;
         if !self.blocks.release(entry.choices.released) {
             return Ok(Judgement::NotLegal);
         }
-        let (word, place) = self.words.draw(ARRAY_LENGTH);
-        let left = self.quarantine.pass(addr, place);
+        let (word, index) = self.words.draw(ARRAY_LENGTH);
+        let left = self.quarantine.pass(addr, index);
         if draws_so(entry, word, left) {
             Ok(Judgement::Taken)
         } else {

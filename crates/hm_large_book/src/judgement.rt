@@ -1,5 +1,5 @@
-//! What is said of an entry that changes nothing, and whether a page failed.
-ghost use Rattle.std.specs.Prelude.{◌≡◌, ◌↔◌, ◌<◌, IsTrue};
+//! What is said of an entry that changes nothing, and whether a page fault occurred.
+ghost use Rattle.std.specs.Prelude.{◌↔◌, ◌<◌, IsTrue};
 ghost use Rattle.hm_large_book.specs.Judged.{JudgesPlain};
 
 use hm_model::{Choices, Draws, Entry, Judgement};
@@ -17,7 +17,7 @@ pub(crate) fn plain(allowed: bool, entry: &Entry) -> Judgement
     }
 }
 
-/// Whether a page failed while an entry was made.
+/// Whether a page fault occurred while an entry was made.
 pub(crate) fn rose(entry: &Entry) -> bool
     ensures { IsTrue result ↔ (entry.now.faults_before < entry.now.faults_after) }
 {

@@ -10,8 +10,8 @@ mod changes;
 mod formed;
 mod frees;
 mod judgement;
+mod least;
 mod looks;
-mod places;
 mod writes;
 
 pub use book::LargeBook;

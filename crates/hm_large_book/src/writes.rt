@@ -1,5 +1,5 @@
-//! Entries that change live blocks and choose nothing: writing, and a free at which a page failed.
-ghost use Rattle.std.specs.Prelude.{◌≡◌, length};
+//! Entries that change live blocks and choose nothing: writing, and a free at which a page fault occurred.
+ghost use Rattle.std.specs.Prelude.{length};
 ghost use Rattle.hm_model.specs.Calls.{IsRange};
 ghost use Rattle.hm_model.specs.Runs.{expand};
 ghost use Rattle.hm_large_book.specs.Judged.{Judges};
@@ -20,8 +20,8 @@ impl LargeBook {
         plain(write_live(&mut self.blocks.live, addr, runs), entry)
     }
 
-    /// A free of a block of which a page failed.
-    pub(crate) fn free_failed(&mut self, entry: &Entry, addr: u64, stated: Option<u64>) -> Judgement
+    /// A free at which a page fault occurred.
+    pub(crate) fn free_fault(&mut self, entry: &Entry, addr: u64, stated: Option<u64>) -> Judgement
         ensures { Judges self.old entry.now (Call.GiveBack addr stated) Reply.PagesFailed self.new result }
     {
         let live = is_accepted(&self.blocks.live, addr, stated);

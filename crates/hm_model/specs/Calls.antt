@@ -8,7 +8,7 @@ use Rattle.hm_model.specs.declared.entry.Entry.{Entry}
 use Rattle.hm_model.specs.declared.entry.Reply.{Reply}
 use Rattle.hm_model.specs.declared.entry.Reply.TheVariants.{Freed}
 use Rattle.hm_model.specs.declared.entry.Who.{Who}
-use Rattle.hm_model.specs.Runs.{expand}
+use Rattle.hm_model.specs.Runs.{expand, AreRuns}
 
 -- ---- arguments
 -- a range that may be read or written: it has from 1 to 2 ^ 30 bytes and begins below 2 ^ 47
@@ -20,6 +20,11 @@ abbrev pub AsksRange : Call → Type 0
 AsksRange (Fetch addr len) = IsRange addr len
 AsksRange (Fill addr runs) = IsRange addr (length (expand runs))
 AsksRange call = ⊤
+
+-- the bytes that are written stand in as few runs as they can
+abbrev pub CallRuns : Call → Type 0
+CallRuns (Fill addr runs) = AreRuns runs
+CallRuns call = ⊤
 
 -- ---- entries
 -- nothing is chosen

@@ -4,6 +4,11 @@ use Rattle.std.specs.List.{filter}
 use Rattle.hm_model.specs.declared.entry.Entry.{Entry}
 use Rattle.hm_model.specs.declared.entry.Draws.{Draws}
 
+-- a region's history, oldest entry first, with the room for entries to come
+pub record Entries : Type 0 where
+  pub entries : List Entry
+  pub spare : ℕ
+
 -- words past those that were drawn are 0
 pub record AreDraws (d : Draws) : Type 0 where
   pub first : d.used < 1 → d.w0 ≡ 0

@@ -1,11 +1,22 @@
 -- The replies that each call of a region may have, whatever its pages tell. Which of them comes is the rule of a legal
 -- history.
-use Rattle.std.specs.Prelude.{◌≡◌, ◌≢◌, ℕ, ◌+◌, ◌<◌, ◌≤◌, ◌^◌, length, Option, None, unwrap_or, ⊤}
+use Rattle.std.specs.Prelude.{◌≡◌, ◌≢◌, ℕ, ◌+◌, ◌<◌, ◌≤◌, ◌^◌, Bool, true, false, length, Option, None, unwrap_or, ⊤}
 use Rattle.hm_model.specs.declared.entry.Call.{Call}
 use Rattle.hm_model.specs.declared.entry.Call.TheVariants.{Allot, GiveBack, Measure, Fetch, Fill}
 use Rattle.hm_model.specs.declared.entry.Reply.{Reply}
 use Rattle.hm_model.specs.declared.entry.Reply.TheVariants.{Given, Overwritten, Exhausted, NoSpace, PagesFailed, Freed, NoSlot, Unused, DoubleFree, WrongSize, Canary, Usable, Bytes, Filled, Trap, NotLive}
-use Rattle.hm_model.specs.Runs.{expand}
+use Rattle.hm_model.specs.Runs.{expand, AreRuns}
+
+-- ---- what a reply says, in either kind of region
+-- a page fault occurred: none was made accessible, or those of a block did not go
+abbrev pub is_page_fault : Reply → Bool
+is_page_fault PagesFailed = true
+is_page_fault reply = false
+
+-- the bytes that were read stand in as few runs as they can
+abbrev pub HasRuns : Reply → Type 0
+HasRuns (Bytes runs) = AreRuns runs
+HasRuns reply = ⊤
 
 -- ---- reading and writing, in either kind of region
 -- q is one of the len addresses from addr on

@@ -36,7 +36,7 @@ pub enum Reply {
     Exhausted,
     /// No free range of the large space holds the block and its guards.
     NoSpace,
-    /// A page failed.
+    /// A page fault occurred.
     PagesFailed,
     /// A live block was taken back.
     Freed,

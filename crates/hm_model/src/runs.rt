@@ -144,6 +144,13 @@ impl Runs {
         }
     }
 
+    /// They keep the rules of runs. It does nothing.
+    pub fn are_runs(&self)
+        ensures { AreRuns self.now }
+    {
+        let _ = &self.pairs;
+    }
+
     /// The pairs, in order.
     pub fn pairs(&self) -> &[(u8, u64)]
         ensures { result.now ≡ self.now }

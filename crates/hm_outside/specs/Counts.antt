@@ -8,7 +8,7 @@ raised count = min (count + 1) (2 ^ 64 - 1)
 
 -- the count after a call
 abbrev pub raised_if : Bool → ℕ → ℕ
-raised_if failed count = if failed then raised count else count
+raised_if fault count = if fault then raised count else count
 
 -- nothing of a nonempty piece was appended
 abbrev pub is_refused : {E : Type 0} → Result ℕ E → (len : ℕ) → Bool

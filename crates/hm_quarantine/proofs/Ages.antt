@@ -5,7 +5,7 @@ use Rattle.std.proofs.lemmas.Bool.Decides.{nat_tests}
 use Rattle.hm_quarantine.specs.Quarantine.{Kept, IsArrayIndex, goes_on, ring_with, goes_out, let_go, kept_with}
 use Rattle.hm_quarantine.specs.LookingBack.{Free, AreIndices, kept_after}
 use Rattle.hm_base.specs.Members.{among, without_option}
-use Rattle.hm_quarantine.specs.Delay.{slots_of, held, AreNew, IsDelayed, Delays, HoldsFew}
+use Rattle.hm_quarantine.specs.Delay.{slots_of, quarantined, AreNew, IsDelayed, Delays, HoldsFew}
 use Rattle.hm_quarantine.proofs.Rings.{Takes, Room, Full, HasRoom, IsFull, takes}
 use Rattle.hm_quarantine.proofs.Passes.{length_array, length_is, looks_back, on_with}
 use Rattle.hm_quarantine.proofs.Counts.{one_of, count, count_in, times, count_array, count_empty, count_ring, count_without, among_one, among_none, none_among, once_more, self_is, count_at, count_all, count_most}
@@ -100,27 +100,27 @@ is_more : (n : ℕ) → more n ≡ min n 1
 is_more zero = omega arith
 is_more (suc n) = omega arith
 
--- what is held stands in the array and the ring, once, and the ring is old enough
-record Fine (n : ℕ) (hold frees : List ℕ) (k : Kept) : Type 0 where
-  counts : (t : ℕ → Bool) → count t hold ≡ count_in t k.array + count t k.ring
-  once : (a : ℕ) → times a hold ≤ 1
+-- what is quarantined stands in the array and the ring, once, and the ring is old enough
+record Fine (n : ℕ) (waiting frees : List ℕ) (k : Kept) : Type 0 where
+  counts : (t : ℕ → Bool) → count t waiting ≡ count_in t k.array + count t k.ring
+  once : (a : ℕ) → times a waiting ≤ 1
   ages : Aged (more n) k.ring frees
   few : length k.ring ≤ k.ring_length
 
--- a free of a slot that is not held
-record Freed (n : ℕ) (hold frees : List ℕ) (k : Kept) (out : Option ℕ) : Type 0 where
-  counts : (t : ℕ → Bool) → count_in t k.array + count t k.ring + one_of t out ≡ count t hold
-  once : (a : ℕ) → times a hold ≤ 1
+-- a free of a slot that is not quarantined
+record Freed (n : ℕ) (waiting frees : List ℕ) (k : Kept) (out : Option ℕ) : Type 0 where
+  counts : (t : ℕ → Bool) → count_in t k.array + count t k.ring + one_of t out ≡ count t waiting
+  once : (a : ℕ) → times a waiting ≤ 1
   ring : RingAfter k.ring_length (more n) k.ring out frees
 
-none_of : (n f : ℕ) (hold frees : List ℕ) (k : Kept) → Fine n hold frees k → among f hold ≡ false → count_in (λ x. x == f) k.array + count (λ x. x == f) k.ring ≡ 0
-none_of n f hold frees k fine new = sym (fine.counts (λ x. x == f)) ∙ none_among f hold new
+none_of : (n f : ℕ) (waiting frees : List ℕ) (k : Kept) → Fine n waiting frees k → among f waiting ≡ false → count_in (λ x. x == f) k.array + count (λ x. x == f) k.ring ≡ 0
+none_of n f waiting frees k fine new = sym (fine.counts (λ x. x == f)) ∙ none_among f waiting new
 
 -- what goes on from the array is not the freed slot
-quiet_on : (n f p : ℕ) (hold frees : List ℕ) (k : Kept) → length k.array ≡ n → IsArrayIndex n p → Fine n hold frees k → among f hold ≡ false
+quiet_on : (n f p : ℕ) (waiting frees : List ℕ) (k : Kept) → length k.array ≡ n → IsArrayIndex n p → Fine n waiting frees k → among f waiting ≡ false
     → (x : ℕ) → goes_on k.array f p ≡ Some x → Quiet (more n) x (f ∷ frees)
-quiet_on zero f p hold frees k wide index fine new x e = refl
-quiet_on (suc n) f p hold frees k wide index fine new x e = or_both (f == x) false (differ (x == f) least refl) refl
+quiet_on zero f p waiting frees k wide index fine new x e = refl
+quiet_on (suc n) f p waiting frees k wide index fine new x e = or_both (f == x) false (differ (x == f) least refl) refl
   where
     within : p < length k.array
     within = subst (λ (j : ℕ). p < j) (sym wide) index
@@ -129,61 +129,61 @@ quiet_on (suc n) f p hold frees k wide index fine new x e = or_both (f == x) fal
     stood = sym (on_with k.array f p within) ∙ e
 
     least : cond (x == f) 1 0 ≤ 0
-    least = omega (arith, none_of (suc n) f hold frees k fine new, count_at (λ y. y == f) k.array p x stood)
+    least = omega (arith, none_of (suc n) f waiting frees k fine new, count_at (λ y. y == f) k.array p x stood)
 
     differ : (c : Bool) → cond c 1 0 ≤ 0 → c ≡ (x == f) → (f == x) ≡ false
     differ true le is = absurd (omega (arith, le))
     differ false le is = flip x f (sym is)
 
-freed : (n f p : ℕ) (hold frees : List ℕ) (k : Kept) → length k.array ≡ n → IsArrayIndex n p → among f hold ≡ false → Fine n hold frees k
-    → Freed n (f ∷ hold) (f ∷ frees) (kept_with k f p) (let_go k f p)
-freed n f p hold frees k wide index new fine = record {
+freed : (n f p : ℕ) (waiting frees : List ℕ) (k : Kept) → length k.array ≡ n → IsArrayIndex n p → among f waiting ≡ false → Fine n waiting frees k
+    → Freed n (f ∷ waiting) (f ∷ frees) (kept_with k f p) (let_go k f p)
+freed n f p waiting frees k wide index new fine = record {
   counts = λ t. omega (arith, fine.counts t, count_ring t k.ring_length k.ring (goes_on k.array f p) fine.few, count_array t k.array f p (subst (λ (j : ℕ). IsArrayIndex j p) (sym wide) index));
-  once = λ a. once_more a f hold new (fine.once a);
+  once = λ a. once_more a f waiting new (fine.once a);
   ring = enter_after k.ring_length (more n) f k.ring frees (goes_on k.array f p) fine.few fine.ages
-      (among_none f k.ring (omega (arith, none_of n f hold frees k fine new))) (quiet_on n f p hold frees k wide index fine new);
+      (among_none f k.ring (omega (arith, none_of n f waiting frees k fine new))) (quiet_on n f p waiting frees k wide index fine new);
 }
 
--- what a free releases was held
-was_counted : (n : ℕ) (hold frees : List ℕ) (k : Kept) (out : Option ℕ) → Freed n hold frees k out → (b : ℕ) → out ≡ Some b → 1 ≤ times b hold
-was_counted n hold frees k out free b e =
+-- what a free releases was quarantined
+was_counted : (n : ℕ) (waiting frees : List ℕ) (k : Kept) (out : Option ℕ) → Freed n waiting frees k out → (b : ℕ) → out ≡ Some b → 1 ≤ times b waiting
+was_counted n waiting frees k out free b e =
     omega (arith, free.counts (λ x. x == b), ap (λ (o : Option ℕ). one_of (λ x. x == b) o) e, self_is b)
 
 least_most : (a : ℕ) → 1 ≤ a → a ≤ 1 → a ≡ 1
 least_most a low high = omega arith
 
-fine_after : (n : ℕ) (hold frees : List ℕ) (k : Kept) (out : Option ℕ) → Freed n hold frees k out → Fine n (without_option out hold) frees k
-fine_after n hold frees k out free = record {
+fine_after : (n : ℕ) (waiting frees : List ℕ) (k : Kept) (out : Option ℕ) → Freed n waiting frees k out → Fine n (without_option out waiting) frees k
+fine_after n waiting frees k out free = record {
   counts = λ t. omega (arith, free.counts t, left t);
   once = λ a. omega (arith, free.once a, left (λ x. x == a));
   ages = free.ring.ages;
   few = free.ring.few;
 }
   where
-    left : (t : ℕ → Bool) → count t (without_option out hold) + one_of t out ≡ count t hold
-    left t = count_without t out hold (λ b e. least_most (times b hold) (was_counted n hold frees k out free b e) (free.once b))
+    left : (t : ℕ → Bool) → count t (without_option out waiting) + one_of t out ≡ count t waiting
+    left t = count_without t out waiting (λ b e. least_most (times b waiting) (was_counted n waiting frees k out free b e) (free.once b))
 
 abbrev freed_by : ℕ → ℕ → List Free → Free → Type 0
 freed_by n size past free =
-    Freed n (free.slot ∷ held n size past) (slots_of (free ∷ past)) (kept_after n size (free ∷ past)) (let_go (kept_after n size past) free.slot free.index)
+    Freed n (free.slot ∷ quarantined n size past) (slots_of (free ∷ past)) (kept_after n size (free ∷ past)) (let_go (kept_after n size past) free.slot free.index)
 
-all_fine : (n size : ℕ) (past : List Free) → AreIndices n past → AreNew n size past → Fine n (held n size past) (slots_of past) (kept_after n size past)
+all_fine : (n size : ℕ) (past : List Free) → AreIndices n past → AreNew n size past → Fine n (quarantined n size past) (slots_of past) (kept_after n size past)
 all_fine n size [] indices new = record { counts = λ t. omega (arith, count_empty t n); once = λ a. omega arith; ages = tt; few = omega arith }
 all_fine n size (free ∷ past) indices new =
-    subst (λ (o : Option ℕ). Fine n (without_option o (free.slot ∷ held n size past)) (slots_of (free ∷ past)) (kept_after n size (free ∷ past)))
+    subst (λ (o : Option ℕ). Fine n (without_option o (free.slot ∷ quarantined n size past)) (slots_of (free ∷ past)) (kept_after n size (free ∷ past)))
     (looks_back n size past free indices)
-    (fine_after n (free.slot ∷ held n size past) (slots_of (free ∷ past)) (kept_after n size (free ∷ past)) (let_go (kept_after n size past) free.slot free.index)
-    (freed n free.slot free.index (held n size past) (slots_of past) (kept_after n size past) (length_array n size past) indices.0 new.0 (all_fine n size past indices.1 new.1)))
+    (fine_after n (free.slot ∷ quarantined n size past) (slots_of (free ∷ past)) (kept_after n size (free ∷ past)) (let_go (kept_after n size past) free.slot free.index)
+    (freed n free.slot free.index (quarantined n size past) (slots_of past) (kept_after n size past) (length_array n size past) indices.0 new.0 (all_fine n size past indices.1 new.1)))
 
 all_freed : (n size : ℕ) (past : List Free) (free : Free) → AreIndices n (free ∷ past) → AreNew n size (free ∷ past) → freed_by n size past free
 all_freed n size past free indices new =
-    freed n free.slot free.index (held n size past) (slots_of past) (kept_after n size past) (length_array n size past) indices.0 new.0 (all_fine n size past indices.1 new.1)
+    freed n free.slot free.index (quarantined n size past) (slots_of past) (kept_after n size past) (length_array n size past) indices.0 new.0 (all_fine n size past indices.1 new.1)
 
 delayed : (n size : ℕ) (past : List Free) (free : Free) (k : Kept) (out : Option ℕ) → k.ring_length ≡ size
-    → Freed n (free.slot ∷ held n size past) (slots_of (free ∷ past)) k out → IfSome out (IsDelayed n size past free)
+    → Freed n (free.slot ∷ quarantined n size past) (slots_of (free ∷ past)) k out → IfSome out (IsDelayed n size past free)
 delayed n size past free k None size_is done = tt
 delayed n size past free k (Some b) size_is done = record {
-  was_held = among_one b (free.slot ∷ held n size past) (was_counted n (free.slot ∷ held n size past) (slots_of (free ∷ past)) k (Some b) done b refl);
+  was_quarantined = among_one b (free.slot ∷ quarantined n size past) (was_counted n (free.slot ∷ quarantined n size past) (slots_of (free ∷ past)) k (Some b) done b refl);
   late =
       subst (λ (j : ℕ). Quiet (size + j) b (slots_of (free ∷ past))) (is_more n)
       (subst (λ (j : ℕ). Quiet (j + more n) b (slots_of (free ∷ past))) size_is done.ring.gives);
@@ -197,6 +197,6 @@ delays n size past free indices new =
 pub holds_few : HoldsFew
 holds_few n size past indices new = few (all_fine n size past indices new)
   where
-    few : Fine n (held n size past) (slots_of past) (kept_after n size past) → length (held n size past) ≤ n + size
+    few : Fine n (quarantined n size past) (slots_of past) (kept_after n size past) → length (quarantined n size past) ≤ n + size
     few fine =
-        omega (arith, count_all (held n size past), fine.counts (λ x. true), fine.few, length_is n size past, count_all (kept_after n size past).ring, count_most (kept_after n size past).array, length_array n size past)
+        omega (arith, count_all (quarantined n size past), fine.counts (λ x. true), fine.few, length_is n size past, count_all (kept_after n size past).ring, count_most (kept_after n size past).array, length_array n size past)

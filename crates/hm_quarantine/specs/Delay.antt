@@ -7,14 +7,14 @@ abbrev pub slots_of : List Free → List ℕ
 slots_of past = map (λ (free : Free). free.slot) past
 
 -- the slots in quarantine after these frees: each free brings its slot, and what it releases goes
-abbrev pub held : ℕ → ℕ → List Free → List ℕ
-held array ring [] = []
-held array ring (free ∷ past) = without_option (released array ring past free) (free.slot ∷ held array ring past)
+abbrev pub quarantined : ℕ → ℕ → List Free → List ℕ
+quarantined array ring [] = []
+quarantined array ring (free ∷ past) = without_option (released array ring past free) (free.slot ∷ quarantined array ring past)
 
 -- no free is of a slot that is in quarantine
 abbrev pub AreNew : ℕ → ℕ → List Free → Type 0
 AreNew array ring [] = Unit {0}
-AreNew array ring (free ∷ past) = (among free.slot (held array ring past) ≡ false) × AreNew array ring past
+AreNew array ring (free ∷ past) = (among free.slot (quarantined array ring past) ≡ false) × AreNew array ring past
 
 -- how many further frees stand at least between the free of a slot and its release
 abbrev pub delay : ℕ → ℕ → ℕ
@@ -22,7 +22,7 @@ delay array ring = ring + min array 1
 
 -- a slot that a free releases was in quarantine, and none of the latest frees is its own
 pub record IsDelayed (array ring : ℕ) (past : List Free) (free : Free) (slot : ℕ) : Type 0 where
-  pub was_held : among slot (free.slot ∷ held array ring past) ≡ true
+  pub was_quarantined : among slot (free.slot ∷ quarantined array ring past) ≡ true
   pub late : among slot (take (delay array ring) (slots_of (free ∷ past))) ≡ false
 
 -- what is released is delayed
@@ -33,4 +33,4 @@ Delays = (array ring : ℕ) (past : List Free) (free : Free) → AreIndices arra
 -- no more slots are in quarantine than the array and the ring have cells
 abbrev pub HoldsFew : Type 0
 HoldsFew = (array ring : ℕ) (past : List Free) → AreIndices array past → AreNew array ring past
-    → length (held array ring past) ≤ array + ring
+    → length (quarantined array ring past) ≤ array + ring

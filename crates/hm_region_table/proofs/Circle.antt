@@ -5,8 +5,8 @@ use Rattle.std.proofs.lemmas.Nat.{mod_below}
 use Rattle.hm_region_table.specs.Cells.{spread, home, next, IsOn}
 
 -- the same distance leads to the same cell
-pub same_place : (n s d p q : ℕ) → s < n → IsOn n s d p → IsOn n s d q → p ≡ q
-same_place n s d p q lt (inp, a) (inq, b) = elim a [
+pub same_index : (n s d p q : ℕ) → s < n → IsOn n s d p → IsOn n s d q → p ≡ q
+same_index n s d p q lt (inp, a) (inq, b) = elim a [
   | inl x ↦ elim b [ inl y ↦ omega arith | inr y ↦ omega arith ]
   | inr x ↦ elim b [ inl y ↦ omega arith | inr y ↦ omega arith ]
 ]

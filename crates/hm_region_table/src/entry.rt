@@ -1,13 +1,13 @@
 //! What the table keeps.
 
 /// A block of the large region: what was asked for, its bytes and the guard pages on each side of it, whether the
-/// quarantine holds it, and whether an earlier free of it failed for its pages.
+/// quarantine holds it, and whether an earlier free of it met a page fault.
 #[derive(Clone, Copy, PartialEq, Eq, Debug)]
 pub struct Block {
     pub asked: u64,
     pub size: u64,
     pub guard: u64,
-    pub held: bool,
+    pub quarantined: bool,
     pub failed: bool,
 }
 

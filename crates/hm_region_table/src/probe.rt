@@ -21,12 +21,12 @@ pub(crate) fn home(addr: u64, count: usize) -> usize
 }
 
 /// The cell after this one, round the end.
-pub(crate) fn next(place: usize, count: usize) -> usize
-    requires { place < count }
-    ensures value { result ≡ next count place }
+pub(crate) fn next(index: usize, count: usize) -> usize
+    requires { index < count }
+    ensures value { result ≡ next count index }
     ensures within { result < count }
 {
-    if place + 1 == count { 0 } else { place + 1 }
+    if index + 1 == count { 0 } else { index + 1 }
 }
 
 /// Where the key's entry stands.
@@ -36,13 +36,13 @@ pub(crate) fn find(cells: &[Option<Entry>], addr: u64) -> Option<usize>
     ensures absent { IfNone result (IsNotThere cells.now addr) }
 {
     let count = cells.len();
-    let mut place = home(addr, count);
+    let mut index = home(addr, count);
     for _passed in 0..count {
-        let entry = cells[place]?;
+        let entry = cells[index]?;
         if entry.addr == addr {
-            return Some(place);
+            return Some(index);
         }
-        place = next(place, count);
+        index = next(index, count);
     }
     None
 }
@@ -54,12 +54,12 @@ pub(crate) fn cell_for(cells: &[Option<Entry>], addr: u64) -> usize
     ensures { IsCellFor cells.now addr result }
 {
     let count = cells.len();
-    let mut place = home(addr, count);
+    let mut index = home(addr, count);
     for _passed in 0..count {
-        if cells[place].is_none() {
-            return place;
+        if cells[index].is_none() {
+            return index;
         }
-        place = next(place, count);
+        index = next(index, count);
     }
-    place
+    index
 }

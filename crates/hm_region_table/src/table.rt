@@ -31,7 +31,7 @@ impl Model for RegionTable {
     ghost view = { λ t. record {
       blocks = blocks_of t.cells.items;
       spare = length t.cells.items / 2 - t.used;
-      places = length t.cells.items / 2;
+      capacity = length t.cells.items / 2;
     } };
 
     ghost invariant = { λ t. IsTable t.cells.items t.used };
@@ -59,8 +59,8 @@ fn spread(from: &[Option<Entry>], into: &mut [Option<Entry>])
     while i > 0 {
         i -= 1;
         if let Some(entry) = from[i] {
-            let place = cell_for(into, entry.addr);
-            into[place] = Some(entry);
+            let index = cell_for(into, entry.addr);
+            into[index] = Some(entry);
         }
     }
 }
@@ -70,7 +70,7 @@ impl RegionTable {
     pub fn build(alloc: Global) -> Result<RegionTable, NoMemory>
         ensures blocks { IfOk result (λ t. t.blocks ≡ map.empty) }
         ensures spare { IfOk result (λ t. t.spare ≡ 8) }
-        ensures places { IfOk result (λ t. t.places ≡ 8) }
+        ensures capacity { IfOk result (λ t. t.capacity ≡ 8) }
     {
         let cells = empty_cells(alloc, 16)?;
         Ok(RegionTable {
@@ -89,7 +89,7 @@ impl RegionTable {
         ensures err { OnErr result (self.new ≡ self.old) }
         ensures enough { 1 ≤ self.old.spare → IsOk result }
         ensures same { 1 ≤ self.old.spare → self.new ≡ self.old }
-        ensures doubled { self.old.spare ≡ 0 → OnOk result (self.old.places ≤ self.new.spare) }
+        ensures doubled { self.old.spare ≡ 0 → OnOk result (self.old.capacity ≤ self.new.spare) }
     {
         let count = self.cells.len();
         if self.used < count / 2 {
@@ -110,10 +110,10 @@ impl RegionTable {
         requires room { 1 ≤ self.old.spare }
         ensures blocks { self.new.blocks ≡ map.insert self.old.blocks addr block }
         ensures spare { self.new.spare + 1 ≡ self.old.spare }
-        ensures places { self.new.places ≡ self.old.places }
+        ensures capacity { self.new.capacity ≡ self.old.capacity }
     {
-        let place = cell_for(&self.cells, addr);
-        self.cells[place] = Some(Entry { addr, block });
+        let index = cell_for(&self.cells, addr);
+        self.cells[index] = Some(Entry { addr, block });
         self.used += 1;
     }
 
@@ -121,8 +121,8 @@ impl RegionTable {
     pub fn get(&self, addr: u64) -> Option<Block>
         ensures { result ≡ map.get self.now.blocks addr }
     {
-        let place = find(&self.cells, addr)?;
-        let entry = self.cells[place]?;
+        let index = find(&self.cells, addr)?;
+        let entry = self.cells[index]?;
         Some(entry.block)
     }
 
@@ -131,11 +131,11 @@ impl RegionTable {
         ensures value { result ≡ map.get self.old.blocks addr }
         ensures blocks { self.new.blocks ≡ map.remove self.old.blocks addr }
         ensures spare { self.new.spare ≡ (if is_some result then self.old.spare + 1 else self.old.spare) }
-        ensures places { self.new.places ≡ self.old.places }
+        ensures capacity { self.new.capacity ≡ self.old.capacity }
     {
-        let place = find(&self.cells, addr)?;
-        let entry = self.cells[place]?;
-        take_out(&mut self.cells, place);
+        let index = find(&self.cells, addr)?;
+        let entry = self.cells[index]?;
+        take_out(&mut self.cells, index);
         self.used -= 1;
         Some(entry.block)
     }

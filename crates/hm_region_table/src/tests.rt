@@ -8,7 +8,7 @@ fn block(asked: u64) -> Block {
         asked,
         size: 4096,
         guard: 1,
-        held: false,
+        quarantined: false,
         failed: false,
     }
 }

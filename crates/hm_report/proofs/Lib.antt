@@ -1,2 +1,4 @@
 pub mod EachCount
 mod NoFindings
+mod OneLines
+mod Marked

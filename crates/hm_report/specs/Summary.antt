@@ -76,10 +76,10 @@ number_text word number = 32 ∷ word ++ 32 ∷ decimal number
 abbrev pub end_text : ℕ → List ℕ
 end_text others = if others == 0 then 10 ∷ [] else codes " other " ++ decimal others ++ 10 ∷ []
 
--- the line of the run of this number: its steps, and these counts
+-- the line of the run of this seed: its steps, and these counts
 abbrev pub counts_line : ℕ → ℕ → Counts → List ℕ
-counts_line number steps counts =
-    (codes "stress " ++ decimal number ++ codes ": steps " ++ decimal steps)
+counts_line seed steps counts =
+    (codes "stress " ++ decimal seed ++ codes ": steps " ++ decimal steps)
     ++ number_text (codes "given") counts.given
     ++ number_text (codes "written") counts.written
     ++ number_text (codes "size") counts.size
@@ -88,6 +88,6 @@ counts_line number steps counts =
     ++ number_text (codes "skipped") counts.skipped
     ++ end_text counts.other
 
--- the one line of the run of this number
+-- the one line of the run of this seed
 abbrev pub summary_text : ℕ → List Results → List ℕ
-summary_text number results = counts_line number (step_count results) (counts_of results)
+summary_text seed results = counts_line seed (step_count results) (counts_of results)

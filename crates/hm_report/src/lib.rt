@@ -4,6 +4,7 @@
 
 mod counts;
 mod findings;
+mod laws;
 mod lines;
 mod notes;
 mod results;
@@ -12,6 +13,7 @@ mod text;
 mod totals;
 
 pub use findings::{has_finding, is_finding_reply};
+pub use laws::findings_show;
 pub use lines::report;
 pub use notes::{Note, RoundNotes};
 pub use results::{Results, StepResult};

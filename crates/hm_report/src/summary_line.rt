@@ -16,14 +16,14 @@ pub struct RunSummary {
     pub found: bool,
 }
 
-/// The summary of a run of the stress trace of this number: one line; and whether an answer is a finding.
-pub fn summary(alloc: Global, number: u64, results: &[Results]) -> Result<RunSummary, NoMemory>
-    ensures text { IfOk result (λ summary. summary.text.items ≡ summary_text number results.now) }
+/// The summary of a run of the stress trace of this seed: one line; and whether an answer is a finding.
+pub fn summary(alloc: Global, seed: u64, results: &[Results]) -> Result<RunSummary, NoMemory>
+    ensures text { IfOk result (λ summary. summary.text.items ≡ summary_text seed results.now) }
     ensures found { IfOk result (λ summary. summary.found ≡ has_finding results.now) }
 {
     let counts = Counts::of(results);
     let mut out = String::new(alloc);
-    push_line(&mut out, number, step_count(results), &counts)?;
+    push_line(&mut out, seed, step_count(results), &counts)?;
     Ok(RunSummary {
         text: out.into_bytes(),
         found: is_found(&counts, results),
@@ -38,10 +38,10 @@ fn is_found(counts: &Counts, results: &[Results]) -> bool
     counts.other > 0 && has_finding(results)
 }
 
-fn push_line(out: &mut String, number: u64, steps: u128, counts: &Counts) -> Result<(), AllocError>
-    ensures { OnOk result (string_bytes out.new ≡ string_bytes out.old ++ counts_line number steps counts.now) }
+fn push_line(out: &mut String, seed: u64, steps: u128, counts: &Counts) -> Result<(), AllocError>
+    ensures { OnOk result (string_bytes out.new ≡ string_bytes out.old ++ counts_line seed steps counts.now) }
 {
-    write!(out, "stress {number}: steps {steps}")?;
+    write!(out, "stress {seed}: steps {steps}")?;
     push_count(out, "given", counts.given)?;
     push_count(out, "written", counts.written)?;
     push_count(out, "size", counts.size)?;

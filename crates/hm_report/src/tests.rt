@@ -337,7 +337,7 @@ fn three_scripts(alloc: Global) -> Result<Vec<Results>, Fail> {
     Ok(results)
 }
 
-/// A run's number, how many of the three scripts it has, its summary, and whether an answer in it is a finding.
+/// A seed, how many of the three scripts it has, its summary, and whether an answer in it is a finding.
 const SUMMARIES: [(u64, usize, &str, bool); 3] = [
     (
         0,
@@ -362,9 +362,9 @@ const SUMMARIES: [(u64, usize, &str, bool); 3] = [
 #[test]
 fn summaries(rt: HostRuntime) -> Result<(), Fail> {
     let results = three_scripts(rt.alloc())?;
-    for (number, scripts, text, found) in SUMMARIES {
+    for (seed, scripts, text, found) in SUMMARIES {
         let results = results.get(..scripts).ok_or("no such scripts")?;
-        let summed = summary(rt.alloc(), number, results)?;
+        let summed = summary(rt.alloc(), seed, results)?;
         assert_eq!(rt; summed.text.as_slice(), text.as_bytes(), "{text}");
         assert_eq!(rt; summed.found, found, "{text}");
     }

@@ -1,7 +1,7 @@
 //! The texts of answers: what a line of a report says behind its number.
 ghost use Rattle.std.specs.Prelude.{◌≡◌, ◌++◌, ◌∷◌, length, OnOk, string_bytes};
 ghost use Rattle.hm_base.specs.Bytes.{byte_word, run_word};
-ghost use Rattle.hm_report.specs.Text.{runs_text, first_difference, canary_place, overwritten_text, reply_text, cause_text, answer_text, result_text};
+ghost use Rattle.hm_report.specs.Text.{runs_text, first_difference, canary_index, overwritten_text, reply_text, cause_text, answer_text, result_text};
 
 use crate::StepResult;
 use hm_model::{Answer, Reply};
@@ -31,7 +31,7 @@ fn push_runs(out: &mut String, runs: &[(u8, u64)]) -> Result<(), AllocError>
     Ok(())
 }
 
-/// The place of the first byte in which they differ.
+/// The index of the first byte in which they differ.
 fn first_difference(kept: &[u8], found: &[u8]) -> usize
     requires { length kept.now ≡ length found.now }
     ensures { result ≡ first_difference kept.now found.now }
@@ -45,8 +45,8 @@ fn first_difference(kept: &[u8], found: &[u8]) -> usize
 }
 
 /// The first byte, lowest first, in which two canaries differ; 8 where they are equal.
-fn canary_place(kept: u64, found: u64) -> usize
-    ensures { result ≡ canary_place kept found }
+fn canary_index(kept: u64, found: u64) -> usize
+    ensures { result ≡ canary_index kept found }
 {
     first_difference(&kept.to_le_bytes(), &found.to_le_bytes())
 }
@@ -72,7 +72,7 @@ fn push_reply(out: &mut String, base: u64, reply: &Reply) -> Result<(), AllocErr
         Reply::Unused => out.push_str("unused"),
         Reply::DoubleFree => out.push_str("double free"),
         Reply::WrongSize { block, stated } => write!(out, "wrong size {block} {stated}"),
-        Reply::Canary { kept, found } => write!(out, "canary at {}", canary_place(*kept, *found)),
+        Reply::Canary { kept, found } => write!(out, "canary at {}", canary_index(*kept, *found)),
         Reply::Usable(size) => write!(out, "size {size}"),
         Reply::Bytes(runs) => {
             out.push_str("bytes")?;

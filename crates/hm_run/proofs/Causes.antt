@@ -18,9 +18,8 @@ use Rattle.hm_heap.specs.ClassRules as class
 use Rattle.hm_class_rules.specs.State as class_state
 use Rattle.hm_class_rules.specs.State.{Slab}
 use Rattle.hm_class_rules.specs.Steps.{opened}
-use Rattle.hm_large.specs.Blocks as blocks
 use Rattle.hm_heap.specs.LargeRules as large
-use Rattle.hm_large.specs.State as large_state
+use Rattle.hm_large_rules.specs.State as large_state
 use Rattle.hm_run.specs.Refusals.{RefusesFree, RefusesMeasure, RefusesAllot, found_in, Traps, RefusesClass, RefusesLargeAllot, RefusesLargeFree, TrapsLarge, RefusesLarge}
 
 -- ---- equations
@@ -151,7 +150,7 @@ module _ (t : class.Terms) (s : class_state.State) where
         overwritten = λ told a offset byte at.
             (λ e. absurd cc, λ is. absurd (none-some (offset, byte) (sym (found told a at) ∙ is)));
         given = λ told a at. (λ e. found told a at, λ is. (size, ap (λ (q : ℕ). Given q size) (same_Some b a at)));
-        pages_failed = λ e. absurd cc;
+        page_fault = λ e. absurd cc;
       }
   allot_refused before now c asked align (Overwritten b x y) h =
       let found : IsTrue t.told → (a : ℕ) → Some b ≡ Some a → found_in t s c a ≡ Some (x, y) =
@@ -163,19 +162,19 @@ module _ (t : class.Terms) (s : class_state.State) where
           λ is. overwritten_by b a (x, y) (offset, byte) at (sym (found told a at) ∙ is),
         );
         given = λ told a at. (λ e. let is = e.1 in absurd cc, λ is. absurd (none-some (x, y) (sym is ∙ found told a at)));
-        pages_failed = λ e. absurd cc;
+        page_fault = λ e. absurd cc;
       }
   allot_refused before now c asked align Exhausted h = record {
     exhausted = (λ e. (h.0, h.1), λ none. refl);
     overwritten = λ told a offset byte at. absurd (none-some a at);
     given = λ told a at. absurd (none-some a at);
-    pages_failed = λ e. absurd cc;
+    page_fault = λ e. absurd cc;
   }
   allot_refused before now c asked align PagesFailed h = record {
     exhausted = (λ e. absurd cc, λ none. absurd (not_both _ h.1 (ap (λ (o : Option ℕ). is_some o) none.1)));
     overwritten = λ told a offset byte at. absurd (none-some a at);
     given = λ told a at. absurd (none-some a at);
-    pages_failed = λ e. (h.0, h.1, h.2, h.3);
+    page_fault = λ e. (h.0, h.1, h.2, h.3);
   }
   allot_refused before now c asked align reply h = absurd h
 
@@ -206,17 +205,17 @@ module _ (t : large.Terms) (s : large_state.State) where
       → RefusesLargeAllot t s (unwrap_or e.choices.guard 0) e.faults_before e.faults_after reply asked align
   large_allot_refused e asked align (Given a usable) h = record {
     no_space = (λ e. absurd cc, λ none. absurd (none a h.0.0.fits));
-    pages_failed = λ e. absurd cc;
+    page_fault = λ e. absurd cc;
   }
-  large_allot_refused e asked align NoSpace h = record { no_space = (λ e. h.0, λ none. refl); pages_failed = λ e. absurd cc }
+  large_allot_refused e asked align NoSpace h = record { no_space = (λ e. h.0, λ none. refl); page_fault = λ e. absurd cc }
   large_allot_refused e asked align PagesFailed h = record {
     no_space = (λ e. absurd cc, λ none. absurd (none h.0.0.0 h.0.0.1));
-    pages_failed = λ e. h.0;
+    page_fault = λ e. h.0;
   }
   large_allot_refused e asked align reply h = absurd h
 
   -- a block that is not live has no wrong size
-  size_of_none : (o : Option blocks.Block) (stated : Option ℕ) (p : ℕ × ℕ) → is_some o ≡ false → large.wrong_size o stated ≡ Some p → ⊥
+  size_of_none : (o : Option large_state.Block) (stated : Option ℕ) (p : ℕ × ℕ) → is_some o ≡ false → large.wrong_size o stated ≡ Some p → ⊥
   size_of_none None stated p none e = none-some p e
   size_of_none (Some b) stated p none e = true≢false none
 
@@ -225,26 +224,26 @@ module _ (t : large.Terms) (s : large_state.State) where
   large_free_refused e a stated NotLive h = record {
     not_live = (λ e. h.0, λ is. refl);
     wrong_size = λ block other. (λ e. absurd cc, λ is. absurd (size_of_none (at a s.live) stated (block, other) h.0 is));
-    pages_failed = λ e. absurd cc;
+    page_fault = λ e. absurd cc;
   }
   large_free_refused e a stated (WrongSize x y) h = record {
     not_live = (λ e. absurd cc, λ is. absurd (size_of_none (at a s.live) stated (x, y) is h.0));
     wrong_size = λ block other. (λ e. h.0 ∙ ap sizes_of e, λ is. wrong_by (x, y) (block, other) (sym h.0 ∙ is));
-    pages_failed = λ e. absurd cc;
+    page_fault = λ e. absurd cc;
   }
   large_free_refused e a stated PagesFailed h = record {
     not_live = (λ e. absurd cc, λ is. absurd (not_both _ h.0 is));
     wrong_size = λ block other. (λ e. absurd cc, λ is. absurd (none-some (block, other) (sym h.1 ∙ is)));
-    pages_failed = λ e. (h.0, h.1, h.2);
+    page_fault = λ e. (h.0, h.1, h.2);
   }
   large_free_refused e a stated Freed h = record {
-    not_live = (λ e. absurd cc, λ is. absurd (not_both _ h.live is));
+    not_live = (λ e. absurd cc, λ is. absurd (not_both _ h.block is));
     wrong_size = λ block other. (λ e. absurd cc, λ is. absurd (none-some (block, other) (sym h.size ∙ is)));
-    pages_failed = λ e. absurd cc;
+    page_fault = λ e. absurd cc;
   }
   large_free_refused e a stated reply h = absurd h
 
-  size_told : (o : Option blocks.Block) (size : ℕ) → option_map (λ (b : blocks.Block). b.size) o ≡ Some size → is_some o ≡ false → ⊥
+  size_told : (o : Option large_state.Block) (size : ℕ) → option_map (λ (b : large_state.Block). b.size) o ≡ Some size → is_some o ≡ false → ⊥
   size_told None size e none = none-some size e
   size_told (Some b) size e none = true≢false none
 

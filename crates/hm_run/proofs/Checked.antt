@@ -1,5 +1,5 @@
 -- The check of a source tells the verdict on its bytes.
-use Rattle.std.proofs.Common.{◌≡◌, ◌⊎◌, ℕ, ◌≤◌, inl, inr, List, length, Option, Some, String, Global, refl, sym, ◌∙◌, ap, subst, arith}
+use Rattle.std.proofs.Common.{◌≡◌, ◌⊎◌, ℕ, ◌≤◌, inl, inr, List, length, Option, Some, String, Global, ap, subst, arith}
 use Rattle.hm_outside.specs.declared.pages.Pages as pages
 use Rattle.hm_outside.specs.Streams.{Put}
 use Rattle.hm_check.specs.declared.verdict.Verdict.{Verdict}
@@ -11,21 +11,21 @@ use Rattle.hm_run.specs.declared.refusal.Refusal.TheVariants.{Usage, ReadFault, 
 use Rattle.hm_run.specs.declared.run.Run.{Run}
 use Rattle.hm_run.specs.declared.words.Asked.{Asked}
 use Rattle.hm_run.specs.declared.words.Command.TheVariants as command
-use Rattle.hm_run.specs.Words.{AsksCheck, asked_in}
+use Rattle.hm_run.specs.Words.{AsksCheck}
 use Rattle.hm_run.specs.Checks.{HasJournal, HasNoJournal, IsJournal}
 use Rattle.hm_run.specs.Endings.{Ends, EndsAsked, SourceEnds, TellsVerdict, status_of}
 use Rattle.hm_run.specs.Limits.{most_bytes}
-use Rattle.hm_run.specs.Streams.{Stream, HasFailed, IsReadToEnd, IsWritten}
+use Rattle.hm_run.specs.Streams.{Stream, MetFault, IsReadToEnd, IsWritten}
 use Rattle.hm_run.specs.Verdicts.{check_text, status_told}
 use Rattle.hm_run.proofs.Completed.{EndsWell, read_all, refused}
 use Rattle.hm_run.proofs.Exact.{planned_is}
 
 module _ {P : Type 0} (meaning : pages.Ghosts P) (run : Run P) (source sink : Stream) where
-  abbrev Checked : Type 0
+  abbrev pub Checked : Type 0
   Checked = SourceEnds meaning run sink source (TellsVerdict meaning run sink)
 
   -- a check ends by its source, or for want of memory
-  check_ends : (words : List (String Global)) → Ends meaning words run source sink → AsksCheck words → Checked ⊎ (run.status ≡ 6)
+  pub check_ends : (words : List (String Global)) → Ends meaning words run source sink → AsksCheck words → Checked ⊎ (run.status ≡ 6)
   check_ends words ends asks = by_end (subst (λ (o : Option Asked). EndsAsked meaning run sink source o) asks.1 ends.1)
     where
       by_end : EndsAsked meaning run sink source (Some (record { command = command.Check; options = asks.0 })) → Checked ⊎ (run.status ≡ 6)
@@ -34,7 +34,7 @@ module _ {P : Type 0} (meaning : pages.Ghosts P) (run : Run P) (source sink : St
 
   -- ---- with no fault of the source or the sink
   module _ (bytes : List ℕ) (before : source.before ≡ Some bytes) (short : length bytes ≤ most_bytes)
-      (whole : HasFailed source → ⊥) (sound : HasFailed sink → ⊥) where
+      (whole : MetFault source → ⊥) (sound : MetFault sink → ⊥) where
     -- what was planned was written
     abbrev Wrote : Verdict → Type 0
     Wrote v = (run.status ≡ status_told v) × Put sink.before sink.after (check_text v)
@@ -75,12 +75,12 @@ module _ {P : Type 0} (meaning : pages.Ghosts P) (run : Run P) (source sink : St
   ReadAs s = (bytes : List ℕ) × IsReadToEnd source bytes × (v : Verdict) × IsVerdict bytes v × (status_told v ≡ s)
 
   -- a refusal is told by neither
-  refusal_not : (refusal : Refusal) (s : ℕ) → s ≤ 1 → status_of refusal ≡ s → ⊥
+  pub refusal_not : (refusal : Refusal) (s : ℕ) → s ≤ 1 → status_of refusal ≡ s → ⊥
   refusal_not Usage s small e = omega (arith, small, e)
   refusal_not ReadFault s small e = omega (arith, small, e)
   refusal_not TooLong s small e = omega (arith, small, e)
 
-  not_five : (s : ℕ) → s ≤ 1 → s ≡ 5 → ⊥
+  pub not_five : (s : ℕ) → s ≤ 1 → s ≡ 5 → ⊥
   not_five s small five = omega (arith, small, five)
 
   read_as : (s : ℕ) → s ≤ 1 → Checked → run.status ≡ s → ReadAs s
@@ -106,12 +106,12 @@ module _ {P : Type 0} (meaning : pages.Ghosts P) (run : Run P) (source sink : St
   journal_in : YesIsJournal → (bytes : List ℕ) (v : Verdict) → IsVerdict bytes v → status_told v ≡ 0 → IsJournal bytes
   journal_in exact bytes (Yes entries) is e =
       let of = (exact bytes entries).0 is in
-      record { entries = entries; config = of.0; number = of.1; histories = of.2; journal = of.3 }
+      record { entries = entries; config = of.0; seed = of.1; histories = of.2; journal = of.3 }
   journal_in exact bytes (No line fault) is e = absurd (omega (arith, e))
 
   none_in : YesIsJournal → OneVerdict → (bytes : List ℕ) (v : Verdict) → IsVerdict bytes v → status_told v ≡ 1 → IsJournal bytes → ⊥
   none_in exact one bytes v is e of =
-      let told = (exact bytes of.entries).1 (of.config, of.number, of.histories, of.journal) in
+      let told = (exact bytes of.entries).1 (of.config, of.seed, of.histories, of.journal) in
       omega (arith, ap status_told (one bytes v (Yes of.entries) is told), e)
 
   pub check_yes : YesIsJournal → (words : List (String Global)) → Ends meaning words run source sink → AsksCheck words

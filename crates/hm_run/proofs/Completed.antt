@@ -19,7 +19,7 @@ use Rattle.hm_run.specs.declared.words.Options.{Options}
 use Rattle.hm_run.specs.declared.words.Output.{Output}
 use Rattle.hm_run.specs.Words.{AsksRun, AsksStress, asked_in}
 use Rattle.hm_run.specs.Endings.{CommandEnds, Ends, EndsAsked, RunsTrace, SourceEnds, TextEnds, IsRefused, status_after}
-use Rattle.hm_run.specs.Streams.{Stream, HasFailed, IsReadToEnd, IsTakenPast, IsWritten}
+use Rattle.hm_run.specs.Streams.{Stream, MetFault, IsReadToEnd, IsTakenPast, IsWritten}
 use Rattle.hm_run.specs.Limits.{most_bytes}
 
 abbrev pub EndsWell : ℕ → Type 0
@@ -48,7 +48,7 @@ finding_or_none true status e = inr (inl e)
 finding_or_none false status e = inl e
 
 pub refused : (refusal : Refusal) (source : Stream) (bytes : List ℕ) → source.before ≡ Some bytes
-    → length bytes ≤ most_bytes → (HasFailed source → ⊥) → IsRefused refusal source → ⊥
+    → length bytes ≤ most_bytes → (MetFault source → ⊥) → IsRefused refusal source → ⊥
 refused Usage source bytes before short sound cause = cause
 refused ReadFault source bytes before short sound cause = sound cause.0
 refused TooLong source bytes before short sound cause = not_past source bytes before short cause.0
@@ -60,7 +60,7 @@ Faultless = (trace : TraceView) → IsTrace trace → text_fault (spelling trace
 abbrev pub Short : Type 0
 Short = (trace : TraceView) → IsTrace trace → length (spelling trace) ≤ most_bytes
 
-module _ {P : Type 0} (meaning : pages.Ghosts P) (run : Run P) (sink : Stream) (sound : HasFailed sink → ⊥) where
+module _ {P : Type 0} (meaning : pages.Ghosts P) (run : Run P) (sink : Stream) (sound : MetFault sink → ⊥) where
   ran_well : (o : Options) (trace : TraceView) (text_of : Closed P → List Results → List ℕ)
       → RunsTrace meaning run sink o trace text_of → EndsWell run.status
   ran_well o trace text_of ran = by_writing ran.results ran.written
@@ -91,7 +91,7 @@ module _ {P : Type 0} (meaning : pages.Ghosts P) (run : Run P) (sink : Stream) (
     text_well o output bytes spelled (inl ran) = ran_well o _ _ ran.runs
     text_well o output bytes spelled (inr faulty) = absurd (none-some faulty.fault (sym (ap text_fault spelled ∙ faultless trace is) ∙ faulty.first))
 
-    module _ (source : Stream) (before : source.before ≡ Some (spelling trace)) (whole : HasFailed source → ⊥) where
+    module _ (source : Stream) (before : source.before ≡ Some (spelling trace)) (whole : MetFault source → ⊥) where
       source_well : (Ended : List ℕ → Type 0) → ((bytes : List ℕ) → bytes ≡ spelling trace → Ended bytes → EndsWell run.status)
           → SourceEnds meaning run sink source Ended → EndsWell run.status
       source_well Ended well (inl read) = well read.bytes (read_all source (spelling trace) read.bytes before read.read) read.ends

@@ -17,7 +17,7 @@ use Rattle.hm_run.specs.declared.words.Options.{Options}
 use Rattle.hm_run.specs.declared.words.Output.{Output}
 use Rattle.hm_run.specs.Words.{IfMade, IfUnasked, asked_in}
 use Rattle.hm_run.specs.Endings.{CommandEnds, Ends, EndsAsked, RunsTrace, LacksMemory, TellsRefusal, TellsVerdict, SourceEnds, TextEnds, IsRefused, status_after}
-use Rattle.hm_run.specs.Streams.{Stream, HasFailed, IsSound, IsUntaken, IsWritten}
+use Rattle.hm_run.specs.Streams.{Stream, MetFault, IsSound, IsUntaken, IsWritten}
 use Rattle.hm_run.specs.Verdicts.{status_told}
 
 -- a status that is not 5 is the one planned
@@ -38,11 +38,11 @@ told_not (No line fault) s more e = omega (arith, more, e)
 
 -- 5 comes only where the sink failed, and where its count is not as before
 abbrev ShowsSink : ℕ → Stream → Type 0
-ShowsSink status sink = (status ≡ 5 → HasFailed sink) × ((IsSound sink → ⊥) → status ≡ 5)
+ShowsSink status sink = (status ≡ 5 → MetFault sink) × ((IsSound sink → ⊥) → status ≡ 5)
 
 -- 4 comes only where the source failed, and where its count is not as before, unless the sink failed
 abbrev ShowsSource : ℕ → Stream → Type 0
-ShowsSource status source = (status ≡ 4 → HasFailed source) × ((IsSound source → ⊥) → (status ≡ 4) ⊎ (status ≡ 5))
+ShowsSource status source = (status ≡ 4 → MetFault source) × ((IsSound source → ⊥) → (status ≡ 4) ⊎ (status ≡ 5))
 
 written_shows : (status planned : ℕ) (sink : Stream) (text : List ℕ) → IsWritten status planned sink text → (planned ≡ 5 → ⊥)
     → ShowsSink status sink
@@ -92,7 +92,7 @@ module _ {P : Type 0} (meaning : pages.Ghosts P) (run : Run P) (sink : Stream) w
     command_shows_sink : (o : Options) (wanted : Command) → CommandEnds meaning run sink source o wanted → ShowsSink run.status sink
     command_shows_sink o (command.Run output) ends = source_shows_sink _ (text_shows o output) ends
     command_shows_sink o command.Check ends = source_shows_sink _ judged_shows ends
-    command_shows_sink o (command.Stress number) ran = ran_shows o _ _ ran
+    command_shows_sink o (command.Stress seed) ran = ran_shows o _ _ ran
 
     asked_shows_sink : (asked : Option Asked) → EndsAsked meaning run sink source asked → ShowsSink run.status sink
     asked_shows_sink None tells = told_shows Usage tells
@@ -112,7 +112,7 @@ module _ {P : Type 0} (meaning : pages.Ghosts P) (run : Run P) (sink : Stream) w
     text_not o output bytes (inr faulty) e =
         omega (arith, planned_is run.status 3 4 sink _ faulty.written (λ five. omega (arith, five)) e)
 
-    read_fault_shows : (text : List ℕ) → HasFailed source → IsWritten run.status 4 sink text → ShowsSource run.status source
+    read_fault_shows : (text : List ℕ) → MetFault source → IsWritten run.status 4 sink text → ShowsSource run.status source
     read_fault_shows text failed (inl w) = (λ e. failed, λ unsound. inl w.0)
     read_fault_shows text failed (inr w) = (λ e. failed, λ unsound. inr w.0)
 
@@ -132,7 +132,7 @@ module _ {P : Type 0} (meaning : pages.Ghosts P) (run : Run P) (sink : Stream) w
     command_shows o (command.Run output) untaken ends = source_shows _ (text_not o output) ends
     command_shows o command.Check untaken ends =
         source_shows _ (λ bytes tells. judged_not bytes 4 tells (omega arith) (λ five. omega (arith, five))) ends
-    command_shows o (command.Stress number) untaken ran =
+    command_shows o (command.Stress seed) untaken ran =
         sound_shows untaken.1 (ran_not o _ _ 4 ran (omega arith) (λ five. omega (arith, five)))
 
     asked_shows : (asked : Option Asked) → IfUnasked asked (IsUntaken source)

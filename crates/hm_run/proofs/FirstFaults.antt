@@ -14,7 +14,7 @@ use Rattle.hm_run.specs.declared.words.Options.{Options}
 use Rattle.hm_run.specs.declared.words.Output.{Output}
 use Rattle.hm_run.specs.Words.{AsksRun, asked_in}
 use Rattle.hm_run.specs.Endings.{CommandEnds, Ends, EndsAsked, HasFirstFault, TellsRefusal, TellsVerdict, SourceEnds, TextEnds, IsRefused, status_of}
-use Rattle.hm_run.specs.Streams.{Stream, HasFailed, IsWritten}
+use Rattle.hm_run.specs.Streams.{Stream, MetFault, IsWritten}
 use Rattle.hm_run.proofs.Completed.{Faultless, not_past, read_all}
 use Rattle.hm_run.proofs.Exact.{planned_is, ran_not, judged_not}
 use Rattle.hm_run.specs.Limits.{most_bytes}
@@ -27,7 +27,7 @@ HasFault bytes = (fault : TraceFault) × (text_fault bytes ≡ Some fault)
 
 module _ {P : Type 0} (meaning : pages.Ghosts P) (run : Run P) (sink : Stream) where
   -- the status that is planned, where the sink does not fail
-  sound_is : (planned : ℕ) (text : List ℕ) → (HasFailed sink → ⊥) → IsWritten run.status planned sink text → run.status ≡ planned
+  sound_is : (planned : ℕ) (text : List ℕ) → (MetFault sink → ⊥) → IsWritten run.status planned sink text → run.status ≡ planned
   sound_is planned text sound (inl w) = w.0
   sound_is planned text sound (inr w) = absurd (sound w.1)
 
@@ -63,7 +63,7 @@ module _ {P : Type 0} (meaning : pages.Ghosts P) (run : Run P) (sink : Stream) w
     command_not_two : (o : Options) (wanted : Command) → CommandEnds meaning run sink source o wanted → run.status ≡ 2 → ⊥
     command_not_two o (command.Run output) ends e = source_not _ 2 (omega arith) (text_not_two o output) ends e
     command_not_two o command.Check ends e = source_not _ 2 (omega arith) (λ bytes. judged_other bytes 2 (omega arith) (omega arith)) ends e
-    command_not_two o (command.Stress number) ran e = ran_not meaning run sink o _ _ 2 ran (omega arith) (not_five 2 (omega arith)) e
+    command_not_two o (command.Stress seed) ran e = ran_not meaning run sink o _ _ 2 ran (omega arith) (not_five 2 (omega arith)) e
 
     unaccepted_in : (asked : Option Asked) → EndsAsked meaning run sink source asked → run.status ≡ 2 → asked ≡ None
     unaccepted_in None tells e = refl
@@ -74,7 +74,7 @@ module _ {P : Type 0} (meaning : pages.Ghosts P) (run : Run P) (sink : Stream) w
     only_unaccepted words ends e = unaccepted_in (asked_in words) ends.1 e
 
     pub unaccepted_told : (words : List (String Global)) → Ends meaning words run source sink → asked_in words ≡ None
-        → (HasFailed sink → ⊥) → run.status ≡ 2
+        → (MetFault sink → ⊥) → run.status ≡ 2
     unaccepted_told words ends none sound =
         sound_is 2 _ sound (subst (λ (o : Option Asked). EndsAsked meaning run sink source o) none ends.1).written
 
@@ -96,7 +96,7 @@ module _ {P : Type 0} (meaning : pages.Ghosts P) (run : Run P) (sink : Stream) w
     command_only words o (command.Run output) is ends e = ((o, output, is), source_only _ (text_only o output) ends e)
     command_only words o command.Check is ends e =
         absurd (source_not _ 3 (omega arith) (λ bytes. judged_other bytes 3 (omega arith) (omega arith)) ends e)
-    command_only words o (command.Stress number) is ran e =
+    command_only words o (command.Stress seed) is ran e =
         absurd (ran_not meaning run sink o _ _ 3 ran (omega arith) (not_five 3 (omega arith)) e)
 
     asked_only : (words : List (String Global)) (asked : Option Asked) → asked_in words ≡ asked
@@ -111,7 +111,7 @@ module _ {P : Type 0} (meaning : pages.Ghosts P) (run : Run P) (sink : Stream) w
 
     -- with no fault of the source or the sink
     module _ (faultless : Faultless) (bytes : List ℕ) (fault : TraceFault) (before : source.before ≡ Some bytes) (short : length bytes ≤ most_bytes)
-        (first : text_fault bytes ≡ Some fault) (whole : HasFailed source → ⊥) (sound : HasFailed sink → ⊥) where
+        (first : text_fault bytes ≡ Some fault) (whole : MetFault source → ⊥) (sound : MetFault sink → ⊥) where
       text_told : (o : Options) (output : Output) (read : List ℕ) → read ≡ bytes → TextEnds meaning run sink o output read → run.status ≡ 3
       text_told o output read is (inl ran) =
           absurd (none-some fault (sym (faultless ran.trace ran.is_trace) ∙ ap text_fault (sym ran.text ∙ is) ∙ first))

@@ -12,4 +12,9 @@ pub mod Summing
 pub mod Exact
 pub mod FirstFaults
 pub mod Checked
+pub mod ToldChecks
 mod Journals
+mod PlanFindings
+mod EntryFindings
+mod NoteLines
+mod Told

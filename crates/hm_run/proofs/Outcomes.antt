@@ -36,20 +36,20 @@ module _ {P : Type 0} (meaning : pages.Ghosts P) where
     each = λ r h p h_is p_is.
         let below : r < length turns = omega (arith, slice_get_within closed.histories r h h_is, closes.histories) in
         let one = closes.each r (some_of turns r below) h p below in
-        let end = subst (λ (told : Bool). IsEnd meaning (record { config = config_of o; number = o.seed; region = region_at (config_of o) r; told = told }) (slice_index_or closed.histories r h) (slice_index_or closed.pages r p))
+        let end = subst (λ (told : Bool). IsEnd meaning (record { config = config_of o; seed = o.seed; region = region_at (config_of o) r; told = told }) (slice_index_or closed.histories r h) (slice_index_or closed.pages r p))
         (sym one.end.told_is) one.end in
         subst (λ (kept : P). IsEnd meaning (origin_at meaning o r kept) h kept) (get_or_from_slice_get closed.pages r p p p_is)
         (subst (λ (x : History). IsEnd meaning (origin_at meaning o r (slice_index_or closed.pages r p)) x (slice_index_or closed.pages r p)) (get_or_from_slice_get closed.histories r h h h_is) end);
   }
 
-  pub replayed : (o : Options) (c : Config) (number : ℕ) (locks : List Lock) (p : PassView) (closed : Closed P)
+  pub replayed : (o : Options) (c : Config) (seed : ℕ) (locks : List Lock) (p : PassView) (closed : Closed P)
       (trace : TraceView) (results : List Results) (last : Names)
-      → ReplaysClose → EntriesAreOfTrace → c ≡ config_of o → number ≡ o.seed
+      → ReplaysClose → EntriesAreOfTrace → c ≡ config_of o → seed ≡ o.seed
       → AreOf locks p.turns → length locks ≡ region_count (config_of o) + 1 → HasReplayed c p (scripts_of trace) results last
-      → Closes meaning c number p.turns closed.histories closed.pages → IsReplayed meaning o closed trace results
-  replayed o c number locks p closed trace results last close of_trace c_is number_is of count ran closes =
-      let shut = subst (λ (n : ℕ). Closes meaning (config_of o) n p.turns closed.histories closed.pages) number_is
-      (subst (λ (d : Config). Closes meaning d number p.turns closed.histories closed.pages) c_is closes) in
+      → Closes meaning c seed p.turns closed.histories closed.pages → IsReplayed meaning o closed trace results
+  replayed o c seed locks p closed trace results last close of_trace c_is seed_is of count ran closes =
+      let shut = subst (λ (n : ℕ). Closes meaning (config_of o) n p.turns closed.histories closed.pages) seed_is
+      (subst (λ (d : Config). Closes meaning d seed p.turns closed.histories closed.pages) c_is closes) in
       let done = subst (λ (d : Config). HasReplayed d p (scripts_of trace) results last) c_is ran in
       let whole = close (config_of o) p closed.histories (scripts_of trace) results last done shut.histories
       (λ r t h below. (shut.each r t h (some_of closed.pages r (omega (arith, below, shut.pages))) below).whole) in
@@ -73,12 +73,12 @@ module _ {P : Type 0} (meaning : pages.Ghosts P) where
     lawful = lawful_front (origin_at meaning o index p) entries begins.later
         (subst (λ (es : List Entry). IsLawful (origin_at meaning o index p) es) begins.is end.sound.lawful)
 
-    pub place_below : index < region_count (config_of o) + 1
-    place_below = omega (arith, slice_get_within closed.histories index begins.history begins.history_is, begins.ends.histories)
+    pub index_below : index < region_count (config_of o) + 1
+    index_below = omega (arith, slice_get_within closed.histories index begins.history begins.history_is, begins.ends.histories)
 
-  -- two places of one region are one
-  one_place : (count r s : ℕ) → count ≤ 196 → r < count + 1 → s < count + 1 → cond (nat_lt r count) r 196 ≡ cond (nat_lt s count) s 196 → r ≡ s
-  one_place count r s most r_below s_below same = grind (arith, nat_tests)
+  -- two indices of one region are one
+  one_index : (count r s : ℕ) → count ≤ 196 → r < count + 1 → s < count + 1 → cond (nat_lt r count) r 196 ≡ cond (nat_lt s count) s 196 → r ≡ s
+  one_index count r s most r_below s_below same = grind (arith, nat_tests)
 
   few_regions : (c : Config) → c.arenas ≤ 4 → region_count c ≤ 196
   few_regions c most = omega (arith, most)
@@ -86,7 +86,7 @@ module _ {P : Type 0} (meaning : pages.Ghosts P) where
   pub regions_apart : heap_laws.RegionsApart → (o : Options) (closed : Closed P) → RegionsApart meaning o closed
   regions_apart apart o closed index other p their_p entries theirs begins their_begins a b q one two =
       let of = is_region o closed index p entries begins in
-      one_place (region_count (config_of o)) index other (few_regions (config_of o) of.valid.arenas_most)
-      (place_below o closed index p entries begins) (place_below o closed other their_p theirs their_begins)
+      one_index (region_count (config_of o)) index other (few_regions (config_of o) of.valid.arenas_most)
+      (index_below o closed index p entries begins) (index_below o closed other their_p theirs their_begins)
       (apart (origin_at meaning o index p) (origin_at meaning o other their_p) entries theirs a b q refl
       of (is_region o closed other their_p theirs their_begins) (lawful o closed index p entries begins) (lawful o closed other their_p theirs their_begins) one two)

@@ -12,10 +12,10 @@ use Rattle.hm_sizes.specs.declared.config.Config.{Config}
 use Rattle.hm_sizes.specs.Homes.{region_count}
 use Rattle.hm_sizes.specs.Origins.{large_region_number}
 use Rattle.hm_trace.specs.Views.{ScriptView}
-use Rattle.hm_large.specs.Blocks.{Block}
-use Rattle.hm_large.specs.LiveSizes.{LiveSizes}
-use Rattle.hm_large.specs.Rules.{Terms, Allowed}
-use Rattle.hm_large.specs.State.{State, start, step}
+use Rattle.hm_large_rules.specs.State.{Block, State, start}
+use Rattle.hm_large_rules.specs.LiveSizes.{LiveSizes}
+use Rattle.hm_large_rules.specs.Rules.{Terms, Allowed}
+use Rattle.hm_large_rules.specs.Steps.{step}
 use Rattle.hm_heap.specs.declared.close.Closed.{Closed}
 use Rattle.hm_heap.specs.declared.close.History.{History}
 use Rattle.hm_heap.specs.Calls.{large_index}
@@ -70,11 +70,11 @@ module _ {P : Type 0} (meaning : pages.Ghosts P) (o : Options) (closed : Closed 
       (same_state terms (record { config = config_of o; told = true }) start front)
 
   -- the sums that were read are those of the histories
-  pub totals_are : (c : Config) (number : ℕ) (p : PassView) (rounds : List (List ScriptView)) (results : List Results)
+  pub totals_are : (c : Config) (seed : ℕ) (p : PassView) (rounds : List (List ScriptView)) (results : List Results)
       (last : Names) (totals : List ℕ) → NumbersClose → LiveSizes → AreEnds meaning o closed → c ≡ config_of o
-      → HasReplayed c p rounds results last → Closes meaning c number p.turns closed.histories closed.pages
+      → HasReplayed c p rounds results last → Closes meaning c seed p.turns closed.histories closed.pages
       → IsWatched size_sum 1 rounds [] (large_seen c p) totals → totals ≡ live_sums (config_of o) rounds closed.histories
-  totals_are c number p rounds results last totals close law ends is ran closes watched =
+  totals_are c seed p rounds results last totals close law ends is ran closes watched =
       close (config_of o) p closed.histories rounds results last (large_index (config_of o)) size_sum
       (live_sum (config_of o)) totals
       (subst (λ (d : Config). HasReplayed d p rounds results last) is ran) closes.histories

@@ -15,7 +15,7 @@ use Rattle.hm_run.specs.declared.words.Options.{Options}
 use Rattle.hm_run.specs.declared.words.Output.{Output}
 use Rattle.hm_run.specs.Words.{AsksSource, asked_in}
 use Rattle.hm_run.specs.Endings.{CommandEnds, Ends, EndsAsked, RunsTrace, SourceEnds, TellsVerdict, TextEnds, IsRefused, status_of, status_after}
-use Rattle.hm_run.specs.Streams.{Stream, HasFailed, IsTakenPast, IsWritten}
+use Rattle.hm_run.specs.Streams.{Stream, MetFault, IsTakenPast, IsWritten}
 use Rattle.hm_run.proofs.Completed.{read_all}
 use Rattle.hm_run.proofs.Exact.{judged_not}
 use Rattle.hm_run.specs.Limits.{most_bytes}
@@ -57,7 +57,7 @@ module _ {P : Type 0} (meaning : pages.Ghosts P) (run : Run P) (sink : Stream) w
     command_past : (o : Options) (command : Command) → CommandEnds meaning run sink source o command → run.status ≡ 7 → IsTakenPast most_bytes source
     command_past o (command.Run output) ends e = source_past _ (text_not o output) ends e
     command_past o command.Check ends e = source_past _ judged_not_seven ends e
-    command_past o (command.Stress number) ran e = absurd (ran_not o _ _ ran e)
+    command_past o (command.Stress seed) ran e = absurd (ran_not o _ _ ran e)
 
     pub only_past : (asked : Option Asked) → EndsAsked meaning run sink source asked → run.status ≡ 7 → IsTakenPast most_bytes source
     only_past None tells e = absurd (omega (arith, planned_is run.status 2 sink _ tells.written e))
@@ -65,7 +65,7 @@ module _ {P : Type 0} (meaning : pages.Ghosts P) (run : Run P) (sink : Stream) w
     only_past (Some asked) (inr none) e = absurd (omega (arith, none.0.status_is, e))
 
     -- with no fault of the source or the sink
-    module _ (bytes : List ℕ) (before : source.before ≡ Some bytes) (long : most_bytes < length bytes) (whole : HasFailed source → ⊥) (sound : HasFailed sink → ⊥) where
+    module _ (bytes : List ℕ) (before : source.before ≡ Some bytes) (long : most_bytes < length bytes) (whole : MetFault source → ⊥) (sound : MetFault sink → ⊥) where
       refused_long : (refusal : Refusal) (text : List ℕ)
           → IsRefused refusal source → IsWritten run.status (status_of refusal) sink text → run.status ≡ 7
       refused_long refusal text cause (inr w) = absurd (sound w.1)

@@ -21,7 +21,6 @@ use Rattle.hm_heap.proofs.Changing.{changes-append}
 use Rattle.hm_replay.specs.Names.{Names}
 use Rattle.hm_replay.specs.Replays.{HasReplayed}
 use Rattle.hm_replay.specs.Watched.{seen_of, LooksKeep}
-use Rattle.hm_snapshot.specs.Known.{Published}
 use Rattle.hm_snapshot.specs.Shown.{Shown, absorbed, shown_after}
 use Rattle.hm_snapshot.proofs.Lists.{after-append, map_after}
 use Rattle.hm_run.specs.declared.watching.Watch.{Watch}
@@ -66,15 +65,12 @@ looked_more p q index from changes front l begins is =
     )
 
 -- ---- what is followed
-abbrev all_published : List SizeChange → Published
-all_published list = record { list = list; waiting = [] }
-
 pub follows_on : (w v : Watch) (front es : List Entry) (list : List SizeChange) → Follows w front
-    → changes_of es ≡ changes_of front ++ list → v.writer ≡ record { list = w.writer.list ++ list; waiting = [] }
+    → changes_of es ≡ changes_of front ++ list → v.writer.list ≡ w.writer.list ++ list → v.writer.waiting ≡ []
     → v.own ≡ fold absorbed w.own list → v.upto ≡ length es → Follows v es
-follows_on w v front es list f same writer own upto = record {
-  published =
-      writer ∙ ap all_published (ap (λ (s : Published). s.list ++ list) f.published ∙ sym same);
+follows_on w v front es list f same published waiting own upto = record {
+  published = published ∙ ap (λ (cs : List SizeChange). cs ++ list) f.published ∙ sym same;
+  none_waits = waiting;
   own =
       own ∙ ap (λ (s : Shown). fold absorbed s list) f.own ∙ sym (after-append (changes_of front) list)
       ∙ ap shown_after (sym same);
@@ -89,6 +85,11 @@ tracks_front (On w) front es begins tracks = record { front = front; begins = be
 pub all_ok : {X E A B C D : Type 0} (r : Result X E) → (A → B → C → D) → OnOk r A → OnOk r B → OnOk r C → OnOk r D
 all_ok (Ok x) f a b c = f a b c
 all_ok (Err e) f a b c = tt
+
+pub each_ok : {X E A B C D F : Type 0} (r : Result X E) → (A → B → C → D → F) → OnOk r A → OnOk r B → OnOk r C → OnOk r D
+    → OnOk r F
+each_ok (Ok x) f a b c d = f a b c d
+each_ok (Err e) f a b c d = tt
 
 -- the sum of the own map is that of what was followed
 pub own_sum : (w : Watch) (es : List Entry) → Follows w es → total_of w.own.map ≡ size_sum es

@@ -9,9 +9,9 @@ use Rattle.hm_run.specs.Streams.{Stream, IsReadToEnd}
 pub record IsJournal (bytes : List ℕ) : Type 0 where
   pub entries : ℕ
   pub config : Config
-  pub number : ℕ
+  pub seed : ℕ
   pub histories : List History
-  pub journal : IsJournalOf bytes entries config number histories
+  pub journal : IsJournalOf bytes entries config seed histories
 
 -- the source was read to its end, and its bytes are such a journal
 pub record HasJournal (source : Stream) : Type 0 where

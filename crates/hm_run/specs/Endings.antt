@@ -35,7 +35,7 @@ use Rattle.hm_stats.specs.Text.{table_text}
 use Rattle.hm_run.specs.declared.words.Output.TheVariants.{Report, Journal, Stats, Watch}
 use Rattle.hm_run.specs.LiveSums.{live_sums}
 use Rattle.hm_run.specs.Words.{IfUnasked, asked_in, config_of}
-use Rattle.hm_run.specs.Streams.{Stream, HasFailed, IsSound, IsReadToEnd, IsTakenPast, IsTakenWithin, IsUntaken, IsWritten}
+use Rattle.hm_run.specs.Streams.{Stream, MetFault, IsSound, IsReadToEnd, IsTakenPast, IsTakenWithin, IsUntaken, IsWritten}
 use Rattle.hm_run.specs.Replayed.{IsReplayed}
 use Rattle.hm_run.specs.Verdicts.{check_text, status_told}
 use Rattle.hm_run.specs.Limits.{most_bytes}
@@ -57,7 +57,7 @@ line_of TooLong = codes "fault: too long" ++ 10 ∷ []
 -- what the words are is no matter of the source
 abbrev pub IsRefused : Refusal → Stream → Type 0
 IsRefused Usage source = ⊥
-IsRefused ReadFault source = HasFailed source × IsTakenWithin most_bytes source
+IsRefused ReadFault source = MetFault source × IsTakenWithin most_bytes source
 IsRefused TooLong source = IsTakenPast most_bytes source × IsSound source
 
 -- ---- faults of a trace
@@ -188,11 +188,11 @@ module _ {P : Type 0} (meaning : pages.Ghosts P) (run : Run P) (sink : Stream) w
 
     -- ---- by the command
     -- what is asked for was written of the source's trace; or the verdict on the source's journal; or the summary of the
-    -- run of the trace that a number makes
+    -- run of the stress trace of a seed
     abbrev pub CommandEnds : Options → Command → Type 0
     CommandEnds o (command.Run output) = SourceEnds (TextEnds o output)
     CommandEnds o command.Check = SourceEnds TellsVerdict
-    CommandEnds o (command.Stress number) = RunsTrace o (stress number) (λ left. summary_text number)
+    CommandEnds o (command.Stress seed) = RunsTrace o (stress seed) (λ left. summary_text seed)
 
     -- ---- by the words
     -- as their command does, or for want of memory, and then the source met no fault; where they are not accepted, that

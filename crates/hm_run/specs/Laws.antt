@@ -10,8 +10,10 @@ use Rattle.hm_sizes.specs.Shapes.{usable, delay}
 use Rattle.hm_class_rules.specs.Bytes.{byte_at}
 use Rattle.hm_class_rules.specs.Laws as class_laws
 use Rattle.hm_heap.specs.ClassRules as class
-use Rattle.hm_large.specs.Blocks as blocks
-use Rattle.hm_large.specs.Laws as large_laws
+use Rattle.hm_large_rules.specs.Bytes as large_bytes
+use Rattle.hm_large_rules.specs.State as large_state
+use Rattle.hm_large_rules.specs.Steps as large_steps
+use Rattle.hm_large_rules.specs.Laws as large_laws
 use Rattle.hm_heap.specs.LargeRules as large
 use Rattle.hm_heap.specs.declared.close.Closed.{Closed}
 use Rattle.hm_heap.specs.declared.close.History.{History}
@@ -22,7 +24,7 @@ use Rattle.hm_run.specs.declared.words.Options.{Options}
 use Rattle.hm_run.specs.Endings.{Ends}
 use Rattle.hm_run.specs.Refusals.{RefusesClass, RefusesLarge}
 use Rattle.hm_run.specs.Replayed.{origin_at, AreEnds}
-use Rattle.hm_run.specs.Streams.{Stream, HasFailed}
+use Rattle.hm_run.specs.Streams.{Stream, MetFault}
 use Rattle.hm_run.specs.Words.{AsksJournal, config_of}
 
 -- of the history at a index of a closed heap, and the pages there
@@ -72,11 +74,11 @@ module _ {P : Type 0} (meaning : pages.Ghosts P) (o : Options) (closed : Closed 
 
   -- between the free of a large block below 32 MiB and a given one that meets it, at least 1,025 further such frees
   abbrev pub BlocksComeLate : Type 0
-  BlocksComeLate = (before middle : List Entry) (freed given : Entry) (a b asked guard : ℕ) (block : blocks.Block)
+  BlocksComeLate = (before middle : List Entry) (freed given : Entry) (a b asked guard : ℕ) (block : large_state.Block)
       → BeginsLarge (before ++ freed ∷ (middle ++ given ∷ []))
       → IsFreedAt freed a → at a (large.state large_rules before).live ≡ Some block
-      → blocks.is_quarantined block ≡ true
-      → large_laws.IsGivenAt given b asked guard → large_laws.Meets (a, block) (b, blocks.new_block asked guard)
+      → large_state.is_quarantined block ≡ true
+      → large_laws.IsGivenAt given b asked guard → large_laws.Meets (a, block) (b, large_steps.new_block asked guard)
       → length (large.state large_rules (before ++ freed ∷ [])).frees + 1025
       ≤ length (large.state large_rules (before ++ freed ∷ middle)).frees
 
@@ -98,8 +100,8 @@ module _ {P : Type 0} (meaning : pages.Ghosts P) (o : Options) (closed : Closed 
   abbrev pub BlocksAreZero : Type 0
   BlocksAreZero = (before : List Entry) (given : Entry) (a asked guard k : ℕ)
       → BeginsLarge (before ++ given ∷ []) → large_laws.IsGivenAt given a asked guard
-      → k < blocks.size_for asked
-      → blocks.byte_at (large.state large_rules (before ++ given ∷ [])).live (a + k) ≡ Some 0
+      → k < large_state.size_for asked
+      → large_bytes.byte_at (large.state large_rules (before ++ given ∷ [])).live (a + k) ≡ Some 0
 
   -- a slot that was found overwritten is never given afterwards
   abbrev pub OverwrittenStay : Type 0
@@ -135,9 +137,9 @@ pub record WritesJournal {P : Type 0} (meaning : pages.Ghosts P) (run : Run P) (
   pub closed_is : run.closed ≡ Some left
   pub empty : sink.before ≡ Some []
   pub holds : sink.after ≡ Some text
-  pub whole : HasFailed sink → ⊥
+  pub whole : MetFault sink → ⊥
 
--- journals of one text are of one configuration, one number and one list of histories
+-- journals of one text are of one configuration, one seed and one list of histories
 abbrev pub JournalsTell : {P : Type 0} → pages.Ghosts P → Type 0
 JournalsTell {P} meaning = (run other : Run P) (o theirs : Options) (left right : Closed P) (text : List ℕ)
     → WritesJournal meaning run o left text → WritesJournal meaning other theirs right text

@@ -4,8 +4,8 @@ use Rattle.std.specs.List.{sum_by}
 use Rattle.hm_model.specs.declared.entry.Entry.{Entry}
 use Rattle.hm_sizes.specs.declared.config.Config.{Config}
 use Rattle.hm_trace.specs.Views.{ScriptView}
-use Rattle.hm_large.specs.Blocks.{Block}
-use Rattle.hm_large.specs.Rules as large
+use Rattle.hm_large_rules.specs.State.{Block}
+use Rattle.hm_large_rules.specs.Rules as large
 use Rattle.hm_heap.specs.Calls.{large_index}
 use Rattle.hm_heap.specs.declared.close.History.{History}
 use Rattle.hm_replay.specs.Watched.{entries_at, numbers_upto}

@@ -13,9 +13,9 @@ use Rattle.hm_class_rules.specs.Bytes as slabs
 use Rattle.hm_heap.specs.ClassRules as class
 use Rattle.hm_class_rules.specs.State as class_state
 use Rattle.hm_class_rules.specs.Steps.{opened}
-use Rattle.hm_large.specs.Blocks as blocks
+use Rattle.hm_large_rules.specs.Bytes as large_bytes
 use Rattle.hm_heap.specs.LargeRules as large
-use Rattle.hm_large.specs.State as large_state
+use Rattle.hm_large_rules.specs.State as large_state
 
 -- ---- a class region in state s
 module _ (t : class.Terms) (s : class_state.State) where
@@ -46,8 +46,8 @@ module _ (t : class.Terms) (s : class_state.State) where
   picked (Overwritten a offset byte) = Some a
   picked reply = None
 
-  -- a index that was picked is told as overwritten exactly where one of its usable bytes is not zero; a page fails only
-  -- where a slab with bytes was to be opened and the count of faults rose
+  -- a place that was picked is told as overwritten exactly where one of its usable bytes is not zero; a page fault
+  -- occurs only where a slab with bytes was to be opened and the count of faults rose
   pub record RefusesAllot (c : Choices) (before now : ℕ) (reply : Reply) : Type 0 where
     pub exhausted : (reply ≡ Exhausted)
         ↔ (class.NoneServes t.shape s × (class_state.unopened t.shape s.shut s.next ≡ None))
@@ -55,7 +55,7 @@ module _ (t : class.Terms) (s : class_state.State) where
         → (reply ≡ Overwritten a offset byte) ↔ (found_in c a ≡ Some (offset, byte))
     pub given : IsTrue t.told → (a : ℕ) → picked reply ≡ Some a
         → ((size : ℕ) × (reply ≡ Given a size)) ↔ (found_in c a ≡ None)
-    pub pages_failed : reply ≡ PagesFailed → class.NoneServes t.shape s
+    pub page_fault : reply ≡ PagesFailed → class.NoneServes t.shape s
         × (is_some (class_state.unopened t.shape s.shut s.next) ≡ true) × (has_bytes t.shape ≡ true) × (before < now)
 
   -- a trap is at the first address that is not accessible
@@ -72,25 +72,25 @@ module _ (t : class.Terms) (s : class_state.State) where
 
 -- ---- the large region in state s
 module _ (t : large.Terms) (s : large_state.State) where
-  -- there is no room exactly where no address of the space serves the block with its guard; a page fails only where one
-  -- does and the count of faults rose
+  -- there is no room exactly where no address of the space serves the block with its guard; a page fault occurs only
+  -- where one does and the count of faults rose
   pub record RefusesLargeAllot (guard before now : ℕ) (reply : Reply) (asked align : ℕ) : Type 0 where
     pub no_space : (reply ≡ NoSpace)
-        ↔ ((a : ℕ) → large.IsCandidate t.config s align (blocks.size_for asked) guard a → ⊥)
-    pub pages_failed : reply ≡ PagesFailed
-        → ((a : ℕ) × large.IsCandidate t.config s align (blocks.size_for asked) guard a) × (before < now)
+        ↔ ((a : ℕ) → large.IsCandidate t.config s align (large_state.size_for asked) guard a → ⊥)
+    pub page_fault : reply ≡ PagesFailed
+        → ((a : ℕ) × large.IsCandidate t.config s align (large_state.size_for asked) guard a) × (before < now)
 
-  -- a page fails only where a live block of the right size was to be taken back and the count of faults rose
+  -- a page fault occurs only where a live block of the right size was to be taken back and the count of faults rose
   pub record RefusesLargeFree (before now : ℕ) (reply : Reply) (a : ℕ) (stated : Option ℕ) : Type 0 where
     pub not_live : (reply ≡ NotLive) ↔ (has a s.live ≡ false)
     pub wrong_size : (block other : ℕ) → (reply ≡ WrongSize block other)
         ↔ (large.wrong_size (at a s.live) stated ≡ Some (block, other))
-    pub pages_failed : reply ≡ PagesFailed
+    pub page_fault : reply ≡ PagesFailed
         → (has a s.live ≡ true) × (large.wrong_size (at a s.live) stated ≡ None) × (before < now)
 
   -- a trap is at the first address that is not accessible
   abbrev pub TrapsLarge : Reply → ℕ → ℕ → Type 0
-  TrapsLarge reply a len = (q : ℕ) → (reply ≡ Trap q) ↔ (blocks.first_trap s.live a len ≡ Some q)
+  TrapsLarge reply a len = (q : ℕ) → (reply ≡ Trap q) ↔ (large_bytes.first_trap s.live a len ≡ Some q)
 
   -- of an entry, by its call
   abbrev pub RefusesLarge : Entry → Call → Type 0

@@ -17,11 +17,11 @@ use Rattle.hm_run.specs.declared.words.Options.{Options}
 use Rattle.hm_run.specs.Words.{config_of}
 
 module _ {P : Type 0} (meaning : pages.Ghosts P) (o : Options) where
-  -- the region at a index: its configuration and number are those of the words, and these are its pages
+  -- the region at an index: its configuration and seed are those of the words, and these are its pages
   abbrev pub origin_at : ℕ → P → Origin
   origin_at index kept = record {
     config = config_of o;
-    number = o.seed;
+    seed = o.seed;
     region = region_at (config_of o) index;
     told = meaning.told kept;
   }

@@ -31,8 +31,8 @@ abbrev pub sink_of : {K : Type 0} → sinks.Ghosts K → K → K → Stream
 sink_of meaning = stream_of meaning.held meaning.faults
 
 -- its count of faults rose, or stands at its last value
-abbrev pub HasFailed : Stream → Type 0
-HasFailed stream = Rose stream.faults_before stream.faults_after
+abbrev pub MetFault : Stream → Type 0
+MetFault stream = Rose stream.faults_before stream.faults_after
 
 -- it met no fault: its count is as before
 abbrev pub IsSound : Stream → Type 0
@@ -65,4 +65,4 @@ IsFrontPut sink text = (n : ℕ) × (n < length text) × Put sink.before sink.af
 abbrev pub IsWritten : ℕ → ℕ → Stream → List ℕ → Type 0
 IsWritten status planned sink text =
     ((status ≡ planned) × IsSound sink × Put sink.before sink.after text)
-    ⊎ ((status ≡ code_of statuses.WriteFault) × HasFailed sink × IsFrontPut sink text)
+    ⊎ ((status ≡ code_of statuses.WriteFault) × MetFault sink × IsFrontPut sink text)

@@ -22,12 +22,12 @@ unfoldable pub no_start : List ℕ
 no_start = codes "check: no line "
 
 -- the number of a line and its fault
-abbrev pub place_text : ℕ → JournalFault → List ℕ
-place_text line fault = decimal line ++ 32 ∷ fault_word fault ++ 10 ∷ []
+abbrev pub position_text : ℕ → JournalFault → List ℕ
+position_text line fault = decimal line ++ 32 ∷ fault_word fault ++ 10 ∷ []
 
 -- `check: no line L FAULT` and a line feed
 abbrev pub no_text : ℕ → JournalFault → List ℕ
-no_text line fault = no_start ++ place_text line fault
+no_text line fault = no_start ++ position_text line fault
 
 abbrev pub check_text : Verdict → List ℕ
 check_text (Yes entries) = yes_text entries

@@ -27,7 +27,8 @@ size_sum es = total_of (sizes (changes_of es))
 -- ---- watching
 -- the changes of these entries are published, and no more, and the own map has taken them in
 pub record Follows (w : Watch) (es : List Entry) : Type 0 where
-  pub published : w.writer ≡ record { list = changes_of es; waiting = [] }
+  pub published : w.writer.list ≡ changes_of es
+  pub none_waits : w.writer.waiting ≡ []
   pub own : w.own ≡ shown_after (changes_of es)
   pub upto : w.upto ≡ length es
 

@@ -119,11 +119,11 @@ abbrev pub with_options : Command → List (String Global) → Option Asked
 with_options command words =
     if are_options words then Some (record { command = command; options = options_in words }) else None
 
--- behind `stress`: a number, and then options
+-- behind `stress`: a seed, and then options
 abbrev pub stress_in : List (String Global) → Option Asked
 stress_in [] = None
 stress_in (word ∷ words) =
-    option_and_then (λ number. with_options (Stress number) words) (number_in (string_bytes word))
+    option_and_then (λ seed. with_options (Stress seed) words) (number_in (string_bytes word))
 
 -- behind `check`: nothing
 abbrev pub check_in : List (String Global) → Option Asked
@@ -144,7 +144,7 @@ abbrev pub is_watched : Output → Bool
 is_watched Watch = true
 is_watched output = false
 
--- `stress` and a number, or a word that asks for an output, and then options; or `check` alone. Other words are not
+-- `stress` and a seed, or a word that asks for an output, and then options; or `check` alone. Other words are not
 -- accepted
 abbrev pub asked_in : List (String Global) → Option Asked
 asked_in [] = None
@@ -153,7 +153,7 @@ asked_in (word ∷ words) =
     else if is_word (string_bytes word) (codes "check") then check_in words
     else option_and_then (λ output. with_options (Run output) words) (output_in (string_bytes word))
 
--- they ask for the run of a source; for the check of one; or for the run of the trace that a number makes
+-- they ask for the run of a source; for the check of one; or for the run of the stress trace of a seed
 abbrev pub AsksRun : List (String Global) → Type 0
 AsksRun words =
     (options : Options) × (output : Output)
@@ -164,24 +164,28 @@ AsksCheck words = (options : Options) × (asked_in words ≡ Some (record { comm
 
 abbrev pub AsksStress : List (String Global) → Type 0
 AsksStress words =
-    (options : Options) × (number : ℕ)
-    × (asked_in words ≡ Some (record { command = Stress number; options = options }))
+    (options : Options) × (seed : ℕ)
+    × (asked_in words ≡ Some (record { command = Stress seed; options = options }))
 
 -- they ask for something of a source: its run, or its check
 abbrev pub AsksSource : List (String Global) → Type 0
 AsksSource words = AsksRun words ⊎ AsksCheck words
 
+-- they ask for the report of a source's trace
+abbrev pub AsksReport : List (String Global) → Type 0
+AsksReport words = (options : Options) × (asked_in words ≡ Some (record { command = Run Report; options = options }))
+
 -- they ask for the journal of a source's trace, with these options
 abbrev pub AsksJournal : List (String Global) → Options → Type 0
 AsksJournal words options = asked_in words ≡ Some (record { command = Run Journal; options = options })
 
--- what holds where a command asks for the trace that a number makes
+-- what holds where a command asks for the stress trace of a seed
 abbrev pub IfMade : Command → Type 0 → Type 0
 IfMade (Run output) claim = ⊤
 IfMade Check claim = ⊤
-IfMade (Stress number) claim = claim
+IfMade (Stress seed) claim = claim
 
--- what holds where no source is asked for: the words are not accepted, or ask for the trace that a number makes
+-- what holds where no source is asked for: the words are not accepted, or ask for the stress trace of a seed
 abbrev pub IfUnasked : Option Asked → Type 0 → Type 0
 IfUnasked None claim = claim
 IfUnasked (Some asked) claim = IfMade asked.command claim

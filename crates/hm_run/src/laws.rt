@@ -1,6 +1,6 @@
 //! Laws of how runs end, and of the histories that they hand out. Each function does nothing of its own: its
 //! contract is the law.
-ghost use Rattle.std.specs.Prelude.{◌≡◌, ◌<◌, ◌≤◌, ◌⊎◌, ℕ, List, None, Some, String, length};
+ghost use Rattle.std.specs.Prelude.{◌≡◌, ◌<◌, ◌≤◌, ◌⊎◌, ℕ, ◌||◌, List, ◌++◌, None, Some, String, length};
 ghost use Rattle.hm_outside.specs.Streams.{Put};
 ghost use Rattle.std.specs.declared.alloc.Global.{Global};
 ghost use Rattle.hm_trace.specs.declared.fault.TraceFault.{TraceFault};
@@ -9,6 +9,9 @@ ghost use Rattle.hm_trace.specs.Spelling.{spelling};
 ghost use Rattle.hm_trace.specs.Traces.{IsTrace};
 ghost use Rattle.hm_trace.specs.Views.{TraceView};
 ghost use Rattle.hm_heap.specs.declared.close.Closed.{Closed};
+ghost use Rattle.hm_report.specs.declared.results.Results.{Results};
+ghost use Rattle.hm_report.specs.Findings.{has_finding};
+ghost use Rattle.hm_report.specs.Marks.{tells_finding};
 ghost use Rattle.hm_check.specs.declared.verdict.Verdict.{Verdict};
 ghost use Rattle.hm_check.specs.Verdicts.{IsVerdict};
 ghost use Rattle.hm_run.specs.Checks.{HasJournal, HasNoJournal};
@@ -17,31 +20,33 @@ ghost use Rattle.hm_run.specs.declared.words.Options.{Options};
 ghost use Rattle.hm_run.specs.Endings.{Ends, HasFirstFault};
 ghost use Rattle.hm_run.specs.Laws.{LiveBlocksApart, RegionsApart, SlotsComeLate, BlocksComeLate, SlotsAreZero, SlotsAreWritten};
 ghost use Rattle.hm_run.specs.Laws.{BlocksAreZero, OverwrittenStay, ClassRefusals, LargeRefusals, JournalsTell};
-ghost use Rattle.hm_run.specs.Streams.{Stream, HasFailed, IsSound, IsTakenPast};
+ghost use Rattle.hm_run.specs.Streams.{Stream, MetFault, IsSound, IsTakenPast};
 ghost use Rattle.hm_run.specs.Verdicts.{check_text, status_told};
-ghost use Rattle.hm_run.specs.Words.{AsksRun, AsksCheck, AsksSource, AsksStress, asked_in};
+ghost use Rattle.hm_run.specs.Findings.{counts_finding, has_own_finding};
+ghost use Rattle.hm_run.specs.Words.{AsksRun, AsksReport, AsksCheck, AsksSource, AsksStress, asked_in};
 ghost use Rattle.hm_run.specs.Limits.{most_bytes};
 ghost use Rattle.hm_run.specs.declared.status.Status.TheVariants.{Clean, Finding, Usage, NoTrace, ReadFault, WriteFault, NoMemory, TooLong};
-ghost use Rattle.hm_run.specs.Statuses.{code_of};
+ghost use Rattle.hm_run.specs.Statuses.{code_of, Says};
 
 use hm_check::{one_verdict, yes_is_journal};
 use hm_class_rules::condemned_slots;
 use hm_heap::{apart_blocks, delayed_blocks, zeroed_blocks};
 use hm_journal::journals_differ;
 use hm_outside::Pages;
+use hm_report::findings_show;
 use hm_trace::{spellings_are_short, spellings_have_no_fault};
 
 /// Where the words ask for a source to be run, it has a trace, and neither it nor the sink fails, a run ends with
-/// 0 or 1, or for want of memory with 6. And so where they ask for the trace that a number makes, and the sink does
+/// 0 or 1, or for want of memory with 6. And so where they ask for the stress trace of a seed, and the sink does
 /// not fail.
 pub fn runs_are_complete<P: Pages>()
     ensures source { (words : List (String Global)) (run : Run P) (source sink : Stream)
         (trace : TraceView)
         → Ends P.Pages words run source sink → AsksRun words
-        → IsTrace trace → source.before ≡ Some (spelling trace) → (HasFailed source → ⊥) → (HasFailed sink → ⊥)
+        → IsTrace trace → source.before ≡ Some (spelling trace) → (MetFault source → ⊥) → (MetFault sink → ⊥)
         → (run.status ≡ code_of Clean) ⊎ (run.status ≡ code_of Finding) ⊎ (run.status ≡ code_of NoMemory) }
     ensures stress { (words : List (String Global)) (run : Run P) (source sink : Stream)
-        → Ends P.Pages words run source sink → AsksStress words → (HasFailed sink → ⊥)
+        → Ends P.Pages words run source sink → AsksStress words → (MetFault sink → ⊥)
         → (run.status ≡ code_of Clean) ⊎ (run.status ≡ code_of Finding) ⊎ (run.status ≡ code_of NoMemory) }
 {
     spellings_have_no_fault();
@@ -54,11 +59,11 @@ pub fn runs_are_complete<P: Pages>()
 pub fn checks_are_complete<P: Pages>()
     ensures ends { (words : List (String Global)) (run : Run P) (source sink : Stream) (bytes : List ℕ)
         → Ends P.Pages words run source sink → AsksCheck words
-        → source.before ≡ Some bytes → length bytes ≤ most_bytes → (HasFailed source → ⊥) → (HasFailed sink → ⊥)
+        → source.before ≡ Some bytes → length bytes ≤ most_bytes → (MetFault source → ⊥) → (MetFault sink → ⊥)
         → (run.status ≡ code_of Clean) ⊎ (run.status ≡ code_of Finding) ⊎ (run.status ≡ code_of NoMemory) }
     ensures told { (words : List (String Global)) (run : Run P) (source sink : Stream) (bytes : List ℕ) (v : Verdict)
         → Ends P.Pages words run source sink → AsksCheck words
-        → source.before ≡ Some bytes → length bytes ≤ most_bytes → (HasFailed source → ⊥) → (HasFailed sink → ⊥)
+        → source.before ≡ Some bytes → length bytes ≤ most_bytes → (MetFault source → ⊥) → (MetFault sink → ⊥)
         → IsVerdict bytes v
         → ((run.status ≡ status_told v) × Put sink.before sink.after (check_text v)) ⊎ (run.status ≡ code_of NoMemory) }
 {
@@ -85,7 +90,7 @@ pub fn too_long_is_exact<P: Pages>()
         → Ends P.Pages words run source sink → run.status ≡ code_of TooLong → IsTakenPast most_bytes source }
     ensures long { (words : List (String Global)) (run : Run P) (source sink : Stream) (bytes : List ℕ)
         → Ends P.Pages words run source sink → AsksSource words
-        → source.before ≡ Some bytes → most_bytes < length bytes → (HasFailed source → ⊥) → (HasFailed sink → ⊥)
+        → source.before ≡ Some bytes → most_bytes < length bytes → (MetFault source → ⊥) → (MetFault sink → ⊥)
         → (run.status ≡ code_of TooLong) ⊎ (run.status ≡ code_of NoMemory) }
 {}
 
@@ -95,7 +100,7 @@ pub fn usage_is_exact<P: Pages>()
     ensures only { (words : List (String Global)) (run : Run P) (source sink : Stream)
         → Ends P.Pages words run source sink → run.status ≡ code_of Usage → asked_in words ≡ None }
     ensures unaccepted { (words : List (String Global)) (run : Run P) (source sink : Stream)
-        → Ends P.Pages words run source sink → asked_in words ≡ None → (HasFailed sink → ⊥)
+        → Ends P.Pages words run source sink → asked_in words ≡ None → (MetFault sink → ⊥)
         → run.status ≡ code_of Usage }
 {}
 
@@ -109,7 +114,7 @@ pub fn no_trace_is_exact<P: Pages>()
         (fault : TraceFault)
         → Ends P.Pages words run source sink → AsksRun words
         → source.before ≡ Some bytes → length bytes ≤ most_bytes → text_fault bytes ≡ Some fault
-        → (HasFailed source → ⊥) → (HasFailed sink → ⊥)
+        → (MetFault source → ⊥) → (MetFault sink → ⊥)
         → (run.status ≡ code_of NoTrace) ⊎ (run.status ≡ code_of NoMemory) }
 {
     spellings_have_no_fault();
@@ -120,12 +125,12 @@ pub fn no_trace_is_exact<P: Pages>()
 /// with 4, or with 5.
 pub fn faults_show<P: Pages>()
     ensures source_only { (words : List (String Global)) (run : Run P) (source sink : Stream)
-        → Ends P.Pages words run source sink → run.status ≡ code_of ReadFault → HasFailed source }
+        → Ends P.Pages words run source sink → run.status ≡ code_of ReadFault → MetFault source }
     ensures source_shows { (words : List (String Global)) (run : Run P) (source sink : Stream)
         → Ends P.Pages words run source sink → (IsSound source → ⊥)
         → (run.status ≡ code_of ReadFault) ⊎ (run.status ≡ code_of WriteFault) }
     ensures sink_only { (words : List (String Global)) (run : Run P) (source sink : Stream)
-        → Ends P.Pages words run source sink → run.status ≡ code_of WriteFault → HasFailed sink }
+        → Ends P.Pages words run source sink → run.status ≡ code_of WriteFault → MetFault sink }
     ensures sink_shows { (words : List (String Global)) (run : Run P) (source sink : Stream)
         → Ends P.Pages words run source sink → (IsSound sink → ⊥) → run.status ≡ code_of WriteFault }
 {}
@@ -170,9 +175,31 @@ pub fn given_blocks_are_zero<P: Pages>()
     condemned_slots();
 }
 
-/// Each refusal comes exactly where its cause holds, a canary, an overwrite and a trap where the pages tell; a page fails
-/// only where one was asked for, or had to go, and the count of faults rose.
+/// Each refusal comes exactly where its cause holds, a canary, an overwrite and a trap where the pages tell; a page
+/// fault occurs only where one was asked for, or had to go, and the count of faults rose.
 pub fn refusals_have_causes<P: Pages>()
     ensures class { (o : Options) (closed : Closed P) (index : ℕ) (p : P) → ClassRefusals P.Pages o closed index p }
     ensures large { (o : Options) (closed : Closed P) (index : ℕ) (p : P) → LargeRefusals P.Pages o closed index p }
 {}
+
+/// Where a trace was run and the sink does not fail, a run ends with 1 exactly where an answer is a finding, and with 0
+/// exactly where none is. In what `run` wrote that is exactly where a line is that of a finding. Of the histories it is
+/// exactly where statistics count a finding among the entries, or an answer is a finding of a step's own, which no entry
+/// has: outside, or moved by half.
+pub fn findings_are_exact<P: Pages>()
+    ensures results { (words : List (String Global)) (run : Run P) (source sink : Stream) (results : List Results)
+        → Ends P.Pages words run source sink → run.results ≡ Some results → (MetFault sink → ⊥)
+        → Says run.status (has_finding results) }
+    ensures text { (words : List (String Global)) (run : Run P) (source sink : Stream) (results : List Results)
+        (held text : List ℕ)
+        → Ends P.Pages words run source sink → AsksReport words → run.results ≡ Some results → (MetFault sink → ⊥)
+        → sink.before ≡ Some held → sink.after ≡ Some (held ++ text)
+        → Says run.status (tells_finding text) }
+    ensures entries { (words : List (String Global)) (run : Run P) (source sink : Stream) (results : List Results)
+        (closed : Closed P)
+        → Ends P.Pages words run source sink → run.results ≡ Some results → (MetFault sink → ⊥)
+        → run.closed ≡ Some closed
+        → Says run.status (counts_finding closed.histories || has_own_finding results) }
+{
+    findings_show();
+}

@@ -1,7 +1,7 @@
 //! Reading a source to its end, in pieces, up to a limit.
 ghost use Rattle.std.specs.Prelude.{◌≡◌, ◌≤◌, length, IfOk, IsErrOf};
 ghost use Rattle.hm_run.specs.declared.reading.ReadStop.{ReadStop};
-ghost use Rattle.hm_run.specs.Streams.{HasFailed, IsSound, IsReadToEnd, IsTakenPast, IsTakenWithin, source_of};
+ghost use Rattle.hm_run.specs.Streams.{MetFault, IsSound, IsReadToEnd, IsTakenPast, IsTakenWithin, source_of};
 ghost use Rattle.hm_run.specs.Limits.{most_bytes, most_taken, most_piece};
 
 use hm_outside::{Source, SourceFault};
@@ -47,7 +47,7 @@ pub fn read_all<S: Source>(alloc: Global, source: &mut S) -> Result<Vec<u8>, Rea
     ensures within { IfOk result (λ v. length v.items ≤ most_bytes) }
     ensures sound { IfOk result (λ _. IsSound (source_of S.Source source.old source.new)) }
     ensures memory { IsErrOf result ReadStop.NoMemory → IsSound (source_of S.Source source.old source.new) }
-    ensures fault { IsErrOf result ReadStop.Fault → HasFailed (source_of S.Source source.old source.new) }
+    ensures fault { IsErrOf result ReadStop.Fault → MetFault (source_of S.Source source.old source.new) }
     ensures before_fault { IsErrOf result ReadStop.Fault
         → IsTakenWithin most_bytes (source_of S.Source source.old source.new) }
     ensures bound { IsTakenWithin most_taken (source_of S.Source source.old source.new) }
@@ -66,7 +66,7 @@ fn read_by<S: Source>(alloc: Global, source: &mut S, piece: &mut [u8]) -> Result
     ensures within { IfOk result (λ v. length v.items ≤ most_bytes) }
     ensures sound { IfOk result (λ _. IsSound (source_of S.Source source.old source.new)) }
     ensures memory { IsErrOf result ReadStop.NoMemory → IsSound (source_of S.Source source.old source.new) }
-    ensures fault { IsErrOf result ReadStop.Fault → HasFailed (source_of S.Source source.old source.new) }
+    ensures fault { IsErrOf result ReadStop.Fault → MetFault (source_of S.Source source.old source.new) }
     ensures before_fault { IsErrOf result ReadStop.Fault
         → IsTakenWithin most_bytes (source_of S.Source source.old source.new) }
     ensures bound { IsTakenWithin most_taken (source_of S.Source source.old source.new) }

@@ -1,13 +1,14 @@
 //! The rounds of a trace on a heap, which is built for them and closed after them.
 ghost use Rattle.std.specs.Prelude.{◌≡◌, ◌≤◌, ◌<◌, ◌^◌, true, [], length, map, IfOk};
 ghost use Rattle.std.specs.List.{list_all};
+ghost use Rattle.hm_outside.specs.Makers.{Made};
 ghost use Rattle.hm_sizes.specs.Configs.{IsValid};
 ghost use Rattle.hm_stats.specs.Tables.{entry_count};
 ghost use Rattle.hm_report.specs.Findings.{ascends};
 ghost use Rattle.hm_trace.specs.Traces.{is_round};
 ghost use Rattle.hm_trace.specs.Views.{scripts_of};
 ghost use Rattle.hm_heap.specs.Calls.{large_index};
-ghost use Rattle.hm_heap.specs.Founds.{Founds};
+ghost use Rattle.hm_heap.specs.Founds.{Founds, all_regions};
 ghost use Rattle.hm_heap.specs.Passes.{AreOf, first_pass};
 ghost use Rattle.hm_replay.specs.Replays.{HasReplayed};
 ghost use Rattle.hm_replay.specs.Watched.{IsWatched};
@@ -20,7 +21,7 @@ use crate::watching::Watcher;
 use crate::words::Options;
 use hm_base::NoMemory;
 use hm_heap::{Closed, Heap, Pass};
-use hm_large::live_block_sizes;
+use hm_large_rules::live_block_sizes;
 use hm_outside::{Gate, PageMaker, Pages};
 use hm_replay::{Env, replayed_rounds, run_round, small_rounds, watched_rounds};
 use hm_report::Results;
@@ -29,15 +30,13 @@ use std::alloc::Global;
 use std::sync::Wait;
 use std::thread::Threads;
 
-/// What a trace is run with.
+/// What a trace is run with, beside the maker of its pages.
 #[derive(Drop)]
-pub struct Machine<'a, R, M, G> {
+pub struct Machine<'a, R, G> {
     /// The runtime.
     pub rt: &'a R,
     /// Where memory is taken.
     pub alloc: Global,
-    /// The maker of the pages.
-    pub maker: &'a mut M,
     /// The gate that region calls pass.
     pub gate: &'a G,
 }
@@ -120,9 +119,10 @@ fn watch_rounds<R: Threads + Wait + Sync, P: Pages, G: Gate>(
     Ok((results?, totals))
 }
 
-/// Runs a trace on a new heap, and watches its rounds where that is asked for.
+/// Runs a trace on a new heap, of new pages, and watches its rounds where that is asked for.
 pub fn run_trace<R: Threads + Wait + Sync, M: PageMaker, G: Gate>(
-    machine: Machine<'_, R, M, G>,
+    machine: Machine<'_, R, G>,
+    maker: &mut M,
     options: &Options,
     watched: bool,
     trace: &Trace,
@@ -133,16 +133,13 @@ pub fn run_trace<R: Threads + Wait + Sync, M: PageMaker, G: Gate>(
     ensures few { IfOk result (λ ran. entry_count ran.closed.histories < 2 ^ 63) }
     ensures totals { IfOk result (λ ran. watched ≡ true
         → ran.totals.items ≡ live_sums (config_of options.now) (scripts_of trace.now) ran.closed.histories) }
+    ensures made { IfOk result (λ _.
+        Made (M.made maker.old) (M.made maker.new) (all_regions (config_of options.now))) }
 {
     replayed_rounds();
     watched_rounds();
     live_block_sizes();
-    let Machine {
-        rt,
-        alloc,
-        maker,
-        gate,
-    } = machine;
+    let Machine { rt, alloc, gate } = machine;
     let (heap, mut root) = Heap::build(alloc, options.config(), options.seed, maker, gate)?;
     let (results, totals) = watch_rounds(rt, alloc, &heap, &mut root, trace.rounds(), watched)?;
     let closed = heap.close(alloc, root)?;

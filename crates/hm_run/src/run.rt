@@ -1,6 +1,8 @@
-//! The top call: the words, the source to its end or a number, the trace, the heap and the rounds, what is
+//! The top call: the words, the source to its end or a seed, the trace, the heap and the rounds, what is
 //! written, the sink.
-ghost use Rattle.std.specs.Prelude.{◌≡◌, ◌≢◌, ◌<◌, ◌^◌, Some, None, true, IfOk, OnErr};
+ghost use Rattle.std.specs.Prelude.{◌≡◌, ◌≢◌, ◌<◌, ◌^◌, Some, None, true, IfOk, IfSome, OnErr};
+ghost use Rattle.hm_outside.specs.Makers.{Made};
+ghost use Rattle.hm_heap.specs.Founds.{all_regions};
 ghost use Rattle.hm_report.specs.Findings.{ascends, has_finding};
 ghost use Rattle.hm_report.specs.Summary.{summary_text};
 ghost use Rattle.hm_sizes.specs.Configs.{IsValid};
@@ -13,6 +15,7 @@ ghost use Rattle.hm_run.specs.Streams.{IsSound, IsTakenWithin, IsWritten, sink_o
 ghost use Rattle.hm_run.specs.Words.{IfMade, IfUnasked, asked_in, config_of, is_watched};
 ghost use Rattle.hm_run.specs.Limits.{most_taken};
 ghost use Rattle.hm_run.specs.declared.status.Status.TheVariants as statuses;
+ghost use Rattle.hm_run.specs.declared.words.Asked.{Asked};
 ghost use Rattle.hm_run.specs.Statuses.{code_of};
 
 use crate::notes::notes_of;
@@ -167,7 +170,8 @@ fn write_results<K: Sink, P>(sink: &mut K, ran: Ran<P>, found: bool, text: &[u8]
 
 // Runs a text that was read. Its memory goes back before the trace is run.
 fn run_text<R: Threads + Wait + Sync, K: Sink, M: PageMaker, G: Gate>(
-    machine: Machine<'_, R, M, G>,
+    machine: Machine<'_, R, G>,
+    maker: &mut M,
     options: &Options,
     output: Output,
     bytes: Vec<u8>,
@@ -177,6 +181,9 @@ fn run_text<R: Threads + Wait + Sync, K: Sink, M: PageMaker, G: Gate>(
     ensures ends { IfOk result (λ run.
         TextEnds M.P.Pages run (sink_of K.Sink sink.old sink.new) options.now output bytes.items) }
     ensures status { IfOk result (λ run. run.status ≢ code_of statuses.NoMemory) }
+    ensures made { IfOk result (λ run. IfSome run.closed (λ _.
+        Made (M.made maker.old) (M.made maker.new) (all_regions (config_of options.now)))) }
+    ensures unmade { IfOk result (λ run. run.closed ≡ None → maker.new ≡ maker.old) }
     ensures memory { OnErr result (sink.new ≡ sink.old) }
 {
     let rt = machine.rt;
@@ -188,7 +195,7 @@ fn run_text<R: Threads + Wait + Sync, K: Sink, M: PageMaker, G: Gate>(
         Err(ReadRefusal::Fault(fault)) => return refuse_text(alloc, sink, &fault),
         Err(ReadRefusal::NoMemory) => return Err(NoMemory),
     };
-    let ran = run_trace(machine, options, output.is_watched(), &trace)?;
+    let ran = run_trace(machine, maker, options, output.is_watched(), &trace)?;
     let text = text_of(rt, alloc, options, output, trace, &ran)?;
     let found = has_finding(&ran.results);
     Ok(write_results(sink, ran, found, &text))
@@ -196,7 +203,8 @@ fn run_text<R: Threads + Wait + Sync, K: Sink, M: PageMaker, G: Gate>(
 
 // Runs the text that the source holds.
 fn run_source<R: Threads + Wait + Sync, S: Source, K: Sink, M: PageMaker, G: Gate>(
-    machine: Machine<'_, R, M, G>,
+    machine: Machine<'_, R, G>,
+    maker: &mut M,
     options: &Options,
     output: Output,
     source: &mut S,
@@ -208,10 +216,13 @@ fn run_source<R: Threads + Wait + Sync, S: Source, K: Sink, M: PageMaker, G: Gat
     ensures ends { IfOk result (λ run. CommandEnds M.P.Pages run (sink_of K.Sink sink.old sink.new)
         (source_of S.Source source.old source.new) options.now (Command.Run output)) }
     ensures status { IfOk result (λ run. run.status ≢ code_of statuses.NoMemory) }
+    ensures made { IfOk result (λ run. IfSome run.closed (λ _.
+        Made (M.made maker.old) (M.made maker.new) (all_regions (config_of options.now)))) }
+    ensures unmade { IfOk result (λ run. run.closed ≡ None → maker.new ≡ maker.old) }
     ensures memory { OnErr result (sink.new ≡ sink.old) }
 {
     match read_all(machine.alloc, source) {
-        Ok(bytes) => run_text(machine, options, output, bytes, sink),
+        Ok(bytes) => run_text(machine, maker, options, output, bytes, sink),
         Err(ReadStop::NoMemory) => Err(NoMemory),
         Err(ReadStop::Fault) => Ok(refuse(sink, Refusal::ReadFault)),
         Err(ReadStop::TooLong) => Ok(refuse(sink, Refusal::TooLong)),
@@ -225,6 +236,7 @@ fn judge_text<K: Sink, P: Pages>(
     sink: &mut K,
 ) -> Result<Run<P>, NoMemory>
     ensures ends { IfOk result (λ run. TellsVerdict P.Pages run (sink_of K.Sink sink.old sink.new) bytes.items) }
+    ensures closed { IfOk result (λ run. run.closed ≡ None) }
     ensures status { IfOk result (λ run. run.status ≢ code_of statuses.NoMemory) }
     ensures memory { OnErr result (sink.new ≡ sink.old) }
 {
@@ -249,6 +261,7 @@ fn check_source<S: Source, K: Sink, P: Pages>(
     ensures ends { IfOk result (λ run. SourceEnds P.Pages run (sink_of K.Sink sink.old sink.new)
         (source_of S.Source source.old source.new)
         (TellsVerdict P.Pages run (sink_of K.Sink sink.old sink.new))) }
+    ensures closed { IfOk result (λ run. run.closed ≡ None) }
     ensures status { IfOk result (λ run. run.status ≢ code_of statuses.NoMemory) }
     ensures memory { OnErr result (sink.new ≡ sink.old) }
 {
@@ -260,30 +273,35 @@ fn check_source<S: Source, K: Sink, P: Pages>(
     }
 }
 
-// Runs the trace that a number makes. Its memory goes back before the results are counted.
+// Runs the stress trace of a seed. Its memory goes back before the results are counted.
 fn run_stress<R: Threads + Wait + Sync, K: Sink, M: PageMaker, G: Gate>(
-    machine: Machine<'_, R, M, G>,
+    machine: Machine<'_, R, G>,
+    maker: &mut M,
     options: &Options,
-    number: u64,
+    seed: u64,
     sink: &mut K,
 ) -> Result<Run<M::P>, NoMemory>
     requires valid { IsValid (config_of options.now) }
     ensures ends { IfOk result (λ run. RunsTrace M.P.Pages run (sink_of K.Sink sink.old sink.new) options.now
-        (stress number) (λ left. summary_text number)) }
+        (stress seed) (λ left. summary_text seed)) }
     ensures status { IfOk result (λ run. run.status ≢ code_of statuses.NoMemory) }
+    ensures made { IfOk result (λ run. IfSome run.closed (λ _.
+        Made (M.made maker.old) (M.made maker.new) (all_regions (config_of options.now)))) }
+    ensures unmade { IfOk result (λ run. run.closed ≡ None → maker.new ≡ maker.old) }
     ensures memory { OnErr result (sink.new ≡ sink.old) }
 {
     let alloc = machine.alloc;
-    let trace = stress_trace(alloc, number)?;
-    let ran = run_trace(machine, options, false, &trace)?;
+    let trace = stress_trace(alloc, seed)?;
+    let ran = run_trace(machine, maker, options, false, &trace)?;
     drop(trace);
-    let summed = summary(alloc, number, &ran.results)?;
+    let summed = summary(alloc, seed, &ran.results)?;
     Ok(write_results(sink, ran, summed.found, &summed.text))
 }
 
 // Does what the words ask for.
 fn carry_out<R: Threads + Wait + Sync, S: Source, K: Sink, M: PageMaker, G: Gate>(
-    machine: Machine<'_, R, M, G>,
+    machine: Machine<'_, R, G>,
+    maker: &mut M,
     asked: &Asked,
     source: &mut S,
     sink: &mut K,
@@ -295,21 +313,24 @@ fn carry_out<R: Threads + Wait + Sync, S: Source, K: Sink, M: PageMaker, G: Gate
         (source_of S.Source source.old source.new) asked.now.options asked.now.command) }
     ensures untouched { IfMade asked.now.command (source.new ≡ source.old) }
     ensures status { IfOk result (λ run. run.status ≢ code_of statuses.NoMemory) }
+    ensures made { IfOk result (λ run. IfSome run.closed (λ _.
+        Made (M.made maker.old) (M.made maker.new) (all_regions (config_of asked.now.options)))) }
+    ensures unmade { IfOk result (λ run. run.closed ≡ None → maker.new ≡ maker.old) }
     ensures memory { OnErr result (sink.new ≡ sink.old) }
 {
     let options = &asked.options;
     match asked.command {
-        Command::Run { output } => run_source(machine, options, output, source, sink),
+        Command::Run { output } => run_source(machine, maker, options, output, source, sink),
         Command::Check => check_source(machine.alloc, source, sink),
-        Command::Stress { number } => run_stress(machine, options, number, sink),
+        Command::Stress { seed } => run_stress(machine, maker, options, seed, sink),
     }
 }
 
-/// Reads a trace from the source, or makes it from a number, as the words say; runs it, and writes the report of
+/// Reads a trace from the source, or makes it from a seed, as the words say; runs it, and writes the report of
 /// its notes and results, the journal of its histories, what these come to, the sums of the sizes of live large blocks
 /// after each round, or the summary; or reads a journal, and writes the verdict on it; or one line that says why it was
 /// refused. All memory is taken before the first byte is written. What was closed is handed out, with the results of the
-/// steps.
+/// steps. Where a trace is run, pages of each region are made once, in order, and else none.
 pub fn replay<R: Threads + Wait + Sync, S: Source, K: Sink, M: PageMaker, G: Gate>(
     rt: &R,
     alloc: Global,
@@ -324,18 +345,16 @@ pub fn replay<R: Threads + Wait + Sync, S: Source, K: Sink, M: PageMaker, G: Gat
         (sink_of K.Sink sink.old sink.new) }
     ensures untouched { IfUnasked (asked_in words.now) (source.new ≡ source.old) }
     ensures memory { result.status ≡ code_of statuses.NoMemory → sink.new ≡ sink.old }
+    ensures made { (asked : Asked) → asked_in words.now ≡ Some asked → IfSome result.closed (λ _.
+        Made (M.made maker.old) (M.made maker.new) (all_regions (config_of asked.options))) }
+    ensures unmade { result.closed ≡ None → result.status ≢ code_of statuses.NoMemory → maker.new ≡ maker.old }
 {
     let asked = match read_words(words) {
         Some(asked) => asked,
         None => return refuse(sink, Refusal::Usage),
     };
-    let machine = Machine {
-        rt,
-        alloc,
-        maker,
-        gate,
-    };
-    match carry_out(machine, &asked, source, sink) {
+    let machine = Machine { rt, alloc, gate };
+    match carry_out(machine, maker, &asked, source, sink) {
         Ok(run) => run,
         Err(NoMemory) => give_up(),
     }

@@ -1,7 +1,7 @@
 //! The line that tells the verdict on a journal, and the status that goes with it.
 ghost use Rattle.std.specs.Prelude.{◌≡◌, ◌++◌, OnOk, IfOk, string_bytes};
 ghost use Rattle.hm_run.specs.Statuses.{code_of};
-ghost use Rattle.hm_run.specs.Verdicts.{fault_word, yes_text, no_start, place_text, no_text, check_text, status_told};
+ghost use Rattle.hm_run.specs.Verdicts.{fault_word, yes_text, no_start, position_text, no_text, check_text, status_told};
 
 use crate::status::Status;
 use hm_check::{JournalFault, Verdict};
@@ -31,8 +31,8 @@ fn push_start(out: &mut String) -> Result<(), AllocError>
     out.push_str("check: no line ")
 }
 
-fn push_place(out: &mut String, line: u64, fault: JournalFault) -> Result<(), AllocError>
-    ensures { OnOk result (string_bytes out.new ≡ string_bytes out.old ++ place_text line fault) }
+fn push_position(out: &mut String, line: u64, fault: JournalFault) -> Result<(), AllocError>
+    ensures { OnOk result (string_bytes out.new ≡ string_bytes out.old ++ position_text line fault) }
 {
     write!(out, "{line} ")?;
     push_fault(out, fault)?;
@@ -43,7 +43,7 @@ fn push_no(out: &mut String, line: u64, fault: JournalFault) -> Result<(), Alloc
     ensures { OnOk result (string_bytes out.new ≡ string_bytes out.old ++ no_text line fault) }
 {
     push_start(out)?;
-    push_place(out, line, fault)
+    push_position(out, line, fault)
 }
 
 /// The line of a verdict, with its line feed.

@@ -10,7 +10,7 @@ use hm_base::NoMemory;
 use hm_heap::{Changes, Heap, Pass};
 use hm_model::SizeChange;
 use hm_outside::{Gate, Pages};
-use hm_snapshot::{SizeWriter, Sizes};
+use hm_snapshot::{ReaderRefusal, SizeWriter, Sizes};
 use std::alloc::Global;
 use std::sync::Wait;
 
@@ -42,16 +42,21 @@ fn take_in_all(own: &mut Sizes, list: &[SizeChange]) -> Result<(), NoMemory>
     Ok(())
 }
 
-// The sum that a new reader finds. Where its read is refused, or finds another one, that of the own map stands.
+// The sum that a new reader finds. Where there is no place for one, its read is refused, or it finds another sum, that
+// of the own map stands.
 fn read_total(writer: &mut SizeWriter, own: &Sizes) -> Result<u128, NoMemory>
-    ensures writer { writer.new ≡ writer.old }
+    ensures list { writer.new.list ≡ writer.old.list }
+    ensures waiting { writer.new.waiting ≡ writer.old.waiting }
     ensures total { IfOk result (λ total. total ≡ total_of own.now.map) }
 {
-    let mut reader = writer.reader()?;
     let own = own.total();
-    match reader.total() {
-        Ok(total) if total == own => Ok(total),
-        _ => Ok(own),
+    match writer.reader() {
+        Ok(mut reader) => match reader.total() {
+            Ok(total) if total == own => Ok(total),
+            _ => Ok(own),
+        },
+        Err(ReaderRefusal::NoPlace) => Ok(own),
+        Err(ReaderRefusal::NoMemory) => Err(NoMemory),
     }
 }
 
@@ -81,8 +86,8 @@ impl Watch {
     // Publishes these changes, and reads the sum.
     fn count<R: Wait>(&mut self, rt: &R, changes: &Changes) -> Result<(), NoMemory>
         requires none { self.old.writer.waiting ≡ [] }
-        ensures writer { OnOk result (self.new.writer
-            ≡ record { list = self.old.writer.list ++ changes.now.list.items; waiting = [] }) }
+        ensures list { OnOk result (self.new.writer.list ≡ self.old.writer.list ++ changes.now.list.items) }
+        ensures waiting { OnOk result (self.new.writer.waiting ≡ []) }
         ensures own { OnOk result (self.new.own ≡ fold absorbed self.old.own changes.now.list.items) }
         ensures upto { OnOk result (self.new.upto ≡ changes.now.upto) }
         ensures totals { OnOk result (self.new.totals.items

@@ -12,7 +12,7 @@ use hm_sizes::{Config, LEAST_SPACE, MOST_CLASS_REGION, MOST_LARGE_SPACE, PAGE};
 pub enum OptionName {
     /// `--config`, the name of the configuration.
     Config,
-    /// `--seed`, the number of the run.
+    /// `--seed`, from which all random words follow.
     Seed,
     /// `--class-region`, the bytes of a class region.
     ClassRegion,
@@ -49,8 +49,8 @@ pub enum Command {
     Run { output: Output },
     /// A journal from the source, of which the verdict is written.
     Check,
-    /// The trace that the number makes.
-    Stress { number: u64 },
+    /// The stress trace of the seed.
+    Stress { seed: u64 },
 }
 
 /// What the options say.
@@ -58,7 +58,7 @@ pub enum Command {
 pub struct Options {
     /// The configuration, whose sizes of the address space are those below.
     pub template: Template,
-    /// The number of the run, which decides every random choice.
+    /// The seed, which decides every random choice.
     pub seed: u64,
     /// The bytes of a class region.
     pub class_region: u64,
@@ -299,15 +299,15 @@ fn with_options(command: Command, words: &[String]) -> Option<Asked>
     }
 }
 
-// The words behind `stress`: a number, and options.
+// The words behind `stress`: a seed, and options.
 fn stress_in(words: &[String]) -> Option<Asked>
     ensures exact { result ≡ stress_in words.now }
     ensures valid { IfSome result (λ asked. IsValid (config_of asked.options)) }
 {
     match words {
         [word, options @ ..] => {
-            let number = number(word)?;
-            with_options(Command::Stress { number }, options)
+            let seed = number(word)?;
+            with_options(Command::Stress { seed }, options)
         }
         _ => None,
     }

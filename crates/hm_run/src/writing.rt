@@ -2,7 +2,7 @@
 ghost use Rattle.std.specs.Prelude.{◌≢◌, OnOk, OnErr};
 ghost use Rattle.hm_outside.specs.Streams.{Put};
 ghost use Rattle.hm_run.specs.Statuses.{code_of};
-ghost use Rattle.hm_run.specs.Streams.{HasFailed, IsSound, IsFrontPut, IsWritten, sink_of};
+ghost use Rattle.hm_run.specs.Streams.{MetFault, IsSound, IsFrontPut, IsWritten, sink_of};
 ghost use Rattle.hm_run.specs.declared.status.Status.TheVariants as statuses;
 
 use crate::status::Status;
@@ -13,7 +13,7 @@ fn write_all<K: Sink>(sink: &mut K, text: &[u8]) -> Result<(), SinkFault>
     ensures whole { OnOk result (Put (K.held sink.old) (K.held sink.new) text.now) }
     ensures sound { OnOk result (IsSound (sink_of K.Sink sink.old sink.new)) }
     ensures front { OnErr result (IsFrontPut (sink_of K.Sink sink.old sink.new) text.now) }
-    ensures fault { OnErr result (HasFailed (sink_of K.Sink sink.old sink.new)) }
+    ensures fault { OnErr result (MetFault (sink_of K.Sink sink.old sink.new)) }
 {
     let mut at = 0;
     'turns: while at < text.len() {

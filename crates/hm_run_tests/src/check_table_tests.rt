@@ -16,7 +16,7 @@ const STEPS: &str = "malloc x 100\nwrite x 3 41\nread x 4\nsize x\nfree x\n\
 /// A line and one of its words, both counted from 1, what stands in its place, and the verdict.
 type Change = (usize, usize, &'static str, &'static str);
 
-/// The header, the configuration, the number, region 7's lines and the end.
+/// The header, the configuration, the seed, region 7's lines and the end.
 const OTHER_LINES: [Change; 12] = [
     (1, 2, "2", "no line 1 BadText"),
     (2, 2, "5", "no line 2 BadText"),

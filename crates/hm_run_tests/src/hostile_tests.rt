@@ -44,7 +44,7 @@ const OVERWRITTEN: &str =
     malloc d 130000\nmalloc e 130000\n";
 
 /// The pages of class 48 fail at their first call, and so on to the fourth.
-const FAILED_OPENINGS: [Steps; 4] = [
+const FAULTS_AT_OPENINGS: [Steps; 4] = [
     Steps {
         steps: OVERWRITTEN,
         output: "1.1.1 pages failed\n1.1.2 given 131064\n1.1.3 given 131064\n1.1.4 skipped\n1.1.5 skipped\n\
@@ -72,9 +72,9 @@ const FAILED_OPENINGS: [Steps; 4] = [
 ];
 
 #[test]
-fn failed_openings(rt: HostRuntime) -> Result<(), Fail> {
+fn faults_at_openings(rt: HostRuntime) -> Result<(), Fail> {
     let alloc = rt.alloc();
-    for (index, steps) in FAILED_OPENINGS.iter().enumerate() {
+    for (index, steps) in FAULTS_AT_OPENINGS.iter().enumerate() {
         let mut maker = failing_maker(alloc, 48, index as u64 + 1)?;
         assert_eq!(rt; faults_after(&rt, alloc, steps, &mut maker, 48)?, 1);
     }
@@ -82,17 +82,20 @@ fn failed_openings(rt: HostRuntime) -> Result<(), Fail> {
 }
 
 /// A large block whose pages do not go stays live, and its next free goes.
-const FAILED_FREE: Steps = Steps {
+const FAULT_AT_A_FREE: Steps = Steps {
     steps: "malloc y 200000\nwrite y 1 41\nfree y\nread y 1\nfree y\nread y 1\n",
     output: "1.1.1 given 229376\n1.1.2 written\n1.1.3 pages failed\n1.1.4 bytes 41*1\n1.1.5 freed\n1.1.6 trap at +0\n",
     status: 1,
 };
 
 #[test]
-fn failed_free_of_a_large_block(rt: HostRuntime) -> Result<(), Fail> {
+fn fault_at_a_free_of_a_large_block(rt: HostRuntime) -> Result<(), Fail> {
     let alloc = rt.alloc();
     let mut maker = failing_maker(alloc, 196, 2)?;
-    assert_eq!(rt; faults_after(&rt, alloc, &FAILED_FREE, &mut maker, 196)?, 1);
+    assert_eq!(rt;
+        faults_after(&rt, alloc, &FAULT_AT_A_FREE, &mut maker, 196)?,
+        1
+    );
     Ok(())
 }
 

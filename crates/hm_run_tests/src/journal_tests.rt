@@ -22,10 +22,10 @@ fn journal_of<R: Threads + Wait + Sync>(
 // How many lines there are, and which one begins region 7, counted from 0.
 fn lines_of(journal: &[u8]) -> (usize, Option<usize>) {
     let lines = journal.iter().filter(|byte| **byte == b'\n').count();
-    let place = journal
+    let position = journal
         .split(|byte| *byte == b'\n')
         .position(|line| line.starts_with(b"region 7 "));
-    (lines, place)
+    (lines, position)
 }
 
 #[test]
@@ -42,7 +42,7 @@ fn journals(rt: HostRuntime) -> Result<(), Fail> {
 }
 
 /// Region 7 of the journal of a double free: the gap, the canary, slot 24 and the array's index are those of the words
-/// that ChaCha8 gives of the number 0 in stream 7.
+/// that ChaCha8 gives of seed 0 in stream 7.
 const DOUBLE_FREE: &[u8] = b"\nregion 7 1592101122048 4\n\
 1 1 1 1 1 0 0 3 3231088256 3392945114 2935142444 14572588304984079872 0 - - - - - allot 100 1 : 1 1592101124736 104\n\
 1 1 1 2 1 0 0 1 2409532924 0 0 - - - - - - - giveback 1592101124736 - : 7\n\

@@ -14,6 +14,8 @@ mod hostile_tests;
 #[cfg(test)]
 mod journal_tests;
 #[cfg(test)]
+mod long_tests;
+#[cfg(test)]
 mod stats_tests;
 #[cfg(test)]
 mod test_runs;

@@ -1,5 +1,5 @@
 //! Runs over objects in memory: the table of traces, how a run ends by its words, its source and its sink, the threads
-//! of a round, what the number of a run moves, and what is asked of a source.
+//! of a round, what the seed moves, and what is asked of a source.
 ghost use Rattle.std.specs.Prelude.{None};
 
 use crate::test_runs::{
@@ -248,9 +248,9 @@ fn traces(rt: HostRuntime) -> Result<(), Fail> {
     check_rows(&rt, rt.alloc(), "", &mut FrameMaker)
 }
 
-// What is written hangs on no number of the run.
+// What is written hangs on no seed.
 #[test]
-fn traces_of_other_numbers(rt: HostRuntime) -> Result<(), Fail> {
+fn traces_of_other_seeds(rt: HostRuntime) -> Result<(), Fail> {
     check_rows(&rt, rt.alloc(), " --seed 7", &mut FrameMaker)?;
     check_rows(
         &rt,
@@ -438,7 +438,7 @@ fn stress_of_seven(rt: HostRuntime) -> Result<(), Fail> {
 }
 
 #[test]
-fn stress_of_seven_at_another_number(rt: HostRuntime) -> Result<(), Fail> {
+fn stress_of_seven_at_another_seed(rt: HostRuntime) -> Result<(), Fail> {
     assert!(rt; runs_seven(&rt, rt.alloc(), "stress 0007 --seed 1")?);
     Ok(())
 }
@@ -486,7 +486,7 @@ fn too_long(rt: HostRuntime) -> Result<(), Fail> {
 }
 
 #[test]
-fn failed_page(rt: HostRuntime) -> Result<(), Fail> {
+fn page_fault(rt: HostRuntime) -> Result<(), Fail> {
     let alloc = rt.alloc();
     let text = text_of(alloc, "malloc x 100\nmalloc y 100\n")?;
     let mut sink = VecSink::build(alloc, 99, 99, Vec::new(alloc))?;
@@ -591,7 +591,7 @@ fn sixteen_threads(rt: HostRuntime) -> Result<(), Fail> {
 }
 
 // The report of a run, and where region 7 begins.
-fn run_numbered<R: Threads + Wait + Sync>(
+fn run_seeded<R: Threads + Wait + Sync>(
     rt: &R,
     alloc: Global,
     asked: &str,
@@ -605,13 +605,13 @@ fn run_numbered<R: Threads + Wait + Sync>(
 }
 
 #[test]
-fn the_number_moves_blocks(rt: HostRuntime) -> Result<(), Fail> {
+fn the_seed_moves_blocks(rt: HostRuntime) -> Result<(), Fail> {
     let alloc = rt.alloc();
     let expected = b"1.1.1 given 104\n1.1.2 freed\n1.1.3 given 104\n1.1.4 size 104\n".as_slice();
-    let (plain, first) = run_numbered(&rt, alloc, "run")?;
-    let (zero, at_zero) = run_numbered(&rt, alloc, "run --seed 0")?;
-    let (seven, at_seven) = run_numbered(&rt, alloc, "run --seed 7")?;
-    let (last, at_last) = run_numbered(&rt, alloc, "run --seed 18446744073709551615")?;
+    let (plain, first) = run_seeded(&rt, alloc, "run")?;
+    let (zero, at_zero) = run_seeded(&rt, alloc, "run --seed 0")?;
+    let (seven, at_seven) = run_seeded(&rt, alloc, "run --seed 7")?;
+    let (last, at_last) = run_seeded(&rt, alloc, "run --seed 18446744073709551615")?;
     assert!(rt; plain.as_slice() == expected && zero.as_slice() == expected);
     assert!(rt; seven.as_slice() == expected && last.as_slice() == expected);
     assert_eq!(rt; (first, at_zero), (1_592_101_122_048, 1_592_101_122_048));

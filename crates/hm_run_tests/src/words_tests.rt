@@ -104,7 +104,7 @@ fn options_of_words(rt: HostRuntime) -> Result<(), Fail> {
     assert_eq!(rt; read_words(&asked), Some(wanted));
     let light = words(rt.alloc(), "stress 3 --class-region 1048576 --config light")?;
     let wanted = Asked {
-        command: Command::Stress { number: 3 },
+        command: Command::Stress { seed: 3 },
         options: Options {
             template: Template::Light,
             seed: 0,

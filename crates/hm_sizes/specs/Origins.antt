@@ -11,9 +11,9 @@ class_region_number arena class = arena * class_count + class.0
 abbrev pub large_region_number : ℕ
 large_region_number = 196
 
--- the configuration and the number of the run, the region's own number, and whether its pages tell. No call changes it
+-- the configuration and the seed, the region's number, and whether its pages tell. No call changes it
 pub record Origin : Type 0 where
   pub config : Config
-  pub number : ℕ
+  pub seed : ℕ
   pub region : ℕ
   pub told : Bool

@@ -13,7 +13,7 @@ use Rattle.hm_slab_meta.specs.Uses.{SlabUse}
 use Rattle.hm_slab_lists.specs.Numbers.{nth_slab}
 use Rattle.hm_slab_lists.specs.Table.{entries, metas_by_number}
 use Rattle.hm_slab_lists.proofs.Numbering.{same_index}
-use Rattle.hm_slab_lists.proofs.Places.{get-set_same}
+use Rattle.hm_slab_lists.proofs.Indices.{get-set_same}
 
 tie_is : (a b : ℕ) → eq_by_cmp nat_cmp a b ≡ true → a ≡ b
 tie_is a b e = grind (arith, nat_tests)
@@ -73,7 +73,7 @@ module _ (g : ℕ) (some : 1 ≤ g) (few : g ≤ 8) where
   gets : (metas : List SlabUse) (q : ℕ) → finite.get (metas_by_number g metas) q ≡ find nat_cmp q (entries g 0 metas)
   gets metas q = get-from_entries nat_cmp_total (entries g 0 metas) q
 
-  -- what a place found for a number answers
+  -- what an index found for a number answers
   pub get_by_index : (metas : List SlabUse) (p n : ℕ) → (p < length metas → nth_slab g p ≡ n)
       → ((q : ℕ) → q < length metas → nth_slab g q ≡ n → p ≡ q) → finite.get (metas_by_number g metas) n ≡ slice_get metas p
   get_by_index metas p n found opened =

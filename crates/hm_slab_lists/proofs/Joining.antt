@@ -12,7 +12,7 @@ use Rattle.hm_slab_lists.specs.Ends.{or_else, longer_front, longer_back, ends_in
 use Rattle.hm_slab_lists.specs.Links.{Links, front, follows, precedes, edited, linked_first, linked_last, IsBelow, Linked, IsChain, AreChains}
 use Rattle.hm_base.specs.Members.{among, AreDistinct}
 use Rattle.hm_slab_lists.specs.Lists.{Lists, list_in, headed, ended}
-use Rattle.hm_slab_lists.proofs.Places.{get-set_same, get-set_other, get-append_left, get-append_last, cases_name, ends_same, ends_other, list_same, list_other}
+use Rattle.hm_slab_lists.proofs.Indices.{get-set_same, get-set_other, get-append_left, get-append_last, cases_name, ends_same, ends_other, list_same, list_other}
 use Rattle.hm_base.proofs.Members.{among_head, among_tail, among_not, among-last, among-last_itself, distinct-last}
 use Rattle.hm_slab_lists.proofs.Neighbours.{At, list_at, member, in_more, last_is}
 use Rattle.hm_slab_lists.proofs.Unlinking.{Slot, each, stands, get-edited, length-edited}

@@ -1,4 +1,4 @@
--- Numbers of slabs: each slab has one, and lists of numbers follow lists of places.
+-- Numbers of slabs: each slab has one, and lists of numbers follow lists of indices.
 use Rattle.std.proofs.Common.{◌≡◌, ◌≢◌, ℕ, zero, suc, ◌+◌, ◌%◌, ◌<◌, ◌≤◌, inl, inr, true, false, List, [], ◌∷◌, refl, sym, ap, ◌∙◌, arith}
 use Rattle.std.proofs.lemmas.Bool.{cases_eq, cases_order, cases_Bool, both_ways, eq-eqb, ne_eqb, cond-true, cond-false}
 use Rattle.std.proofs.lemmas.List.{map-append}
@@ -124,7 +124,7 @@ numbered-placed g i k lists some few =
     same : among (nth_slab g i) (list_in (numbered g lists) k) ≡ among i (list_in lists k)
     same = ap (among (nth_slab g i)) (list_in-numbered g lists k) ∙ among-numbers g some few i (list_in lists k)
 
--- a number in a list of numbers is that of a place
+-- a number in a list of numbers is that of an index
 pub numbered_member : (g n : ℕ) (xs : List ℕ) → among n (map (nth_slab g) xs) ≡ true → (i : ℕ) × (nth_slab g i ≡ n) × (among i xs ≡ true)
 numbered_member g n [] is = absurd (both_ways false refl is)
 numbered_member g n (x ∷ xs) is =

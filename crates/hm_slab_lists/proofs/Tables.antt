@@ -23,14 +23,14 @@ use Rattle.hm_slab_lists.specs.Table.{Table, opened_fresh, opened_retired, settl
 use Rattle.hm_slab_lists.specs.Named.{list_named}
 use Rattle.hm_slab_lists.specs.Sources.{fresh_or_none, first_of, source_of}
 use Rattle.hm_slab_lists.specs.declared.slab_lists.Place.TheVariants as place
-use Rattle.hm_slab_lists.proofs.Places.{get-set_same, get-set_other, cases_name, list_same, list_other}
+use Rattle.hm_slab_lists.proofs.Indices.{get-set_same, get-set_other, cases_name, list_same, list_other}
 use Rattle.hm_base.proofs.Members.{among_head, among_tail, among-without_other, among-last_other}
 use Rattle.hm_slab_lists.proofs.Unlinking.{gone_in}
 use Rattle.hm_slab_lists.proofs.Whole.{gone_loose}
 use Rattle.hm_slab_lists.proofs.Numbering.{same_index, nth-after, among-numbers, list_in-numbered, numbered-gone, numbered-headed, numbered-ended, numbered-placed, numbered_member}
 use Rattle.hm_slab_lists.proofs.ByNumber.{insert_last, insert_set}
 
--- ---- an edit of the lists at one place
+-- ---- an edit of the lists at one index
 abbrev pub Stays : Lists → Lists → ℕ → Type 0
 Stays lists lists' p = (k : ListName) (i : ℕ) → i ≢ p → among i (list_in lists' k) ≡ among i (list_in lists k)
 

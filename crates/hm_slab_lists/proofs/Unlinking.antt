@@ -13,11 +13,11 @@ use Rattle.hm_slab_lists.specs.Ends.{skipped, shorter, ends_in, with_ends}
 use Rattle.hm_slab_lists.specs.Links.{Links, front, follows, precedes, edited, with_next, with_previous, unlinked, Linked, IsChain, AreChains}
 use Rattle.hm_base.specs.Members.{among, without, AreDistinct}
 use Rattle.hm_slab_lists.specs.Lists.{Lists, list_in, gone}
-use Rattle.hm_slab_lists.proofs.Places.{get-set_same, get-set_other, cases_name, ends_same, ends_other}
+use Rattle.hm_slab_lists.proofs.Indices.{get-set_same, get-set_other, cases_name, ends_same, ends_other}
 use Rattle.hm_base.proofs.Members.{without_skip, without_keep, without_none, among-without_other, length-without, distinct-without}
 use Rattle.hm_slab_lists.proofs.Neighbours.{At, next_at, previous_at, list_at, member, last_is, next_previous, previous_next}
 
--- ---- a skipped place
+-- ---- a skipped index
 skipped_same : (x y : ℕ) (to : Option ℕ) → y ≡ x → skipped x to (Some y) ≡ to
 skipped_same x y to e = cond-true (y == x) to (Some y) (eq-eqb y x e)
 

@@ -7,7 +7,7 @@ use Rattle.std.proofs.lemmas.List.FromFn.{fill_by_all}
 use Rattle.std.specs.Prelude.{◌==◌, if◌then◌else◌}
 use Rattle.hm_slab_meta.specs.declared.bit_map.BitMap.{BitMap}
 use Rattle.hm_slab_meta.specs.Maps.{has}
-use Rattle.hm_slab_meta.specs.Uses.{SlotUse, SlabUse, Never, Free, Live, Held, Condemned, is_available, was_given, with_use}
+use Rattle.hm_slab_meta.specs.Uses.{SlotUse, SlabUse, Never, Free, Live, Quarantined, Condemned, is_available, was_given, with_use}
 use Rattle.hm_slab_meta.specs.Kept.{use_of, use_in, uses_of, fits, IsKept}
 use Rattle.hm_slab_meta.proofs.Slots.{length-uses_of, get_or-uses_of, Reads}
 
@@ -36,18 +36,18 @@ gives_bits true false true c g f a = absurd (falsehood (a refl))
 gives_bits true false false true g f a = absurd (falsehood (a refl))
 gives_bits true false false false g f a = record { use_ = refl; fit = refl }
 
-holds_bits : (t l h c g : Bool) → fits l h c g ≡ true → (t ≡ true → use_of l h c g ≡ Live)
-    → Turns (if t then false else l) (if t then true else h) c g (if t then Held else use_of l h c g)
-holds_bits false l h c g f a = record { use_ = refl; fit = f }
-holds_bits true true true c g f a = absurd (falsehood f)
-holds_bits true true false true g f a = absurd (falsehood f)
-holds_bits true true false false g f a = record { use_ = refl; fit = f }
-holds_bits true false true c g f a = let e = a refl in cc
-holds_bits true false false true g f a = let e = a refl in cc
-holds_bits true false false false true f a = let e = a refl in cc
-holds_bits true false false false false f a = let e = a refl in cc
+quarantines_bits : (t l h c g : Bool) → fits l h c g ≡ true → (t ≡ true → use_of l h c g ≡ Live)
+    → Turns (if t then false else l) (if t then true else h) c g (if t then Quarantined else use_of l h c g)
+quarantines_bits false l h c g f a = record { use_ = refl; fit = f }
+quarantines_bits true true true c g f a = absurd (falsehood f)
+quarantines_bits true true false true g f a = absurd (falsehood f)
+quarantines_bits true true false false g f a = record { use_ = refl; fit = f }
+quarantines_bits true false true c g f a = let e = a refl in cc
+quarantines_bits true false false true g f a = let e = a refl in cc
+quarantines_bits true false false false true f a = let e = a refl in cc
+quarantines_bits true false false false false f a = let e = a refl in cc
 
-releases_bits : (t l h c g : Bool) → fits l h c g ≡ true → (t ≡ true → use_of l h c g ≡ Held)
+releases_bits : (t l h c g : Bool) → fits l h c g ≡ true → (t ≡ true → use_of l h c g ≡ Quarantined)
     → Turns l (if t then false else h) c g (if t then Free else use_of l h c g)
 releases_bits false l h c g f a = record { use_ = refl; fit = f }
 releases_bits true true h c g f a = let e = a refl in cc
@@ -83,18 +83,18 @@ gives l h c g l' g' slots slot u kept at free set_l set_g = record { use_ = λ i
         (gives_bits (i == slot) (has l i) (has h i) (has c i) (has g i) (kept.each i below)
         (turned l h c g slot u (λ v. is_available v ≡ true) free at.is i)))
 
-pub holds : (l h c g l' h' : BitMap) (slots slot : ℕ) → IsKept l h c g slots → Reads l h c g slots slot Live
-    → Sets l slot false l' → Sets h slot true h' → Changed l h c g l' h' c g slot Held
-holds l h c g l' h' slots slot kept at set_l set_h = record { use_ = λ i below. (each i below).use_; fit = λ i below. (each i below).fit }
+pub quarantines : (l h c g l' h' : BitMap) (slots slot : ℕ) → IsKept l h c g slots → Reads l h c g slots slot Live
+    → Sets l slot false l' → Sets h slot true h' → Changed l h c g l' h' c g slot Quarantined
+quarantines l h c g l' h' slots slot kept at set_l set_h = record { use_ = λ i below. (each i below).use_; fit = λ i below. (each i below).fit }
   where
-    each : (i : ℕ) → i < 256 → Turns (has l' i) (has h' i) (has c i) (has g i) (if i == slot then Held else use_in l h c g i)
+    each : (i : ℕ) → i < 256 → Turns (has l' i) (has h' i) (has c i) (has g i) (if i == slot then Quarantined else use_in l h c g i)
     each i below =
-        subst (λ x. Turns x (has h' i) (has c i) (has g i) (if i == slot then Held else use_in l h c g i)) (sym (set_l i below))
-        (subst (λ x. Turns (if i == slot then false else has l i) x (has c i) (has g i) (if i == slot then Held else use_in l h c g i)) (sym (set_h i below))
-        (holds_bits (i == slot) (has l i) (has h i) (has c i) (has g i) (kept.each i below)
+        subst (λ x. Turns x (has h' i) (has c i) (has g i) (if i == slot then Quarantined else use_in l h c g i)) (sym (set_l i below))
+        (subst (λ x. Turns (if i == slot then false else has l i) x (has c i) (has g i) (if i == slot then Quarantined else use_in l h c g i)) (sym (set_h i below))
+        (quarantines_bits (i == slot) (has l i) (has h i) (has c i) (has g i) (kept.each i below)
         (turned l h c g slot Live (λ v. v ≡ Live) refl at.is i)))
 
-pub releases : (l h c g h' : BitMap) (slots slot : ℕ) → IsKept l h c g slots → Reads l h c g slots slot Held
+pub releases : (l h c g h' : BitMap) (slots slot : ℕ) → IsKept l h c g slots → Reads l h c g slots slot Quarantined
     → Sets h slot false h' → Changed l h c g l h' c g slot Free
 releases l h c g h' slots slot kept at set_h = record { use_ = λ i below. (each i below).use_; fit = λ i below. (each i below).fit }
   where
@@ -102,7 +102,7 @@ releases l h c g h' slots slot kept at set_h = record { use_ = λ i below. (each
     each i below =
         subst (λ x. Turns (has l i) x (has c i) (has g i) (if i == slot then Free else use_in l h c g i)) (sym (set_h i below))
         (releases_bits (i == slot) (has l i) (has h i) (has c i) (has g i) (kept.each i below)
-        (turned l h c g slot Held (λ v. v ≡ Held) refl at.is i))
+        (turned l h c g slot Quarantined (λ v. v ≡ Quarantined) refl at.is i))
 
 pub condemns : (l h c g c' : BitMap) (slots slot : ℕ) (u : SlotUse) → IsKept l h c g slots → Reads l h c g slots slot u → is_available u ≡ true
     → Sets c slot true c' → Changed l h c g l h c' g slot (Condemned (was_given u))

@@ -47,15 +47,15 @@ small word from = let le = and_le_l (2 ^ 64 - 1 - word) ((2 ^ 64 - 1) * 2 ^ from
 pub first_of : (word from : ℕ) → word < 2 ^ 64 → from < 64 → 0 < masked word from → IsFirstClear word from (trailing_zeros w64 (masked word from))
 first_of word from fits few some =
     let low = bit_at-trailing_zeros w64 (masked word from) some (small word from) in
-    let place : ℕ = trailing_zeros w64 (masked word from) in
-    let after : from ≤ place = elim (cases_lt place from) as (λ _. from ≤ place) [
-      | inl below ↦ absurd (apart (bit_at (masked word from) place) (outside word from place few below) low.1)
+    let position : ℕ = trailing_zeros w64 (masked word from) in
+    let after : from ≤ position = elim (cases_lt position from) as (λ _. from ≤ position) [
+      | inl below ↦ absurd (apart (bit_at (masked word from) position) (outside word from position few below) low.1)
       | inr le ↦ le
     ] in
     record {
       at_least = after;
       below = low.0;
-      clear = clear_of (bit_at word place) (sym (inside word from place fits after low.0) ∙ low.1);
+      clear = clear_of (bit_at word position) (sym (inside word from position fits after low.0) ∙ low.1);
       before = λ i le lt. set_of (bit_at word i) (bit_at-lt word i) (sym (inside word from i fits le (omega (arith, lt, low.0))) ∙ low.2 i lt);
     }
   where

@@ -9,7 +9,7 @@ pub data SlotUse : Type 0 where
   Never : SlotUse
   Free : SlotUse
   Live : SlotUse
-  Held : SlotUse
+  Quarantined : SlotUse
   Condemned : Bool → SlotUse
 
 -- how each slot is used, and the canary
@@ -22,22 +22,22 @@ abbrev pub state_of : SlotUse → SlotState
 state_of Never = state.Never
 state_of Free = state.Free
 state_of Live = state.Live
-state_of Held = state.Held
+state_of Quarantined = state.Quarantined
 state_of (Condemned given) = state.Condemned
 
 abbrev pub was_given : SlotUse → Bool
 was_given Never = false
 was_given Free = true
 was_given Live = true
-was_given Held = true
+was_given Quarantined = true
 was_given (Condemned given) = given
 
--- it is neither live nor held nor condemned
+-- it is neither live nor quarantined nor condemned
 abbrev pub is_available : SlotUse → Bool
 is_available Never = true
 is_available Free = true
 is_available Live = false
-is_available Held = false
+is_available Quarantined = false
 is_available (Condemned given) = false
 
 -- ---- one slab

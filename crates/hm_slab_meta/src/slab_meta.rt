@@ -1,9 +1,9 @@
 //! How the slots of one slab are used, and its canary.
-//! A slot is at most one of live, held and condemned; whether it was ever given is kept beside.
+//! A slot is at most one of live, quarantined and condemned; whether it was ever given is kept beside.
 ghost use Rattle.std.specs.Prelude.{◌≡◌, ◌<◌, ◌≤◌, ◌↔◌, length, slice_get, option_map, Some, IsNone, IfSome, IfNone, true, false};
 ghost use Rattle.std.specs.List.{list_any, list_all};
 ghost use Rattle.hm_slab_meta.specs.Marks.{Marks};
-ghost use Rattle.hm_slab_meta.specs.Uses.{Live, Held, Free, state_of, is_available, was_given, fresh_slab, with_use, with_canary, condemned_in, AreTaken, IsFirstFree, first_from};
+ghost use Rattle.hm_slab_meta.specs.Uses.{Live, Quarantined, Free, state_of, is_available, was_given, fresh_slab, with_use, with_canary, condemned_in, AreTaken, IsFirstFree, first_from};
 
 use crate::bit_map::BitMap;
 use std::marker::Model;
@@ -17,7 +17,7 @@ pub enum SlotState {
     Free,
     Live,
     /// It was given back, and is in quarantine.
-    Held,
+    Quarantined,
     /// It is never given again.
     Condemned,
 }
@@ -28,7 +28,7 @@ pub struct SlabMeta {
     canary: u64,
     slots: u32,
     live: BitMap,
-    held: BitMap,
+    quarantined: BitMap,
     condemned: BitMap,
     given: BitMap,
 }
@@ -39,9 +39,9 @@ impl Model for SlabMeta {
 
     ghost Value = { SlabUse };
 
-    ghost view = { λ m. record { slots = uses_of m.live m.held m.condemned m.given m.slots; canary = m.canary } };
+    ghost view = { λ m. record { slots = uses_of m.live m.quarantined m.condemned m.given m.slots; canary = m.canary } };
 
-    ghost invariant = { λ m. IsKept m.live m.held m.condemned m.given m.slots };
+    ghost invariant = { λ m. IsKept m.live m.quarantined m.condemned m.given m.slots };
 }
 
 impl SlabMeta {
@@ -55,7 +55,7 @@ impl SlabMeta {
             canary: 0,
             slots,
             live: BitMap::empty(),
-            held: BitMap::empty(),
+            quarantined: BitMap::empty(),
             condemned: BitMap::empty(),
             given: BitMap::empty(),
         }
@@ -82,8 +82,8 @@ impl SlabMeta {
     {
         if self.live.contains(slot) {
             SlotState::Live
-        } else if self.held.contains(slot) {
-            SlotState::Held
+        } else if self.quarantined.contains(slot) {
+            SlotState::Quarantined
         } else if self.condemned.contains(slot) {
             SlotState::Condemned
         } else if self.given.contains(slot) {
@@ -111,20 +111,20 @@ impl SlabMeta {
     }
 
     /// A live slot goes into quarantine.
-    pub fn hold(&mut self, slot: u32)
+    pub fn quarantine(&mut self, slot: u32)
         requires { slice_get self.old.slots slot ≡ Some Live }
-        ensures { self.new ≡ with_use self.old slot Held }
+        ensures { self.new ≡ with_use self.old slot Quarantined }
     {
         self.live.remove(slot);
-        self.held.insert(slot);
+        self.quarantined.insert(slot);
     }
 
     /// A slot in quarantine is available again.
     pub fn release(&mut self, slot: u32)
-        requires { slice_get self.old.slots slot ≡ Some Held }
+        requires { slice_get self.old.slots slot ≡ Some Quarantined }
         ensures { self.new ≡ with_use self.old slot Free }
     {
-        self.held.remove(slot);
+        self.quarantined.remove(slot);
     }
 
     /// An available slot is never given again.
@@ -140,7 +140,7 @@ impl SlabMeta {
         ensures few { length self.now.slots ≤ 256 }
         ensures marks { Marks result self.now.slots }
     {
-        self.live.union(&self.held).union(&self.condemned)
+        self.live.union(&self.quarantined).union(&self.condemned)
     }
 
     // The first slot from this one on that is not taken.

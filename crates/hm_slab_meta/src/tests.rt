@@ -17,8 +17,8 @@ fn one_slot(rt: HostRuntime) -> Result<(), Fail> {
     meta.give(0);
     assert!(rt; meta.state(0) == SlotState::Live);
     assert_eq!(rt; meta.first_free_from(0), None);
-    meta.hold(0);
-    assert!(rt; meta.state(0) == SlotState::Held);
+    meta.quarantine(0);
+    assert!(rt; meta.state(0) == SlotState::Quarantined);
     assert!(rt; !meta.is_all_free());
     meta.release(0);
     assert!(rt; meta.state(0) == SlotState::Free);

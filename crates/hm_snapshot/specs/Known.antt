@@ -4,10 +4,11 @@ use Rattle.hm_model.specs.declared.change.SizeChange.{SizeChange}
 use Rattle.hm_snapshot.specs.Rule.{StartsWith}
 use Rattle.hm_snapshot.specs.Shown.{Shown, shown_after}
 
--- the changes that are published, and those that wait for it
+-- the changes that are published, those that wait for it, and how many places for readers have had none yet
 pub record Published : Type 0 where
   pub list : List SizeChange
   pub waiting : List SizeChange
+  pub unused : ℕ
 
 -- the list that the last read saw, or that the reader was made with, and how many entries were refused
 pub record Seen : Type 0 where

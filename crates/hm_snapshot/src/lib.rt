@@ -10,7 +10,7 @@ mod writer;
 pub use reader::{SizeReader, Unread};
 pub use rule::{Known, OnlyGrows};
 pub use sizes::Sizes;
-pub use writer::SizeWriter;
+pub use writer::{ReaderRefusal, SizeWriter};
 
 #[cfg(test)]
 mod tests;

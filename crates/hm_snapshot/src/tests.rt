@@ -1,5 +1,5 @@
 //! What one thread publishes another one reads, and what a reader counts once the writer is gone.
-use crate::{SizeReader, SizeWriter, Unread};
+use crate::{ReaderRefusal, SizeReader, SizeWriter, Unread};
 use hm_base::NoMemory;
 use hm_model::SizeChange;
 use std::sync::Wait;
@@ -24,7 +24,7 @@ fn reader_of_one<R: Wait>(rt: &R, writer: &mut SizeWriter) -> Result<SizeReader,
         size: 8192,
     };
     writer.publish(rt, &[put])?;
-    writer.reader()
+    writer.reader().map_err(|_| NoMemory)
 }
 
 /// What another thread reads, beside its count.
@@ -57,6 +57,19 @@ fn each_refused_entry_is_counted(rt: HostRuntime) -> Result<(), Fail> {
     Ok(())
 }
 
+#[test]
+fn a_place_serves_one_reader_at_a_time(rt: HostRuntime) -> Result<(), Fail> {
+    let mut writer = SizeWriter::build(rt.alloc(), 1)?;
+    let first = writer.reader();
+    let second = writer.reader().err();
+    drop(first);
+    let third = writer.reader().err();
+    writer.end(&rt);
+    assert_eq!(rt; second, Some(ReaderRefusal::NoPlace));
+    assert_eq!(rt; third, None);
+    Ok(())
+}
+
 /// Publishes this many blocks, one at a time, each at an address of its own.
 fn publish_each<R: Wait>(rt: &R, writer: &mut SizeWriter, count: u64) -> Result<(), NoMemory> {
     for addr in 0..count {
@@ -84,7 +97,7 @@ fn read_beside<R: Threads + Wait + Sync>(
     writer: &mut SizeWriter,
     count: u64,
 ) -> Result<(bool, u128), NoMemory> {
-    let reader = writer.reader()?;
+    let reader = writer.reader().map_err(|_| NoMemory)?;
     let (published, found) = join(
         rt,
         || publish_each(rt, &mut *writer, count),

@@ -6,9 +6,9 @@ use Rattle.hm_space.specs.declared.free_range.FreeRange.{FreeRange}
 use Rattle.hm_space.specs.Ranges.{end_of, IsInSome, AreApart, LiesIn, IsFitIn}
 use Rattle.hm_space.specs.Space.{FreeSpace, IsFit, IsLowestFit}
 use Rattle.hm_space.proofs.Apart.{lower_apart}
-use Rattle.hm_space.proofs.Places.{LiesInSome, lies, lies_from, in_at}
+use Rattle.hm_space.proofs.Indices.{LiesInSome, lies, lies_from, in_at}
 
--- each fit lies in one of the ranges from this place on
+-- each fit lies in one of the ranges from this index on
 pub record AreLeft (space : FreeSpace) (len align front : ℕ) (rs : List FreeRange) (i : ℕ) : Type 0 where
   pub left : (at : ℕ) → IsFit space len align front at → LiesInSome (drop i rs) at len
   pub apart : AreApart 0 (drop i rs)
@@ -21,7 +21,7 @@ module _ (space : FreeSpace) (len align front : ℕ) (rs : List FreeRange) where
   }
 
   module _ (i : ℕ) (d : FreeRange) (h : AreLeft space len align front rs i) (lt : i < length rs) where
-    -- the range at the place, and those behind it
+    -- the range at the index, and those behind it
     here_or_later : (at : ℕ) → IsFit space len align front at → LiesIn (get_or rs i d) at len ⊎ LiesInSome (drop (suc i) rs) at len
     here_or_later at fit = subst (λ (l : List FreeRange). LiesInSome l at len) (drop-cons rs i d lt) (h.left at fit)
 

@@ -7,39 +7,39 @@ use Rattle.hm_space.specs.declared.free_range.FreeRange.{FreeRange}
 use Rattle.hm_space.specs.Ranges.{end_of, IsWithin, IsInSome, AreApart, Gives}
 use Rattle.hm_space.proofs.Apart.{behind, lower_apart, rest_apart}
 use Rattle.hm_space.proofs.Cuts.{gives}
-use Rattle.hm_space.proofs.Places.{split_one, split_two}
+use Rattle.hm_space.proofs.Indices.{split_one, split_two}
 
 -- the ranges that it touches
 
-pub record IsLower (rs : List FreeRange) (place at : ℕ) (l : FreeRange) : Type 0 where
-  pub some : 0 < place
-  pub here : slice_get rs (place - 1) ≡ Some l
+pub record IsLower (rs : List FreeRange) (index at : ℕ) (l : FreeRange) : Type 0 where
+  pub some : 0 < index
+  pub here : slice_get rs (index - 1) ≡ Some l
   pub ends : l.start + l.len ≡ at
 
-pub record IsUpper (rs : List FreeRange) (place at : ℕ) (u : FreeRange) : Type 0 where
-  pub here : slice_get rs place ≡ Some u
+pub record IsUpper (rs : List FreeRange) (index at : ℕ) (u : FreeRange) : Type 0 where
+  pub here : slice_get rs index ≡ Some u
   pub starts : u.start ≡ at
 
 pub is_lower :
-    (rs read : List FreeRange) (place at : ℕ) (o : Option FreeRange) (l : FreeRange) → read ≡ rs → o ≡ Some l → IfSome o (λ r. (0 < place) × (slice_get read (place - 1) ≡ Some r) × (end_of r ≡ at)) → IsLower rs place at l
-is_lower rs read place at o l same is h =
-    let f = subst (λ (x : Option FreeRange). IfSome x (λ r. (0 < place) × (slice_get read (place - 1) ≡ Some r) × (end_of r ≡ at))) is h in
-    record { some = f.0; here = ap (λ (xs : List FreeRange). slice_get xs (place - 1)) (sym same) ∙ f.1; ends = f.2 }
+    (rs read : List FreeRange) (index at : ℕ) (o : Option FreeRange) (l : FreeRange) → read ≡ rs → o ≡ Some l → IfSome o (λ r. (0 < index) × (slice_get read (index - 1) ≡ Some r) × (end_of r ≡ at)) → IsLower rs index at l
+is_lower rs read index at o l same is h =
+    let f = subst (λ (x : Option FreeRange). IfSome x (λ r. (0 < index) × (slice_get read (index - 1) ≡ Some r) × (end_of r ≡ at))) is h in
+    record { some = f.0; here = ap (λ (xs : List FreeRange). slice_get xs (index - 1)) (sym same) ∙ f.1; ends = f.2 }
 
-pub is_upper : (rs read : List FreeRange) (place at : ℕ) (o : Option FreeRange) (u : FreeRange) → read ≡ rs → o ≡ Some u → IfSome o (λ r. (slice_get read place ≡ Some r) × (r.start ≡ at)) → IsUpper rs place at u
-is_upper rs read place at o u same is h =
-    let f = subst (λ (x : Option FreeRange). IfSome x (λ r. (slice_get read place ≡ Some r) × (r.start ≡ at))) is h in
-    record { here = ap (λ (xs : List FreeRange). slice_get xs place) (sym same) ∙ f.0; starts = f.1 }
+pub is_upper : (rs read : List FreeRange) (index at : ℕ) (o : Option FreeRange) (u : FreeRange) → read ≡ rs → o ≡ Some u → IfSome o (λ r. (slice_get read index ≡ Some r) × (r.start ≡ at)) → IsUpper rs index at u
+is_upper rs read index at o u same is h =
+    let f = subst (λ (x : Option FreeRange). IfSome x (λ r. (slice_get read index ≡ Some r) × (r.start ≡ at))) is h in
+    record { here = ap (λ (xs : List FreeRange). slice_get xs index) (sym same) ∙ f.0; starts = f.1 }
 
 pub no_lower :
-    (rs read : List FreeRange) (place at : ℕ) (o : Option FreeRange) → read ≡ rs → o ≡ None → IfNone o (0 < place → IfSome (slice_get read (place - 1)) (λ r. end_of r ≢ at)) → 0 < place → IfSome (slice_get rs (place - 1)) (λ r. end_of r ≢ at)
-no_lower rs read place at o same is h =
-    subst (λ (xs : List FreeRange). 0 < place → IfSome (slice_get xs (place - 1)) (λ r. end_of r ≢ at)) same (subst (λ (x : Option FreeRange). IfNone x (0 < place → IfSome (slice_get read (place - 1)) (λ r. end_of r ≢ at))) is h)
+    (rs read : List FreeRange) (index at : ℕ) (o : Option FreeRange) → read ≡ rs → o ≡ None → IfNone o (0 < index → IfSome (slice_get read (index - 1)) (λ r. end_of r ≢ at)) → 0 < index → IfSome (slice_get rs (index - 1)) (λ r. end_of r ≢ at)
+no_lower rs read index at o same is h =
+    subst (λ (xs : List FreeRange). 0 < index → IfSome (slice_get xs (index - 1)) (λ r. end_of r ≢ at)) same (subst (λ (x : Option FreeRange). IfNone x (0 < index → IfSome (slice_get read (index - 1)) (λ r. end_of r ≢ at))) is h)
 
 pub no_upper :
-    (rs read : List FreeRange) (place at : ℕ) (o : Option FreeRange) → read ≡ rs → o ≡ None → IfNone o (IfSome (slice_get read place) (λ r. r.start ≢ at)) → IfSome (slice_get rs place) (λ r. r.start ≢ at)
-no_upper rs read place at o same is h =
-    subst (λ (xs : List FreeRange). IfSome (slice_get xs place) (λ r. r.start ≢ at)) same (subst (λ (x : Option FreeRange). IfNone x (IfSome (slice_get read place) (λ r. r.start ≢ at))) is h)
+    (rs read : List FreeRange) (index at : ℕ) (o : Option FreeRange) → read ≡ rs → o ≡ None → IfNone o (IfSome (slice_get read index) (λ r. r.start ≢ at)) → IfSome (slice_get rs index) (λ r. r.start ≢ at)
+no_upper rs read index at o same is h =
+    subst (λ (xs : List FreeRange). IfSome (slice_get xs index) (λ r. r.start ≢ at)) same (subst (λ (x : Option FreeRange). IfNone x (IfSome (slice_get read index) (λ r. r.start ≢ at))) is h)
 
 -- what the list is then, in each of the four cases
 

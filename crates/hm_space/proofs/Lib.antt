@@ -3,4 +3,4 @@ pub mod Cuts
 pub mod Fits
 pub mod Joins
 pub mod Multiples
-pub mod Places
+pub mod Indices

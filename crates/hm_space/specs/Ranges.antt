@@ -51,7 +51,7 @@ pub record Gives (old new : List FreeRange) (at len : ℕ) : Type 0 where
   pub apart : AreApart 0 new
   pub each : (a : ℕ) → IsInSome new a ↔ (IsInSome old a ⊎ IsWithin at len a)
 
--- a place in the range where so many addresses lie in it, and `front` past the place is a multiple
+-- an address in the range from which so many lie in it, and `front` past it is a multiple
 pub record IsFitIn (range : FreeRange) (len align front at : ℕ) : Type 0 where
   pub lies : LiesIn range at len
   pub aligned : (at + front) % align ≡ 0

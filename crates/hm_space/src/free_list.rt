@@ -13,17 +13,17 @@ pub(crate) fn count_begun(ranges: &[FreeRange], at: u64) -> usize
     ranges.partition_point(|range| range.start <= at)
 }
 
-/// Takes `len` addresses out of the range at this place, and keeps what is left of it on both sides.
-pub(crate) fn cut(ranges: &mut Vec<FreeRange>, place: usize, at: u64, len: u64)
+/// Takes `len` addresses out of the range at this index, and keeps what is left of it on both sides.
+pub(crate) fn cut(ranges: &mut Vec<FreeRange>, index: usize, at: u64, len: u64)
     requires apart { AreApart 0 ranges.old.items }
     requires some { 1 ≤ len }
-    requires here { IsSomeAnd (slice_get ranges.old.items place) (λ range. LiesIn range at len) }
+    requires here { IsSomeAnd (slice_get ranges.old.items index) (λ range. LiesIn range at len) }
     requires room { vec_len ranges.old < vec_capacity ranges.old }
     ensures taken { Takes ranges.old.items ranges.new.items at len }
     ensures longer { vec_len ranges.new ≤ vec_len ranges.old + 1 }
     ensures capacity { vec_capacity ranges.new ≡ vec_capacity ranges.old }
 {
-    let range = ranges[place];
+    let range = ranges[index];
     let left = FreeRange {
         start: range.start,
         len: at - range.start,
@@ -34,78 +34,78 @@ pub(crate) fn cut(ranges: &mut Vec<FreeRange>, place: usize, at: u64, len: u64)
     };
     match (left.is_empty(), right.is_empty()) {
         (true, true) => {
-            let _whole = ranges.remove(place);
+            let _whole = ranges.remove(index);
         }
-        (true, false) => ranges[place] = right,
-        (false, true) => ranges[place] = left,
+        (true, false) => ranges[index] = right,
+        (false, true) => ranges[index] = left,
         (false, false) => {
-            ranges[place] = left;
-            ranges.insert(place + 1, right).unwrap();
+            ranges[index] = left;
+            ranges.insert(index + 1, right).unwrap();
         }
     }
 }
 
-/// The range before this place, if it ends at the address.
-fn ending_at(ranges: &[FreeRange], place: usize, at: u64) -> Option<FreeRange>
+/// The range before this index, if it ends at the address.
+fn ending_at(ranges: &[FreeRange], index: usize, at: u64) -> Option<FreeRange>
     requires apart { AreApart 0 ranges.now }
-    requires place { place ≤ length ranges.now }
-    ensures some { IfSome result (λ range. (0 < place) × (slice_get ranges.now (place - 1) ≡ Some range)
+    requires index { index ≤ length ranges.now }
+    ensures some { IfSome result (λ range. (0 < index) × (slice_get ranges.now (index - 1) ≡ Some range)
         × (end_of range ≡ at)) }
-    ensures none { IfNone result (0 < place → IfSome (slice_get ranges.now (place - 1)) (λ range. end_of range ≢ at)) }
+    ensures none { IfNone result (0 < index → IfSome (slice_get ranges.now (index - 1)) (λ range. end_of range ≢ at)) }
 {
-    if place == 0 {
+    if index == 0 {
         return None;
     }
-    let range = ranges[place - 1];
+    let range = ranges[index - 1];
     if range.end() == at { Some(range) } else { None }
 }
 
-/// The range at this place, if it starts at the address.
-fn starting_at(ranges: &[FreeRange], place: usize, at: u64) -> Option<FreeRange>
-    ensures some { IfSome result (λ range. (slice_get ranges.now place ≡ Some range) × (range.start ≡ at)) }
-    ensures none { IfNone result (IfSome (slice_get ranges.now place) (λ range. range.start ≢ at)) }
+/// The range at this index, if it starts at the address.
+fn starting_at(ranges: &[FreeRange], index: usize, at: u64) -> Option<FreeRange>
+    ensures some { IfSome result (λ range. (slice_get ranges.now index ≡ Some range) × (range.start ≡ at)) }
+    ensures none { IfNone result (IfSome (slice_get ranges.now index) (λ range. range.start ≢ at)) }
 {
-    if place >= ranges.len() {
+    if index >= ranges.len() {
         return None;
     }
-    let range = ranges[place];
+    let range = ranges[index];
     if range.start == at { Some(range) } else { None }
 }
 
-/// Puts a range in, joined with those that it touches. Its place is behind those that begin below it.
-pub(crate) fn join(ranges: &mut Vec<FreeRange>, place: usize, at: u64, len: u64)
+/// Puts a range in, joined with those that it touches. Its index is behind those that begin below it.
+pub(crate) fn join(ranges: &mut Vec<FreeRange>, index: usize, at: u64, len: u64)
     requires apart { AreApart 0 ranges.old.items }
     requires some { 1 ≤ len }
     requires below { at + len < 2 ^ 64 }
     requires alone { (a : ℕ) → IsWithin at len a → IsInSome ranges.old.items a → ⊥ }
-    requires place { place ≡ begun ranges.old.items at }
+    requires index { index ≡ begun ranges.old.items at }
     requires room { vec_len ranges.old < vec_capacity ranges.old }
     ensures given { Gives ranges.old.items ranges.new.items at len }
     ensures longer { vec_len ranges.new ≤ vec_len ranges.old + 1 }
     ensures capacity { vec_capacity ranges.new ≡ vec_capacity ranges.old }
 {
-    let lower = ending_at(ranges, place, at);
-    let upper = starting_at(ranges, place, at + len);
+    let lower = ending_at(ranges, index, at);
+    let upper = starting_at(ranges, index, at + len);
     match (lower, upper) {
         (Some(lower), Some(upper)) => {
-            ranges[place - 1] = FreeRange {
+            ranges[index - 1] = FreeRange {
                 start: lower.start,
                 len: lower.len + len + upper.len,
             };
-            let _upper = ranges.remove(place);
+            let _upper = ranges.remove(index);
         }
         (Some(lower), None) => {
-            ranges[place - 1] = FreeRange {
+            ranges[index - 1] = FreeRange {
                 start: lower.start,
                 len: lower.len + len,
             };
         }
         (None, Some(upper)) => {
-            ranges[place] = FreeRange {
+            ranges[index] = FreeRange {
                 start: at,
                 len: len + upper.len,
             };
         }
-        (None, None) => ranges.insert(place, FreeRange { start: at, len }).unwrap(),
+        (None, None) => ranges.insert(index, FreeRange { start: at, len }).unwrap(),
     }
 }

@@ -1,4 +1,4 @@
-//! A free range of addresses, and the lowest place in it where a block fits.
+//! A free range of addresses, and the lowest address in it at which a block fits.
 ghost use Rattle.std.specs.Prelude.{◌≡◌, ◌+◌, ◌%◌, ◌^◌, ◌<◌, ◌≤◌, ◌==◌, ℕ, IfSome, IfNone};
 
 /// The `len` addresses from `start` on.
@@ -38,7 +38,7 @@ impl FreeRange {
         self.start + self.len
     }
 
-    /// The lowest place in the range where `len` addresses lie in it, and `front` past the place is a
+    /// The lowest address in the range from which `len` addresses lie in it, and `front` past it is a
     /// multiple of `align`.
     pub(crate) fn lowest_fit(&self, len: u64, align: u64, front: u64) -> Option<u64>
         requires below { end_of self.now < 2 ^ 64 }

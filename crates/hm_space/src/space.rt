@@ -86,9 +86,9 @@ impl Space {
         ensures room_in_all { self.new.spare + length self.new.ranges ≡ self.old.spare + length self.old.ranges }
         ensures space { IsSpace self.new }
     {
-        let place = count_begun(&self.ranges, at) - 1;
+        let index = count_begun(&self.ranges, at) - 1;
         self.out += 1;
-        cut(&mut self.ranges, place, at, len);
+        cut(&mut self.ranges, index, at, len);
     }
 
     /// Puts a range back of which nothing is free.
@@ -102,8 +102,8 @@ impl Space {
         ensures room_in_all { self.new.spare + length self.new.ranges ≡ self.old.spare + length self.old.ranges }
         ensures space { IsSpace self.new }
     {
-        let place = count_begun(&self.ranges, at);
+        let index = count_begun(&self.ranges, at);
         self.out -= 1;
-        join(&mut self.ranges, place, at, len);
+        join(&mut self.ranges, index, at, len);
     }
 }

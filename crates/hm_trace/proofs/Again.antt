@@ -5,7 +5,7 @@ use Rattle.std.specs.Fmt.{decimal}
 use Rattle.std.proofs.lemmas.Bool.{leb-true, le-leb, and_parts, cases_Bool}
 use Rattle.std.proofs.lemmas.Bool.Decides.{nat_tests}
 use Rattle.std.proofs.lemmas.List.{take_at, drop_at}
-use Rattle.hm_trace.specs.Lines.{is_sign, sign_place}
+use Rattle.hm_trace.specs.Lines.{is_sign, sign_position}
 use Rattle.hm_trace.specs.Names.{is_letter, is_name, is_name_byte, is_word}
 use Rattle.hm_trace.specs.ReadWords.{distance_at, name_at, named_at, offset_at, size_at}
 use Rattle.hm_trace.specs.Spelling.{offset_word}
@@ -58,7 +58,7 @@ no_sign : (c : ℕ) → is_name_byte c ≡ true → is_sign c ≡ false
 no_sign c h = grind (arith, nat_tests)
 
 sign_at_end : (name : List ℕ) (z : ℤ) → list_all is_name_byte name ≡ true
-    → sign_place (name ++ offset_word z) ≡ length name
+    → sign_position (name ++ offset_word z) ≡ length name
 sign_at_end [] (pos zero) h = refl
 sign_at_end [] (pos (suc n)) h = refl
 sign_at_end [] (negsuc n) h = refl
@@ -88,10 +88,10 @@ not_null name z h =
     ⊎_elim
     (λ (t : is_word word (codes "null") ≡ true).
     let s = sign_at_end name z (name_bytes name h).0 in
-    let front : take (sign_place word) word ≡ name =
+    let front : take (sign_position word) word ≡ name =
     ap (λ k. take k word) s ∙ take_at name (offset_word z) (length name) refl in
     let is : codes "null" ≡ name =
-    subst (λ (w : List ℕ). take (sign_place w) w ≡ name) (word_is word (codes "null") t) front in
+    subst (λ (w : List ℕ). take (sign_position w) w ≡ name) (word_is word (codes "null") t) front in
     let bad : is_name name ≡ false = subst (λ (w : List ℕ). is_name w ≡ false) is null_no_name in absurd cc)
     (λ (t : is_word word (codes "null") ≡ false). t)
     (cases_Bool (is_word word (codes "null")))

@@ -3,7 +3,7 @@ use Rattle.std.proofs.Common.{◌≡◌, ⊎_elim, ℕ, zero, suc, ◌≤◌, �
 use Rattle.std.proofs.lemmas.Bool.{leb-true, and_parts}
 use Rattle.hm_trace.specs.declared.fault.FaultKind.TheVariants.{BadName, BadNumber}
 use Rattle.hm_trace.specs.Gives.{◌>>=◌}
-use Rattle.hm_trace.specs.Lines.{sign_place}
+use Rattle.hm_trace.specs.Lines.{sign_position}
 use Rattle.hm_trace.specs.Names.{is_name}
 use Rattle.hm_trace.specs.ReadNumbers.{number_at}
 use Rattle.hm_trace.specs.ReadWords.{distance_at, name_at, named_at, offset_at, size_at}
@@ -47,8 +47,8 @@ offset_fits (c ∷ cs) z e =
 pub named_fits : (word : List ℕ) (p : PlaceView) → named_at word ≡ Ok p → FitsPlace p
 unfolding named_at
 named_fits word p e =
-    let front = take (sign_place word) word in
-    let rest = drop (sign_place word) word in
+    let front = take (sign_position word) word in
+    let rest = drop (sign_position word) word in
     let b = bind_ok (name_at front) (λ name. offset_at rest >>= λ offset. ok (Named name offset)) p e in
     let o = bind_ok (offset_at rest) (λ offset. ok (Named b.0 offset)) p b.2 in
     subst FitsPlace (ok_is (Named b.0 o.0) p o.2) (name_fits front b.0 b.1, offset_fits rest o.0 o.1)

@@ -5,7 +5,7 @@ use Rattle.std.proofs.lemmas.Bool.Decides.{nat_tests}
 use Rattle.std.proofs.lemmas.Bool.{leb-true, and_parts}
 use Rattle.hm_trace.specs.declared.fault.FaultKind.TheVariants.{BadName, BadNumber}
 use Rattle.hm_trace.specs.Gives.{◌>>=◌}
-use Rattle.hm_trace.specs.Lines.{is_sign, sign_place}
+use Rattle.hm_trace.specs.Lines.{is_sign, sign_position}
 use Rattle.hm_trace.specs.Names.{is_name}
 use Rattle.hm_trace.specs.ReadNumbers.{number_at}
 use Rattle.hm_trace.specs.ReadWords.{distance_at, name_at, named_at, offset_at, size_at}
@@ -36,12 +36,12 @@ distance_is word n e =
 pub record IsBack (word : List ℕ) : Type 0 where
   pub signed : (c : ℕ) (cs : List ℕ) → word ≡ c ∷ cs → is_sign c ≡ true
 
-back_at : (b : ℕ) (bs : List ℕ) (t : Bool) → is_sign b ≡ t → IsBack (drop (sign_place bs) bs)
-    → IsBack (drop (cond t 0 (sign_place bs + 1)) (b ∷ bs))
+back_at : (b : ℕ) (bs : List ℕ) (t : Bool) → is_sign b ≡ t → IsBack (drop (sign_position bs) bs)
+    → IsBack (drop (cond t 0 (sign_position bs + 1)) (b ∷ bs))
 back_at b bs true h rest = record { signed = λ c cs e. let q : b ≡ c = cc in subst (λ x. is_sign x ≡ true) q h }
 back_at b bs false h rest = rw add-one rest
 
-back : (word : List ℕ) → IsBack (drop (sign_place word) word)
+back : (word : List ℕ) → IsBack (drop (sign_position word) word)
 back [] = record { signed = λ c cs e. absurd cc }
 back (b ∷ bs) = back_at b bs (is_sign b) refl (back bs)
 
@@ -73,11 +73,11 @@ offset_is (c ∷ cs) z h e =
 pub named_is : (word : List ℕ) (p : PlaceView) → named_at word ≡ Ok p → word ≡ place_word p
 unfolding named_at
 named_is word p e =
-    let front = take (sign_place word) word in
-    let rest = drop (sign_place word) word in
+    let front = take (sign_position word) word in
+    let rest = drop (sign_position word) word in
     let b = bind_ok (name_at front) (λ name. offset_at rest >>= λ offset. ok (Named name offset)) p e in
     let o = bind_ok (offset_at rest) (λ offset. ok (Named b.0 offset)) p b.2 in
-    sym (take-append-drop (sign_place word) word)
+    sym (take-append-drop (sign_position word) word)
     ∙ ap (λ (l : List ℕ). l ++ rest) (name_is front b.0 b.1)
     ∙ ap (λ (l : List ℕ). b.0 ++ l) (offset_is rest o.0 (back word) o.1)
     ∙ ap place_word (ok_is (Named b.0 o.0) p o.2)

@@ -31,94 +31,94 @@ five_fit name other size n o s = rw (n, o, s) refl
 group_fits : (t j v : ℕ) → t < 2 ^ 32 → list_all is_step (group t j v) ≡ true
 group_fits t j v few = five_fit (name_at t (j % 50)) (name_at t ((j + 25) % 50)) (size_for v) (is_name_at t _ few (omega arith)) (is_name_at t _ few (omega arith)) (size_fits v)
 
-groups_fit : (number t n : ℕ) → t < 2 ^ 32 → list_all is_step (groups number t n) ≡ true
+groups_fit : (seed t n : ℕ) → t < 2 ^ 32 → list_all is_step (groups seed t n) ≡ true
 unfolding groups
-groups_fit number t zero few = refl
-groups_fit number t (suc j) few = list_all_both is_step (groups number t j) (group t j (drawn number t j)) (groups_fit number t j few) (group_fits t j (drawn number t j) few)
+groups_fit seed t zero few = refl
+groups_fit seed t (suc j) few = list_all_both is_step (groups seed t j) (group t j (drawn seed t j)) (groups_fit seed t j few) (group_fits t j (drawn seed t j) few)
 
-pub script_fits : (number t : ℕ) → 1 ≤ t → t ≤ 64 → is_script (script number t) ≡ true
-script_fits number t low high = and_from _ _ (and_from _ _ (le-leb _ _ low) (le-leb _ _ high)) (groups_fit number t 2500 (omega arith))
+pub script_fits : (seed t : ℕ) → 1 ≤ t → t ≤ 64 → is_script (script seed t) ≡ true
+script_fits seed t low high = and_from _ _ (and_from _ _ (le-leb _ _ low) (le-leb _ _ high)) (groups_fit seed t 2500 (omega arith))
 
 -- ---- how many steps there are
 
-length_groups : (number t n : ℕ) → length (groups number t n) ≡ 5 * n
+length_groups : (seed t n : ℕ) → length (groups seed t n) ≡ 5 * n
 unfolding groups
-length_groups number t zero = refl
-length_groups number t (suc j) = omega (arith, length-append (groups number t j) (group t j (drawn number t j)), length_groups number t j)
+length_groups seed t zero = refl
+length_groups seed t (suc j) = omega (arith, length-append (groups seed t j) (group t j (drawn seed t j)), length_groups seed t j)
 
-pub script_few : (steps : List Step) (number t : ℕ) → steps_view steps ≡ groups number t 2500 → length steps ≤ 400000
-script_few steps number t is = omega (arith, length_groups number t 2500, ap length is, length-map steps step_view)
+pub script_few : (steps : List Step) (seed t : ℕ) → steps_view steps ≡ groups seed t 2500 → length steps ≤ 400000
+script_few steps seed t is = omega (arith, length_groups seed t 2500, ap length is, length-map steps step_view)
 
-length_scripts : (number n : ℕ) → length (flat_map (λ (s : ScriptView). s.steps) (scripts number n)) ≡ 12500 * n
+length_scripts : (seed n : ℕ) → length (flat_map (λ (s : ScriptView). s.steps) (scripts seed n)) ≡ 12500 * n
 unfolding scripts
-length_scripts number zero = refl
-length_scripts number (suc t) =
-    ap length (flat_map-append (λ (s : ScriptView). s.steps) (scripts number t) (script number (suc t) ∷ []))
-    ∙ omega (arith, length-append (flat_map (λ (s : ScriptView). s.steps) (scripts number t)) (groups number (suc t) 2500 ++ []), length-append (groups number (suc t) 2500) [], length_groups number (suc t) 2500, length_scripts number t)
+length_scripts seed zero = refl
+length_scripts seed (suc t) =
+    ap length (flat_map-append (λ (s : ScriptView). s.steps) (scripts seed t) (script seed (suc t) ∷ []))
+    ∙ omega (arith, length-append (flat_map (λ (s : ScriptView). s.steps) (scripts seed t)) (groups seed (suc t) 2500 ++ []), length-append (groups seed (suc t) 2500) [], length_groups seed (suc t) 2500, length_scripts seed t)
 
 -- ---- no name is set by two threads
 
 group_differs : (t j v u i : ℕ) → t < 2 ^ 32 → u < 2 ^ 32 → t ≢ u → list_any (sets_name (name_at u i)) (group t j v) ≡ false
 group_differs t j v u i few small other = ap (λ b. b || false) (names_differ t u (j % 50) i few small other)
 
-groups_differ : (number t n u i : ℕ) → t < 2 ^ 32 → u < 2 ^ 32 → t ≢ u → list_any (sets_name (name_at u i)) (groups number t n) ≡ false
+groups_differ : (seed t n u i : ℕ) → t < 2 ^ 32 → u < 2 ^ 32 → t ≢ u → list_any (sets_name (name_at u i)) (groups seed t n) ≡ false
 unfolding groups
-groups_differ number t zero u i few small other = refl
-groups_differ number t (suc j) u i few small other =
-    let v = drawn number t j in
-    list_any-append (sets_name (name_at u i)) (groups number t j) (group t j v)
-    ∙ ap (λ b. b || list_any (sets_name (name_at u i)) (group t j v)) (groups_differ number t j u i few small other)
+groups_differ seed t zero u i few small other = refl
+groups_differ seed t (suc j) u i few small other =
+    let v = drawn seed t j in
+    list_any-append (sets_name (name_at u i)) (groups seed t j) (group t j v)
+    ∙ ap (λ b. b || list_any (sets_name (name_at u i)) (group t j v)) (groups_differ seed t j u i few small other)
     ∙ group_differs t j v u i few small other
 
-scripts_differ : (number n u i : ℕ) → n < u → u < 2 ^ 32 → is_set (name_at u i) (scripts number n) ≡ false
+scripts_differ : (seed n u i : ℕ) → n < u → u < 2 ^ 32 → is_set (name_at u i) (scripts seed n) ≡ false
 unfolding scripts
-scripts_differ number zero u i later small = refl
-scripts_differ number (suc t) u i later small =
+scripts_differ seed zero u i later small = refl
+scripts_differ seed (suc t) u i later small =
     let sets : ScriptView → Bool = λ s. list_any (sets_name (name_at u i)) s.steps in
-    list_any-append sets (scripts number t) (script number (suc t) ∷ [])
-    ∙ ap (λ b. b || (list_any (sets_name (name_at u i)) (groups number (suc t) 2500) || false)) (scripts_differ number t u i (omega arith) small)
-    ∙ ap (λ b. b || false) (groups_differ number (suc t) 2500 u i (omega arith) small (omega arith))
+    list_any-append sets (scripts seed t) (script seed (suc t) ∷ [])
+    ∙ ap (λ b. b || (list_any (sets_name (name_at u i)) (groups seed (suc t) 2500) || false)) (scripts_differ seed t u i (omega arith) small)
+    ∙ ap (λ b. b || false) (groups_differ seed (suc t) 2500 u i (omega arith) small (omega arith))
 
 group_avoids : (ss : List ScriptView) (t j v : ℕ) → is_set (name_at t (j % 50)) ss ≡ false → avoids ss (group t j v) ≡ true
 group_avoids ss t j v h = rw h refl
 
-groups_avoid : (number t n : ℕ) (ss : List ScriptView) → ((i : ℕ) → is_set (name_at t i) ss ≡ false) → avoids ss (groups number t n) ≡ true
+groups_avoid : (seed t n : ℕ) (ss : List ScriptView) → ((i : ℕ) → is_set (name_at t i) ss ≡ false) → avoids ss (groups seed t n) ≡ true
 unfolding groups
-groups_avoid number t zero ss h = refl
-groups_avoid number t (suc j) ss h = list_all_both (λ s. not (sets_again ss s)) (groups number t j) (group t j (drawn number t j)) (groups_avoid number t j ss h) (group_avoids ss t j (drawn number t j) (h (j % 50)))
+groups_avoid seed t zero ss h = refl
+groups_avoid seed t (suc j) ss h = list_all_both (λ s. not (sets_again ss s)) (groups seed t j) (group t j (drawn seed t j)) (groups_avoid seed t j ss h) (group_avoids ss t j (drawn seed t j) (h (j % 50)))
 
 -- ---- the round and the trace
 
-up_to : (number n most : ℕ) → n ≤ most → are_up_to most (scripts number n) ≡ true
+up_to : (seed n most : ℕ) → n ≤ most → are_up_to most (scripts seed n) ≡ true
 unfolding scripts
-up_to number zero most le = refl
-up_to number (suc t) most le =
-    list_all_both (λ s. leb s.thread most) (scripts number t) (script number (suc t) ∷ []) (up_to number t most (omega arith))
+up_to seed zero most le = refl
+up_to seed (suc t) most le =
+    list_all_both (λ s. leb s.thread most) (scripts seed t) (script seed (suc t) ∷ []) (up_to seed t most (omega arith))
     (and_from _ _ (le-leb _ _ le) refl)
 
-last_thread : (number n : ℕ) → last_of 0 (scripts number n) ≡ n
+last_thread : (seed n : ℕ) → last_of 0 (scripts seed n) ≡ n
 unfolding scripts
-last_thread number zero = refl
-last_thread number (suc t) = last_push 0 (scripts number t) (script number (suc t))
+last_thread seed zero = refl
+last_thread seed (suc t) = last_push 0 (scripts seed t) (script seed (suc t))
 
-pub round_fits : (number n : ℕ) → n ≤ 64 → is_round (scripts number n) ≡ true
+pub round_fits : (seed n : ℕ) → n ≤ 64 → is_round (scripts seed n) ≡ true
 unfolding scripts
-round_fits number zero few = refl
-round_fits number (suc t) few =
-    are_push [] 0 (scripts number t) (script number (suc t)) (round_fits number t (omega arith))
+round_fits seed zero few = refl
+round_fits seed (suc t) few =
+    are_push [] 0 (scripts seed t) (script seed (suc t)) (round_fits seed t (omega arith))
     (record {
-      later = omega (arith, last_thread number t);
-      fits = script_fits number (suc t) (omega arith) few;
-      apart = groups_avoid number (suc t) 2500 (scripts number t) (λ i. scripts_differ number t (suc t) i (omega arith) (omega arith));
+      later = omega (arith, last_thread seed t);
+      fits = script_fits seed (suc t) (omega arith) few;
+      apart = groups_avoid seed (suc t) 2500 (scripts seed t) (λ i. scripts_differ seed t (suc t) i (omega arith) (omega arith));
     })
 
-count_is : (number : ℕ) → step_count (stress number).rounds ≡ 200000
-count_is number = ap length (append-nil (flat_map (λ (s : ScriptView). s.steps) (scripts number 16))) ∙ omega (arith, length_scripts number 16)
+count_is : (seed : ℕ) → step_count (stress seed).rounds ≡ 200000
+count_is seed = ap length (append-nil (flat_map (λ (s : ScriptView). s.steps) (scripts seed 16))) ∙ omega (arith, length_scripts seed 16)
 
-pub traces : (number : ℕ) → IsTrace (stress number)
-traces number = record {
-  each = and_from _ _ (parts_round One (record { notes = []; scripts = scripts number 16 }) (record { scripts = round_fits number 16 (omega arith); threads = up_to number 16 16 (omega arith); notes = refl })) refl;
+pub traces : (seed : ℕ) → IsTrace (stress seed)
+traces seed = record {
+  each = and_from _ _ (parts_round One (record { notes = []; scripts = scripts seed 16 }) (record { scripts = round_fits seed 16 (omega arith); threads = up_to seed 16 16 (omega arith); notes = refl })) refl;
   rounds_fit = omega arith;
-  steps_fit = omega (arith, count_is number);
+  steps_fit = omega (arith, count_is seed);
   notes_fit = omega arith;
 }

@@ -8,7 +8,7 @@ use Rattle.hm_trace.specs.declared.fault.FaultKind.{FaultKind}
 use Rattle.hm_trace.specs.declared.fault.FaultKind.TheVariants.{BadName, BadNumber}
 use Rattle.hm_trace.specs.declared.progress.Open.{Open}
 use Rattle.hm_trace.specs.Gives.{or_fault, ◌>>=◌}
-use Rattle.hm_trace.specs.Lines.{BytePart, LengthPart, NamePart, SizePart, is_offset_word, named_fault, number_fault, part_fault, parts_fault, ref_fault, sign_place}
+use Rattle.hm_trace.specs.Lines.{BytePart, LengthPart, NamePart, SizePart, is_offset_word, named_fault, number_fault, part_fault, parts_fault, ref_fault, sign_position}
 use Rattle.hm_trace.specs.Names.{is_name, is_word}
 use Rattle.hm_trace.specs.Numbers.{is_byte, is_decimal, is_hex, is_hex_digit, is_number, value}
 use Rattle.hm_trace.specs.ReadNumbers.{hex_after, hex_at, hex_digit, number_at}
@@ -151,16 +151,16 @@ offset_agrees (c ∷ cs) =
 
 named_agrees : (word : List ℕ) → PartAgrees (named_at word) (named_fault word)
 unfolding named_at
-named_agrees word = by (is_name (take (sign_place word) word))
+named_agrees word = by (is_name (take (sign_position word) word))
   where
     by : (b : Bool)
         → PartAgrees
-        (cond b (Ok (take (sign_place word) word)) (Err BadName) >>= λ name. offset_at (drop (sign_place word) word)
+        (cond b (Ok (take (sign_position word) word)) (Err BadName) >>= λ name. offset_at (drop (sign_position word) word)
         >>= λ o. Ok (Named name o))
-        (cond b (number_fault (is_offset_word (drop (sign_place word) word))) (Some BadName))
+        (cond b (number_fault (is_offset_word (drop (sign_position word) word))) (Some BadName))
     by true =
-        mapped (offset_at (drop (sign_place word) word)) (Named (take (sign_place word) word)) _
-        (offset_agrees (drop (sign_place word) word))
+        mapped (offset_at (drop (sign_position word) word)) (Named (take (sign_position word) word)) _
+        (offset_agrees (drop (sign_position word) word))
     by false = refl
 
 ref_agrees : (word : List ℕ) → PartAgrees (place_at word) (ref_fault word)

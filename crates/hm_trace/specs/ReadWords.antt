@@ -7,7 +7,7 @@ use Rattle.hm_trace.specs.Views.{PlaceView, Null, At, Named, StepView, Malloc, C
 use Rattle.hm_trace.specs.Gives.{◌>>=◌, or_fault}
 use Rattle.hm_trace.specs.Limits.{max_length, max_offset}
 use Rattle.hm_trace.specs.Names.{is_word, is_name}
-use Rattle.hm_trace.specs.Lines.{sign_place}
+use Rattle.hm_trace.specs.Lines.{sign_position}
 use Rattle.hm_trace.specs.ReadNumbers.{number_at, hex_digit, hex_at}
 
 -- a name
@@ -48,8 +48,8 @@ offset_at (c ∷ digits) = do
 -- a name, and what stands behind it from the first sign on
 unfoldable pub named_at : List ℕ → Result PlaceView FaultKind
 named_at word = do
-  name ← name_at (take (sign_place word) word)
-  offset ← offset_at (drop (sign_place word) word)
+  name ← name_at (take (sign_position word) word)
+  offset ← offset_at (drop (sign_position word) word)
   Ok (Named name offset)
 
 -- `@` and an address, `null`, or a name with what stands behind it

@@ -43,5 +43,5 @@ pub fn first_version()
 
 /// Each stress trace is a trace.
 pub fn stress_is_trace()
-    ensures { (number : ℕ) → IsTrace (stress number) }
+    ensures { (seed : ℕ) → IsTrace (stress seed) }
 {}

@@ -1,5 +1,5 @@
-//! The stress trace of a number: one round in which each thread makes groups of five steps, whose sizes follow
-//! from the number.
+//! The stress trace of a seed: one round in which each thread makes groups of five steps, whose sizes follow
+//! from the seed.
 ghost use Rattle.std.specs.Prelude.{◌≡◌, ◌<◌, ◌++◌, length, slice_get, EachIndex, IfOk, OnOk, Some};
 ghost use Rattle.std.specs.Option.{option_map};
 ghost use Rattle.hm_trace.specs.Stress.{first, next, size_for, name_at, group, groups, stress};
@@ -30,15 +30,15 @@ const MULTIPLIER: u64 = 6_364_136_223_846_793_005;
 /// What is then added, as in the same generator.
 const INCREMENT: u64 = 1_442_695_040_888_963_407;
 
-/// The stress trace of a number.
+/// The stress trace of a seed.
 #[tactic(auto, unfolding(crate::specs::Stress::scripts))]
-pub fn stress_trace(alloc: Global, number: u64) -> Result<Trace, NoMemory>
-    ensures exact { IfOk result (λ trace. trace ≡ stress number) }
+pub fn stress_trace(alloc: Global, seed: u64) -> Result<Trace, NoMemory>
+    ensures exact { IfOk result (λ trace. trace ≡ stress seed) }
 {
     let mut scripts = Vec::new(alloc);
     for i in 0..THREADS {
         let thread = i + 1;
-        let steps = steps_of(alloc, number, thread)?;
+        let steps = steps_of(alloc, seed, thread)?;
         scripts.push(Script::of(thread, steps))?;
     }
     let mut rounds = Vec::new(alloc);
@@ -48,12 +48,12 @@ pub fn stress_trace(alloc: Global, number: u64) -> Result<Trace, NoMemory>
 
 /// The steps of a thread.
 #[tactic(auto, unfolding(crate::specs::Stress::state, crate::specs::Stress::groups))]
-fn steps_of(alloc: Global, number: u64, thread: u32) -> Result<Vec<Step>, AllocError>
-    ensures { IfOk result (λ list. steps_view list.items ≡ groups number thread 2500) }
+fn steps_of(alloc: Global, seed: u64, thread: u32) -> Result<Vec<Step>, AllocError>
+    ensures { IfOk result (λ list. steps_view list.items ≡ groups seed thread 2500) }
 {
     let names = names_of(alloc, thread)?;
     let mut steps = Vec::with_capacity(alloc, STEPS)?;
-    let mut x = first(number, thread);
+    let mut x = first(seed, thread);
     for j in 0..GROUPS {
         x = next(x);
         push_group(&mut steps, &names, thread, j, x >> 33)?;
@@ -75,10 +75,10 @@ fn names_of(alloc: Global, thread: u32) -> Result<Vec<Name>, AllocError>
 }
 
 /// What a thread's numbers begin with.
-fn first(number: u64, thread: u32) -> u64
-    ensures { result ≡ first number thread }
+fn first(seed: u64, thread: u32) -> u64
+    ensures { result ≡ first seed thread }
 {
-    number.wrapping_mul(16).wrapping_add(u64::from(thread))
+    seed.wrapping_mul(16).wrapping_add(u64::from(thread))
 }
 
 /// The number after `x`.

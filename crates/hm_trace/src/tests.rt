@@ -369,15 +369,15 @@ fn steps_of(scripts: &[Script], thread: u32) -> Option<&[Step]> {
 
 #[test]
 fn stress_traces(rt: HostRuntime) -> Result<(), Fail> {
-    for (number, thread, j, name, size, other) in GROUPS {
-        let trace = stress_trace(rt.alloc(), number)?;
+    for (seed, thread, j, name, size, other) in GROUPS {
+        let trace = stress_trace(rt.alloc(), seed)?;
         let expected = group(name, size, other).ok_or("no name")?;
         expect_group(&rt, &trace, thread, j, &expected)?;
     }
     Ok(())
 }
 
-/// A stress trace has one round of sixteen scripts, and this group stands at this place of a thread's.
+/// A stress trace has one round of sixteen scripts, and this group stands at this position of a thread's.
 fn expect_group(
     rt: &impl Abort,
     trace: &Trace,

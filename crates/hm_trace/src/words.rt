@@ -2,7 +2,7 @@
 ghost use Rattle.std.specs.Prelude.{◌≡◌, ◌≤◌, ◌<◌, length, map, position, IfOk};
 ghost use Rattle.hm_trace.specs.Gives.{GivesBy, or_fault};
 ghost use Rattle.hm_trace.specs.Limits.{max_offset};
-ghost use Rattle.hm_trace.specs.Lines.{words_at, is_sign, sign_place};
+ghost use Rattle.hm_trace.specs.Lines.{words_at, is_sign, sign_position};
 ghost use Rattle.hm_trace.specs.Views.{name_view, place_view};
 ghost use Rattle.hm_trace.specs.ReadNumbers.{hex_digit, hex_at};
 ghost use Rattle.hm_trace.specs.ReadWords.{name_at, size_at, length_at, distance_at, byte_at, offset_at, named_at, place_at};
@@ -83,7 +83,7 @@ fn first_sign(word: &[u8]) -> Option<usize>
 
 // The same, or the length.
 fn sign_at(word: &[u8]) -> usize
-    ensures place { result ≡ sign_place word.now }
+    ensures position { result ≡ sign_position word.now }
     ensures within { result ≤ length word.now }
 {
     first_sign(word).unwrap_or(word.len())

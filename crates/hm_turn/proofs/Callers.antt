@@ -68,12 +68,12 @@ module _ {T : Type 0} (entries : T → List Entry) (origin_of : T → List ℕ) 
   Where serving history s = IsHome entries origin_of origin history s ⊎ IsOut entries origin_of serving history s
 
   -- where those who hold the turn stay the same
-  place_stays : (serving : ℕ) (history : List Entry) (s : St) (views' : List View) → ((j : ℕ) (u : View) → At views' j u → u.holds ≡ true → At s.views j u)
+  home_or_out_stays : (serving : ℕ) (history : List Entry) (s : St) (views' : List View) → ((j : ℕ) (u : View) → At views' j u → u.holds ≡ true → At s.views j u)
       → ((j : ℕ) (u : View) → At s.views j u → u.holds ≡ true → At views' j u) → Where serving history s → Where serving history record { words = s.words; homes = s.homes; views = views' }
-  place_stays serving history s views' there back place = ⊎_elim
+  home_or_out_stays serving history s views' there back home_or_out = ⊎_elim
       (λ (h : IsHome entries origin_of origin history s). inl record { value = h.value; homes = h.homes; entries_are = h.entries_are; origin_is = h.origin_is; none_holds = λ j u p. false_from_ne_true u.holds (λ q. both_ways u.holds (h.none_holds j u (there j u p q)) q) })
       (λ (o : IsOut entries origin_of serving history s). inr record { holder = o.holder; view = o.view; homes = o.homes; at_holder = back o.holder o.view o.at_holder o.holds; holds = o.holds; served = o.served; holder_live = o.holder_live; knows = o.knows; only = λ j u p q. o.only j u (there j u p q) q })
-      place
+      home_or_out
 
   pub splits : (id : ℕ) (v : View) (c : ℕ) → v.spent ≡ false → v.holds ≡ false → v.caller ≡ 0 → c ≢ 0 → is_among c v.used ≡ false → Splits Rule id v (splitting v c) (entering v c)
   splits id v c lives rests zero_is pos fresh s r at = let left : View = splitting v c in let right : View = entering v c in let mid : List View = set s.views id left in let vs : List View = mid ++ right ∷ [] in let k = r.callers in
@@ -90,11 +90,11 @@ module _ {T : Type 0} (entries : T → List Entry) (origin_of : T → List ℕ) 
         serving = r.serving;
         words = r.words;
         queue = queue_snoc r.ticket r.serving mid right (queue_kept r.ticket r.serving s.views id v left r.queue at refl (λ n q. r.queue.noted id v n at q)) refl refl;
-        place = place_stays r.serving r.history s vs
+        home_or_out = home_or_out_stays r.serving r.history s vs
             (λ j u p q. ⊎_elim (λ (t : At mid j u). ⊎_elim (λ (w : (j ≡ id) × (left ≡ u)). absurd (both_ways u.holds (ap (λ (z : View). z.holds) (sym w.1) ∙ rests) q)) (λ (w : (j ≢ id) × At s.views j u). w.1) (at_set s.views id j left u t))
             (λ (t : (j ≡ length mid) × (right ≡ u)). absurd (both_ways u.holds (ap (λ (z : View). z.holds) (sym t.1)) q)) (at_snoc mid right u j p))
             (λ j u p q. at_longer mid (right ∷ []) j u (set_else s.views id j left (λ e. both_ways u.holds (ap (λ (z : View). z.holds) (one_at s.views id u v (ap (get_elem? s.views) (sym e) ∙ p) at) ∙ rests) q) ∙ p))
-            r.place;
+            r.home_or_out;
         each = λ j u p lu. ⊎_elim (λ (t : At mid j u). ⊎_elim (λ (w : (j ≡ id) × (left ≡ u)). subst (Fits origin r.history) w.1 record { origin_is = fits.origin_is; begins = fits.begins; own_seen = fits.own_seen; own_all = fits.own_all }) (λ (w : (j ≢ id) × At s.views j u). r.each j u w.1 lu) (at_set s.views id j left u t))
             (λ (t : (j ≡ length mid) × (right ≡ u)). subst (Fits origin r.history) t.1 record { origin_is = fits.origin_is; begins = fits.begins; own_seen = calls_by_begun c r.history v.seen fits.begins strange; own_all = strange }) (at_snoc mid right u j p);
         callers = record {
@@ -146,12 +146,12 @@ module _ {T : Type 0} (entries : T → List Entry) (origin_of : T → List ℕ) 
         serving = r.serving;
         words = r.words;
         queue = queue_spent r.ticket r.serving mid other w spent (queue_kept r.ticket r.serving s.views id v both r.queue at refl (λ n q. r.queue.noted id v n at q)) there no_ticket refl refl;
-        place = place_stays r.serving r.history s vs
+        home_or_out = home_or_out_stays r.serving r.history s vs
             (λ j u p q. ⊎_elim (λ (t : (j ≡ other) × (spent ≡ u)). absurd (both_ways u.holds (ap (λ (z : View). z.holds) (sym t.1)) q))
             (λ (t : (j ≢ other) × At mid j u). ⊎_elim (λ (x : (j ≡ id) × (both ≡ u)). absurd (both_ways u.holds (ap (λ (z : View). z.holds) (sym x.1) ∙ rests) q)) (λ (x : (j ≢ id) × At s.views j u). x.1) (at_set s.views id j both u t.1)) (at_set mid other j spent u p))
             (λ j u p q. set_else mid other j spent (λ e. both_ways u.holds (ap (λ (z : View). z.holds) (one_at s.views other u w (ap (get_elem? s.views) (sym e) ∙ p) at_other) ∙ restw) q)
             ∙ (set_else s.views id j both (λ e. both_ways u.holds (ap (λ (z : View). z.holds) (one_at s.views id u v (ap (get_elem? s.views) (sym e) ∙ p) at) ∙ rests) q) ∙ p))
-            r.place;
+            r.home_or_out;
         each = λ j u p lu. ⊎_elim (λ (t : (j ≡ other) × (spent ≡ u)). absurd (both_ways u.spent lu (ap (λ (z : View). z.spent) (sym t.1))))
             (λ (t : (j ≢ other) × At mid j u). ⊎_elim (λ (x : (j ≡ id) × (both ≡ u)). subst (Fits origin r.history) x.1 record {
               origin_is = fv.origin_is;
@@ -217,7 +217,7 @@ module _ {T : Type 0} (entries : T → List Entry) (origin_of : T → List ℕ) 
       (λ (o : IsOut entries origin_of r.serving r.history s). absurd (⊎_elim
       (λ (z : o.view.caller ≡ 0). let e = k.seats.apart o.holder id o.view v o.at_holder at o.holder_live lives (z ∙ sym zero_is) in both_ways v.holds rests (ap (λ (u : View). u.holds) (sym (one_at s.views id o.view v (ap (get_elem? s.views) (sym e) ∙ o.at_holder) at)) ∙ o.holds))
       (λ (z : is_among o.view.caller k.outs ≡ true). both_ways (is_among o.view.caller []) refl (ap (is_among o.view.caller) (sym none_out) ∙ z)) (k.seats.live o.holder o.view o.at_holder o.holder_live)))
-      r.place
+      r.home_or_out
 
   -- what is found in a closed table by the turn of caller 0, which knew k
   pub record Finishes (k : Knowledge) (slots : List (Option T)) : Type 0 where

@@ -46,7 +46,7 @@ module _ {T : Type 0} (entries : T → List Entry) (origin_of : T → List ℕ) 
       differ = λ j k v w t p q _ _. (at_one (founder origin) v j p).0 ∙ sym (at_one (founder origin) w k q).0;
       noted = λ j v n e h. absurd (no_number v.note n (ap (λ (u : View). u.note) (sym (at_one (founder origin) v j e).1)) h);
     };
-    place = inl record { value = x; homes = refl; entries_are = empty; origin_is = from; none_holds = λ j v e. ap (λ (u : View). u.holds) (sym (at_one (founder origin) v j e).1) };
+    home_or_out = inl record { value = x; homes = refl; entries_are = empty; origin_is = from; none_holds = λ j v e. ap (λ (u : View). u.holds) (sym (at_one (founder origin) v j e).1) };
     each = λ j v e lives. subst (Fits origin []) (at_one (founder origin) v j e).1 record { origin_is = refl; begins = ([], refl); own_seen = refl; own_all = refl };
     callers = record {
       root = 0;
@@ -136,7 +136,7 @@ module _ {T : Type 0} (entries : T → List Entry) (origin_of : T → List ℕ) 
     serving = r.serving;
     words = refl;
     queue = queue;
-    place = ⊎_elim
+    home_or_out = ⊎_elim
         (λ (h : IsHome entries origin_of origin r.history s). inl record {
           value = h.value;
           homes = h.homes;
@@ -156,7 +156,7 @@ module _ {T : Type 0} (entries : T → List Entry) (origin_of : T → List ℕ) 
           knows = o.knows;
           only = λ j u p held. ⊎_elim (λ (t : (j ≡ id) × (w ≡ u)). absurd (both_ways u.holds (ap (λ (x : View). x.holds) (sym t.1) ∙ (a.holds ∙ rests)) held)) (λ (t : (j ≢ id) × At s.views j u). o.only j u t.1 held) (at_set s.views id j w u p);
         })
-        r.place;
+        r.home_or_out;
     each = each_stays r.history s.views id w (fits_alike r.history v w a (r.each id v at lives)) (λ j u _ p lu. r.each j u p lu);
     callers = changed s r id v w r.history at lives (a.spent ∙ lives) a.caller a.used a.out a.ended (λ c calls e. (r.callers.calls.ended_are c calls e).1)
         (λ c calls e same. ap (calls_by c) a.seen ∙ (ap (λ (x : View). calls_by c x.seen) (sym same) ∙ (r.callers.calls.ended_are c calls (ap (λ (x : View). ended_of c x.ended) same ∙ e)).0)) r.callers.calls.strangers;
@@ -173,7 +173,7 @@ module _ {T : Type 0} (entries : T → List Entry) (origin_of : T → List ℕ) 
         serving = r.serving;
         words = refl;
         queue = queue;
-        place = inr record {
+        home_or_out = inr record {
           holder = id;
           view = w;
           homes = refl;
@@ -249,7 +249,7 @@ module _ {T : Type 0} (entries : T → List Entry) (origin_of : T → List ℕ) 
       ))
       (λ (o : IsOut entries origin_of r.serving r.history s). let e = r.queue.differ o.holder id o.view v r.serving o.at_holder at o.served served in
       absurd (both_ways v.holds rests (ap (λ (x : View). x.holds) (one_at s.views id v o.view at (ap (get_elem? s.views) (sym e) ∙ o.at_holder)) ∙ o.holds)))
-      r.place
+      r.home_or_out
   awaits_at s r slots id t v at lives rests mine (no miss) = let w : View = noting v r.serving in (
     w,
     keeps,
@@ -296,7 +296,7 @@ module _ {T : Type 0} (entries : T → List Entry) (origin_of : T → List ℕ) 
         ((λ _. got s r h id v b at lives (drawing_alike v old)), λ n. absurd (n hit)),
       ))
       (λ (o : IsOut entries origin_of r.serving r.history s). let x = r.queue.between o.holder o.view r.serving o.at_holder o.served in absurd (omega arith))
-      r.place
+      r.home_or_out
   asks_at s r slots id old v at lives rests no_ticket note (no miss) = let below = r.queue.noted id v old at note in let order = r.queue.in_order in let w : View = outrun v in (
     w,
     keeps,
@@ -322,7 +322,7 @@ module _ {T : Type 0} (entries : T → List Entry) (origin_of : T → List ℕ) 
     subst (λ (z : List ℕ × List View). Rule (in_parts z.0 s.homes z.1)) (λ i. (sym (set-get_or s.words 2 0) i, sym (set_again s.views id v at) i)) r,
     (
       ⊎_elim (λ (h : IsHome entries origin_of origin r.history s). absurd (both_ways v.holds (h.none_holds id v at) held))
-          (λ (o : IsOut entries origin_of r.serving r.history s). ap (λ (ws : List ℕ). get_or ws 2 0) r.words ∙ ap (λ (l : List Entry). length l) (sym o.knows ∙ ap (λ (u : View). u.seen) (holder_is s r o id v at held))) r.place,
+          (λ (o : IsOut entries origin_of r.serving r.history s). ap (λ (ws : List ℕ). get_or ws 2 0) r.words ∙ ap (λ (l : List Entry). length l) (sym o.knows ∙ ap (λ (u : View). u.seen) (holder_is s r o id v at held))) r.home_or_out,
       refl,
     ),
   )
@@ -347,7 +347,7 @@ module _ {T : Type 0} (entries : T → List Entry) (origin_of : T → List ℕ) 
           serving = r.serving;
           words = ap (λ (n : ℕ). r.ticket ∷ r.serving ∷ n ∷ []) number;
           queue = queue_kept r.ticket r.serving s.views id v w r.queue at refl (λ n q. r.queue.noted id v n at q);
-          place = inr record {
+          home_or_out = inr record {
             holder = id;
             view = w;
             homes = refl;
@@ -370,7 +370,7 @@ module _ {T : Type 0} (entries : T → List Entry) (origin_of : T → List ℕ) 
   pub adds : (slots id : ℕ) (v : View) (xs : List Entry) (cs : List (ℕ × Option T)) (e : Entry) → v.spent ≡ false → v.holds ≡ true → xs ≡ v.seen ++ e ∷ [] → e.who.caller ≡ v.caller → length xs < 2 ^ 64
       → Allows Rule slots id (v, cs) 2 (λ n. (n + 1) % 2 ^ 64) (added xs (step slots 2 1 0 none) (v, cs))
   adds slots id v xs cs e lives held grown own room s r _ at _ = ⊎_elim (λ (h : IsHome entries origin_of origin r.history s). absurd (both_ways v.holds (h.none_holds id v at) held))
-      (λ (o : IsOut entries origin_of r.serving r.history s). subst (λ (z : List ℕ × List (Place (Option T))). Grows slots id v xs cs (in_parts z.0 z.1 s.views)) (λ i. (sym r.words i, sym o.homes i)) (grows s r o slots id v xs cs e at lives held grown own room)) r.place
+      (λ (o : IsOut entries origin_of r.serving r.history s). subst (λ (z : List ℕ × List (Place (Option T))). Grows slots id v xs cs (in_parts z.0 z.1 s.views)) (λ i. (sym r.words i, sym o.homes i)) (grows s r o slots id v xs cs e at lives held grown own room)) r.home_or_out
 
   abbrev Rests : ℕ → ℕ → ℕ → View → T → St → Type 0
   Rests slots id next v x s = (w : View) × (a : Act (Option T)) × Valid s.homes ((0, Some x) ∷ []) a × Rule (stepped s 1 next id ((0, Some x) ∷ []) w a)
@@ -389,7 +389,7 @@ module _ {T : Type 0} (entries : T → List Entry) (origin_of : T → List ℕ) 
           serving = t + 1;
           words = refl;
           queue = subst (λ (n : ℕ). AreQueued r.ticket (n + 1) (set s.views id w)) now (queue_served r.ticket r.serving s.views id v w r.queue at served refl refl);
-          place = inl record {
+          home_or_out = inl record {
             value = x;
             homes = refl;
             entries_are = has ∙ (ap (λ (u : View). u.seen) (sym same) ∙ o.knows);
@@ -406,7 +406,7 @@ module _ {T : Type 0} (entries : T → List Entry) (origin_of : T → List ℕ) 
   pub frees : (slots id t : ℕ) (v : View) (x : T) → v.spent ≡ false → v.holds ≡ true → v.ticket ≡ Some t → entries x ≡ v.seen → origin_of x ≡ v.origin
       → Allows Rule slots id (v, (0, Some x) ∷ []) 1 (λ _. t + 1) (λ _. freed (step slots 1 (t + 1) 0 none) (v, (0, Some x) ∷ []) (t + 1))
   frees slots id t v x lives held mine has from s r _ at _ = ⊎_elim (λ (h : IsHome entries origin_of origin r.history s). absurd (both_ways v.holds (h.none_holds id v at) held))
-      (λ (o : IsOut entries origin_of r.serving r.history s). subst (λ (z : List ℕ × List (Place (Option T))). Rests slots id (t + 1) v x (in_parts z.0 z.1 s.views)) (λ i. (sym r.words i, sym o.homes i)) (rests s r o slots id t v x at lives held mine has from)) r.place
+      (λ (o : IsOut entries origin_of r.serving r.history s). subst (λ (z : List ℕ × List (Place (Option T))). Rests slots id (t + 1) v x (in_parts z.0 z.1 s.views)) (λ i. (sym r.words i, sym o.homes i)) (rests s r o slots id t v x at lives held mine has from)) r.home_or_out
 
   pub learns : (slots id : ℕ) (m : M) → m.0.caller ≡ 0 → m.0.spent ≡ false → Allows Rule slots id m 0 (λ n. n) (informed (step slots 0 0 0 none) m)
   learns slots id m zero_is lives s r _ at _ = let v : View = m.0 in let k = r.callers in let fits = r.each id v at lives in

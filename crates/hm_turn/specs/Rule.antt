@@ -101,6 +101,6 @@ module _ {T : Type 0} (entries : T → List Entry) (origin_of : T → List ℕ) 
     pub serving : ℕ
     pub words : s.words ≡ ticket ∷ serving ∷ length history ∷ []
     pub queue : AreQueued ticket serving s.views
-    pub place : IsHome origin history s ⊎ IsOut serving history s
+    pub home_or_out : IsHome origin history s ⊎ IsOut serving history s
     pub each : (j : ℕ) (v : View) → At s.views j v → v.spent ≡ false → Fits origin history v
     pub callers : AreKnown history s.views

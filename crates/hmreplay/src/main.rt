@@ -1,8 +1,8 @@
 //! `hmreplay run` reads a trace from standard input, runs it and writes one line a step; `hmreplay journal` writes the
 //! histories, `hmreplay stats` what they come to, `hmreplay watch` the bytes of live large blocks after each round,
-//! `hmreplay check` reads a journal and writes the verdict on it, and `hmreplay stress` runs a trace that a number makes. It
-//! ends with the status of `replay`; with 9 where the words after its name could not be taken from the system, and with 6
-//! where there was no memory for them.
+//! `hmreplay check` reads a journal and writes the verdict on it, and `hmreplay stress` runs the stress trace of a
+//! seed. It ends with the status of `replay`; with 9 where the words after its name could not be taken from the system,
+//! and with 6 where there was no memory for them.
 #![tactic(auto)]
 
 use hm_frames::FrameMaker;

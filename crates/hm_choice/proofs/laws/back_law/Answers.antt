@@ -1,4 +1,4 @@
-use Rattle.hm_choice.proofs.Places.{comes_again}
+use Rattle.hm_choice.proofs.Positions.{comes_again}
 use Rattle.hm_choice.proofs.laws.back_law.Goals as goal
 
 pub returns : goal.returns

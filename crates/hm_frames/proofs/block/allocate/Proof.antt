@@ -92,16 +92,16 @@ allocate_spec 𝓤 𝓛 𝓜 𝓡 wired A L g d dd met md =
     returns ! (look_at ! 0 refl) $ free_all ! refl $
     let p : Ptr = block_ptr b o in
     let x : (start.the_row).Denot = record { ptr = p } in
-    let k : (contents.the_row).Denot = record { at = p; places = replicate n None } in
+    let k : (contents.the_row).Denot = record { at = p; raw_cells = replicate n None } in
     let t : (lease.the_row Z g).Denot = record { mark = record {}; at = p; len = n; alloc = h } in
     let v : Val = three_val (start_val p) contents_val lease_val in
-    use1 𝓛 (‵ (row_own b o (replicate n None))) (of_room 𝓛 n b o) $ flt_i ! (length k.places) (2 ^ 63) (omega (arith, small, length-replicate {A = Option ℕ} n None)) $ fjoin ! $
+    use1 𝓛 (‵ (row_own b o (replicate n None))) (of_room 𝓛 n b o) $ flt_i ! (length k.raw_cells) (2 ^ 63) (omega (arith, small, length-replicate {A = Option ℕ} n None)) $ fjoin ! $
     use0 𝓛 (‵ (contents_own_val (contents_val ∷ []))) (contents_made 𝓛) $ fjoin ! $ move ! (1 ∷ []) $
     use0 𝓛 (‵ (lease_own (lease_val ∷ []))) (lease_made 𝓛) $ fjoin ! $ move ! (1 ∷ 0 ∷ []) $
     use0 𝓛 (‵ (start_own p (start_val p ∷ []))) (start_made 𝓛 p) $
     use3 𝓛 (‵ (Three.own_val (x, k, t) (v ∷ []))) (three_of 𝓛 (start.the_row) (contents.the_row) (lease.the_row Z g) x k t (start_val p) contents_val lease_val) $
     use1 𝓛 (‵ (Out.own_val (Some (x, k, t)) (live 1 (vcons v vnil) ∷ []))) (Some-of 𝓛 Three (x, k, t) v) $
-    use0 𝓛 (raw (fact 𝓤 ((p ≡ p) × (k.places ≡ replicate n None) × (p ≡ p) × (n ≡ n) × (h ≡ h)))) (fact_i 𝓤 ((p ≡ p) × (k.places ≡ replicate n None) × (p ≡ p) × (n ≡ n) × (h ≡ h)) (emp 𝓤) (refl, refl, refl, refl, refl)) $
+    use0 𝓛 (raw (fact 𝓤 ((p ≡ p) × (k.raw_cells ≡ replicate n None) × (p ≡ p) × (n ≡ n) × (h ≡ h)))) (fact_i 𝓤 ((p ≡ p) × (k.raw_cells ≡ replicate n None) × (p ≡ p) × (n ≡ n) × (h ≡ h)) (emp 𝓤) (refl, refl, refl, refl, refl)) $
     nothing ! $ nothing ! $ fjoin ! $ nothing ! $ fjoin ! $ move ! (3 ∷ 0 ∷ 2 ∷ 1 ∷ []) $
     by ! (leaves 𝓛 En₀ stays c z (live 1 (vcons v vnil)) (Some (x, k, t)) (tt, (tt, tt)) (tt, (tt, tt))))
     (λ e. join ! $ lands_as ! (e) refl (tt, (record { fits = lit< tt }, (tt, tt))) $

@@ -1,5 +1,5 @@
 use Rattle.hm_class_rules.proofs.Delay as slots
-use Rattle.hm_large.proofs.Delay as blocks
+use Rattle.hm_large_rules.proofs.Delay as blocks
 use Rattle.hm_heap.specs.Lawful.{class_terms, large_terms}
 use Rattle.hm_heap.proofs.laws.delayed_blocks.Goals as goal
 

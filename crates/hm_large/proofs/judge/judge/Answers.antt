@@ -2,9 +2,9 @@ use Rattle.std.proofs.Common.{◌≡◌, ℕ, ◌==◌, Bool, true, false, cond,
 use Rattle.std.proofs.lemmas.Bool.{eq-eqb, ne_eqb}
 use Rattle.hm_sizes.specs.Sizes.{block_size}
 use Rattle.hm_region_table.specs.declared.entry.Block.{Block as KeptBlock}
-use Rattle.hm_large.specs.Blocks.{Block}
+use Rattle.hm_large_rules.specs.State.{Block}
 use Rattle.hm_large.specs.Kept.{kept_of}
-use Rattle.hm_large.specs.Rules.{wrong_size}
+use Rattle.hm_large_rules.specs.Rules.{wrong_size}
 use Rattle.hm_large.proofs.judge.judge.Goals as goal
 
 none_mapped : (o : Option Block) → None ≡ option_map (kept_of false) o → o ≡ None

@@ -1,5 +1,5 @@
 use Rattle.std.proofs.Common.{sym, ap, ◌∙◌}
-use Rattle.hm_large.specs.Blocks.{mark}
+use Rattle.hm_large_rules.specs.Steps.{mark}
 use Rattle.hm_large_book.specs.Book.{block_in}
 use Rattle.hm_large_book.proofs.Changing.{mark_next}
 use Rattle.hm_large_book.proofs.changes.mark.Goals as goal

@@ -1,5 +1,5 @@
 use Rattle.std.proofs.Common.{◌≡◌, ◌++◌, map, take, drop}
-use Rattle.hm_large.specs.Blocks.{mark}
+use Rattle.hm_large_rules.specs.Steps.{mark}
 use Rattle.hm_large_book.specs.Book.{blocks_in}
 use Rattle.hm_large_book.proofs.changes.mark.Given as goal
 

@@ -1,7 +1,7 @@
 use Rattle.std.proofs.Common.{◌≡◌, ℕ, ◌≤◌, ◌%◌, ◌^◌, subst, sym, ap, ◌∙◌}
 use Rattle.hm_sizes.specs.Sizes.{large_size}
-use Rattle.hm_large.specs.Blocks.{size_for}
-use Rattle.hm_large.proofs.Legal.{size_is}
+use Rattle.hm_large_rules.specs.State.{size_for}
+use Rattle.hm_large_rules.proofs.Legal.{size_is}
 use Rattle.hm_large_book.proofs.changes.size_of_block.Goals as goal
 
 -- the result is the size of the rules

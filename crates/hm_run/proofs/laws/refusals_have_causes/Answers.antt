@@ -1,7 +1,7 @@
 use Rattle.std.proofs.Common.{[], ◌∷◌, ◌++◌}
 use Rattle.hm_class_rules.proofs.Legal as class_legal
 use Rattle.hm_heap.specs.ClassRules as class
-use Rattle.hm_large.proofs.Legal as large_legal
+use Rattle.hm_large_rules.proofs.Legal as large_legal
 use Rattle.hm_heap.specs.LargeRules as large
 use Rattle.hm_run.specs.Laws.{class_rules, large_rules}
 use Rattle.hm_run.proofs.Causes.{refuses_class, refuses_large}

@@ -19,7 +19,7 @@ returns-clause-replayed g c =
     let heap = c.in_ok-heap.heap in
     let root = c.watch_rounds.new.root in
     let ran = c.in_ok-results.ensures.ran in
-    replayed g.M.P.Pages c.args.options.now heap.config heap.number heap.locks root c.in_ok-closed.closed c.args.trace.now c.in_ok-results.results.items ran.0
+    replayed g.M.P.Pages c.args.options.now heap.config heap.seed heap.locks root c.in_ok-closed.closed c.args.trace.now c.in_ok-results.results.items ran.0
     c.replayed_rounds.ensures.closed c.replayed_rounds.ensures.entries (c.in_ok-heap.ensures.heap.0 ∙ c.config.ensures) c.in_ok-heap.ensures.heap.1
     c.in_ok-results.ensures.of (subst (λ (d : Config). length heap.locks ≡ region_count d + 1) c.config.ensures c.in_ok-heap.ensures.locks.count)
     (subst (λ (ts : List RoundView). HasReplayed heap.config root (scripts_in ts) c.in_ok-results.results.items ran.0) c.rounds.ensures.all ran.1) c.in_ok-closed.ensures
@@ -54,7 +54,7 @@ returns-clause-totals g c = λ on.
     let root = c.watch_rounds.new.root in
     let ran = c.in_ok-results.ensures.ran in
     let trace = c.args.trace.now in
-    totals_are g.M.P.Pages c.args.options.now c.in_ok-closed.closed heap.config heap.number root (scripts_of trace) c.in_ok-results.results.items ran.0
+    totals_are g.M.P.Pages c.args.options.now c.in_ok-closed.closed heap.config heap.seed root (scripts_of trace) c.in_ok-results.results.items ran.0
     c.in_ok-results.totals.items c.watched_rounds.ensures.closed c.live_block_sizes.ensures (returns-clause-replayed g c).ends
     (c.in_ok-heap.ensures.heap.0 ∙ c.config.ensures)
     (subst (λ (ts : List RoundView). HasReplayed heap.config root (scripts_in ts) c.in_ok-results.results.items ran.0) c.rounds.ensures.all ran.1)

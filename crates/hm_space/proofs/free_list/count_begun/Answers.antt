@@ -1,7 +1,7 @@
 use Rattle.std.proofs.Common.{rules, nat_le}
 use Rattle.std.proofs.lemmas.List.Sorted.{IsPartitionPoint-from_clause}
 use Rattle.hm_space.specs.declared.free_range.FreeRange.{FreeRange}
-use Rattle.hm_space.proofs.Places.{is_parted, point_is}
+use Rattle.hm_space.proofs.Indices.{is_parted, point_is}
 use Rattle.hm_space.proofs.free_list.count_begun.Goals as goal
 
 pub returns : goal.returns

@@ -2,7 +2,7 @@ use Rattle.std.proofs.Common.{◌≡◌, ◌∙◌, length, sym, ap, subst, arit
 use Rattle.std.proofs.lemmas.List.{length-set}
 use Rattle.hm_slab_lists.specs.Table.{is_open}
 use Rattle.hm_slab_meta.specs.Uses as meta
-use Rattle.hm_slab_meta.specs.Uses.{Held, Free}
+use Rattle.hm_slab_meta.specs.Uses.{Quarantined, Free}
 use Rattle.hm_class.specs.Slabs.{Slabs, IsFiled, uses_of, shown}
 use Rattle.hm_class.specs.Uses.{use_at, with_slot, with_use, live_count}
 use Rattle.hm_class.proofs.Tables.{lent_is, none_lent, none_used, same_slot, uses_written, filed_written}
@@ -12,14 +12,14 @@ use Rattle.hm_class.proofs.slabs.Slabs.release.Goals.{in-Some, in_default}
 
 pub release-requires : goal.release-requires
 release-requires c =
-    let was = ap (λ (k : Slabs). use_at k.slabs c.args.slot.slab c.args.slot.index) c.self.view_is ∙ c.requires.held in
+    let was = ap (λ (k : Slabs). use_at k.slabs c.args.slot.slab c.args.slot.index) c.self.view_is ∙ c.requires.quarantined in
     same_slot c.self.inside.lists c.args.slot.slab c.args.slot.index c.in-Some.meta.now c.self.invariant.0
-    (lent_is c.meta_mut.result c.in-Some.meta _ c.meta_mut.ensures.value c.in-Some.is) Held was
+    (lent_is c.meta_mut.result c.in-Some.meta _ c.meta_mut.ensures.value c.in-Some.is) Quarantined was
 
 -- the slots, as the table has them
 uses_now : (c : goal.Joined-meta_mut) → uses_of c.match-meta_mut.self-inside.lists ≡ with_use (uses_of c.self.inside.lists) c.args.slot.slab c.args.slot.index Free
 uses_now c =
-    let was = ap (λ (k : Slabs). use_at k.slabs c.args.slot.slab c.args.slot.index) c.self.view_is ∙ c.requires.held in
+    let was = ap (λ (k : Slabs). use_at k.slabs c.args.slot.slab c.args.slot.index) c.self.view_is ∙ c.requires.quarantined in
     elim c.match-meta_mut.branch as (λ _. uses_of c.match-meta_mut.self-inside.lists ≡ with_use (uses_of c.self.inside.lists) c.args.slot.slab c.args.slot.index Free) [
       | in-Some w ↦
           ap (λ i. uses_of i.lists) w.self-inside-is
@@ -28,7 +28,7 @@ uses_now c =
           (ap (shown (is_open c.args.slot.slab c.self.inside.lists)) (sym w.release.ensures))
       | in_default w ↦
           absurd (none_used c.self.inside.lists c.args.slot.slab c.self.invariant.0 (none_lent c.meta_mut.result _ c.meta_mut.ensures.value w.in_default.is)
-          c.args.slot.index Held was)
+          c.args.slot.index Quarantined was)
     ]
 
 live_now : (c : goal.Joined-meta_mut) → c.match-meta_mut.self-inside.live ≡ c.self.inside.live
@@ -39,7 +39,7 @@ live_now c = elim c.match-meta_mut.branch as (λ _. c.match-meta_mut.self-inside
 
 pub invariant_of-self : goal.invariant_of-self
 invariant_of-self c =
-    let was = ap (λ (k : Slabs). use_at k.slabs c.args.slot.slab c.args.slot.index) c.self.view_is ∙ c.requires.held in (
+    let was = ap (λ (k : Slabs). use_at k.slabs c.args.slot.slab c.args.slot.index) c.self.view_is ∙ c.requires.quarantined in (
       elim c.match-meta_mut.branch as (λ _. IsFiled c.match-meta_mut.self-inside.lists) [
         | in-Some w ↦
             subst (λ i. IsFiled i.lists) (sym w.self-inside-is)

@@ -34,7 +34,7 @@ use denote.Triple.Walked.{Stays, says, stay_dropped, walk_of, ends_at, Goes-drop
 use Rattle.core.proofs.alloc.Shapes.{after}
 use Rattle.std.proofs.raw_atomic.Walks.{proved_at}
 use Rattle.hm_frames.specs.Ownership.{row_own, contents_own}
-use Rattle.hm_frames.specs.Places.{IsFilled, byte_of, bytes_of}
+use Rattle.hm_frames.specs.RawCells.{IsFilled, byte_of, bytes_of}
 use Rattle.hm_frames.specs.ContentsLends.{over}
 use Rattle.hm_frames.specs.contracts.block.Contents as contents
 use Rattle.hm_frames.specs.contracts.block.Start as start
@@ -56,28 +56,28 @@ stays = (
   ),
 )
 
-module _ {M : Type 1} {𝓤 : Ura M} (𝓛 : Logic 𝓤) (rb ro : ℕ) (d : Cr.Denot) (from len : ℕ) (vs : List Val) (b o : ℕ) (filled : IsFilled d.places from len) where
+module _ {M : Type 1} {𝓤 : Ura M} (𝓛 : Logic 𝓤) (rb ro : ℕ) (d : Cr.Denot) (from len : ℕ) (vs : List Val) (b o : ℕ) (filled : IsFilled d.raw_cells from len) where
   -- all but the part
   abbrev Rest : Fml
-  Rest = fsep (Around 𝓛 b o d.places from len filled.within) (fsep (contents_own_val vs) (cell_at full_share Cr.mir vs rb ro))
+  Rest = fsep (Around 𝓛 b o d.raw_cells from len filled.within) (fsep (contents_own_val vs) (cell_at full_share Cr.mir vs rb ro))
 
-  back : d.at ≡ block_ptr b o → length d.places < 2 ^ 63 → (ws : List ℕ) → length ws ≡ length (take len (drop_l from (bytes_of d.places)))
+  back : d.at ≡ block_ptr b o → length d.raw_cells < 2 ^ 63 → (ws : List ℕ) → length ws ≡ length (take len (drop_l from (bytes_of d.raw_cells)))
       → ent 𝓤 (sep 𝓤 (sem 𝓛 (cells (mem u8) ws b (from + o))) (sem 𝓛 Rest)) (sem 𝓛 ((mem Cr).own_at (over d from len ws) rb ro))
   unfolding part_of
   back e small ws same =
-      let xs = d.places in let old = take len (drop_l from (bytes_of xs)) in let rest = drop_l (from + len) xs in let new = over d from len ws in
+      let xs = d.raw_cells in let old = take len (drop_l from (bytes_of xs)) in let rest = drop_l (from + len) xs in let new = over d from len ws in
       let le = filled.within in
       let count : length old ≡ len = omega (arith, le, length-take len (drop_l from (bytes_of xs)), length-drop from (bytes_of xs), length-map xs byte_of) in
       let all : refill len old ws ≡ ws = take_front ws (drop_l (length ws) old) len (same ∙ count) in
-      let long : length new.places ≡ length xs = ap (λ l. length (take from xs ++ (map Some l ++ rest))) all
+      let long : length new.raw_cells ≡ length xs = ap (λ l. length (take from xs ++ (map Some l ++ rest))) all
       ∙ omega (arith, le, same, count, length-append (take from xs) (map Some ws ++ rest), length-append (map Some ws) rest, length-map ws Some, length-take from xs, length-drop (from + len) xs) in
       qed 𝓛 (‵ (cells (mem u8) ws b (from + o)) ∷ ‵ Rest ∷ []) ∵ use1 𝓛 (‵ (row_own b (from + o) (map Some ws))) (of_cells 𝓛 ws b (from + o)) $
       move ! (1 ∷ []) $ fsplit3 ! $ move ! (3 ∷ 0 ∷ []) $
       use2 𝓛 (‵ (row_own b o (take from xs ++ (map Some ws ++ rest)))) (part_in 𝓛 b o xs from len le (map Some ws) (omega (arith, same, count, length-map ws Some))) $
       rewrite ! 0 (λ (l : List ℕ). ‵ (row_own b o (take from xs ++ (map Some l ++ rest)))) (sym all) refl $
-      -- [the places; the fields; the cell]
-      flt_i ! (length new.places) (2 ^ 63) (omega (arith, small, long)) $ fjoin ! $
-      rewrite ! 0 (λ (p : Ptr). ‵ (contents_own p new.places)) (sym e) refl $ move ! (1 ∷ 0 ∷ []) $ fjoin ! $ move ! (1 ∷ 0 ∷ []) $ fjoin ! $
+      -- [the raw_cells; the fields; the cell]
+      flt_i ! (length new.raw_cells) (2 ^ 63) (omega (arith, small, long)) $ fjoin ! $
+      rewrite ! 0 (λ (p : Ptr). ‵ (contents_own p new.raw_cells)) (sym e) refl $ move ! (1 ∷ 0 ∷ []) $ fjoin ! $ move ! (1 ∷ 0 ∷ []) $ fjoin ! $
       fpack ! (List Val) (λ us. fsep (cell_at full_share Cr.mir us rb ro) (Cr.own_val new us)) vs $ done !
 
 pub part_mut_spec : {M : Type 1} → statement M
@@ -101,33 +101,33 @@ part_mut_spec 𝓤 𝓛 𝓜 𝓡 wired =
     let rb = a.0.ref_ptr.0 in let ro = a.0.ref_ptr.1 in let γ : GName = a.0.ghost_name in let d : Cr.Denot = a.0.now in
     let base = a.1.0 in let from = a.1.1.0 in let len = a.1.1.1.0 in
     let told : vss.1.0 ≡ start_val base.ptr ∷ [] = start_told base.ptr vss.1.0 are.1.0 in
-    let Asked : Type 0 = (base.ptr ≡ d.at) × IsFilled d.places from len in
+    let Asked : Type 0 = (base.ptr ≡ d.at) × IsFilled d.raw_cells from len in
     qed 𝓛 (((‵ (flft κ q) ⊛ ‵ ftrue) ⊛ ‵ (owns (types_at f.ended.signature.params z.0.0) a vss)) ∷ raw (fact 𝓤 Asked) ∷ []) ∵
     move ! (1 ∷ []) $ heard ! Asked (λ asked. split ! $ split ! $ move ! (2 ∷ []) $ fsplit ! $ move ! (1 ∷ []) $ drop ! $ fsplit3 ! $ drop ! $
     -- [what is observed; the borrow; the token; nothing]
     let filled = asked.1 in let le = filled.within in
-    let xs = take len (drop_l from (bytes_of d.places)) in
-    let long : length xs ≡ len = omega (arith, le, length-take len (drop_l from (bytes_of d.places)), length-drop from (bytes_of d.places), length-map d.places byte_of) in
+    let xs = take len (drop_l from (bytes_of d.raw_cells)) in
+    let long : length xs ≡ len = omega (arith, le, length-take len (drop_l from (bytes_of d.raw_cells)), length-drop from (bytes_of d.raw_cells), length-map d.raw_cells byte_of) in
     let seen = Cr.coded.code d in
     regoal ! (λ (us : List Val). prop (WpFn 𝓤 H C Λ fn us Post)) (λ i. are.0.0 i ++ (told i ++ (are.1.1.0.0 i ++ (are.1.1.1.0.0 i ++ [])))) refl $
     enter ! C Λ fn (vptr rb ro ∷ start_val base.ptr ∷ vint w64 from ∷ vint w64 len ∷ []) Post $
     alloc_all ! (λ l. pass_all ! refl ((tt, tt), (start_typed base.ptr, ((tt, record { fits = are.1.1.0.1 }), ((tt, record { fits = are.1.1.1.0.1 }), tt)))) $
     let En : Env 𝓤 H = env fn.locals l in
     opens ! tt Cr {h = d} rb ro (λ vs. move ! (1 ∷ []) $ fsplit ! $ move ! (1 ∷ []) $
-    in_a_block ! d.at (λ p. contents_own p d.places) (id⊢ 𝓤 (never 𝓤)) (λ b o e. fsplit ! $ flt_l ! (λ small.
-    -- [the places; the fields; their cell; the open borrow; ..]
+    in_a_block ! d.at (λ p. contents_own p d.raw_cells) (id⊢ 𝓤 (never 𝓤)) (λ b o e. fsplit ! $ flt_l ! (λ small.
+    -- [the raw_cells; the fields; their cell; the open borrow; ..]
     take_at ! 2 $ rewrite ! 0 (λ (p : Ptr). ‵ (fat full_share (layout start.the_row) (l 2) 0 (start_val p))) (asked.0 ∙ e) refl $ give_at ! 2 $ first ! $ blocks ! $
     sets ! (bin ! (get_in ! (fld ! refl (stop !)) (sub ! 0 refl (whole !))) (get ! refl) tt) refl (tt, tt) $
     let at = from + o in let way = back 𝓛 rb ro d from len vs b o filled e small in
     let more = over d from len in
     let left : SProp 𝓤 = sem 𝓛 (Rest 𝓛 rb ro d from len vs b o filled) in
     let roomy : length xs < 2 ^ 64 = omega (arith, long, small, le) in let fitting : length xs * 1 < 2 ^ 63 = omega (arith, long, small, le) in
-    use1 𝓛 (‵ (row_own b at (take len (drop_l from d.places))) ⊛ ‵ (Around 𝓛 b o d.places from len le)) (part_out 𝓛 b o d.places from len le) $ split ! $
+    use1 𝓛 (‵ (row_own b at (take len (drop_l from d.raw_cells))) ⊛ ‵ (Around 𝓛 b o d.raw_cells from len le)) (part_out 𝓛 b o d.raw_cells from len le) $ split ! $
     rewrite ! 0 (λ (l : List (Option ℕ)). ‵ (row_own b at l)) filled.all refl $
     use1 𝓛 (‵ (cells (mem u8) xs b at)) (as_cells 𝓛 xs b at) $
     sets_last ! (agg ! (and_then ! (get ! refl) (and_then ! (get ! refl) (no_more !)))) refl (tt, (tt, (record { fits = are.1.1.1.0.1 }, tt))) $
     exec ! C Λ En (after 1 fn.body) (at_ret En Post) $ sets ! (of_opd ! (get ! refl)) refl (tt, (tt, (record { fits = are.1.1.1.0.1 }, tt))) $
-    -- [the part; the places around it; the fields; the cell; the open borrow; ..]
+    -- [the part; the raw_cells around it; the fields; the cell; the open borrow; ..]
     move ! (2 ∷ 3 ∷ []) $ fjoin ! $ move ! (2 ∷ 0 ∷ []) $ fjoin ! $
     move ! (2 ∷ 3 ∷ 4 ∷ 1 ∷ 0 ∷ []) $ group ! 5 $
     use1 𝓛 (later (some (λ (δ : GName). raw (Elements 𝓛 Cr u8 more (named 0) κ q rb ro b at γ xs (roomy, fitting) left way δ))))

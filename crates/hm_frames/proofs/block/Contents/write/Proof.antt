@@ -1,4 +1,4 @@
--- `write` takes one place out as room, writes it, and puts it back. Assumes `Logic`.
+-- `write` takes one cell out as room, writes it, and puts it back. Assumes `Logic`.
 use Rattle.std.proofs.Common.{◌≡◌, ℕ, ◌+◌, ◌<◌, ◌≤◌, ◌^◌, List, [], ◌∷◌, ◌++◌, length, take, drop as drop_l, Some, refl, sym, ◌∙◌, arith, w8, w64}
 use Rattle.std.proofs.lemmas.List.{length-append, length-take, length-drop}
 use base.Fraction.{full_share}
@@ -62,37 +62,37 @@ write_spec 𝓤 𝓛 𝓜 𝓡 wired =
     let rb = a.0.ref_ptr.0 in let ro = a.0.ref_ptr.1 in let d = a.0.now in
     let base = a.1.0 in let index = a.1.1.0 in let byte = a.1.1.1.0 in
     let told : vss.1.0 ≡ start_val base.ptr ∷ [] = start_told base.ptr vss.1.0 are.1.0 in
-    let Asked : Type 0 = (base.ptr ≡ d.at) × (index < length d.places) in
+    let Asked : Type 0 = (base.ptr ≡ d.at) × (index < length d.raw_cells) in
     qed 𝓛 (((‵ (flft κ q) ⊛ ‵ ftrue) ⊛ ‵ (owns (types_at f.ended.signature.params z.0.0) a vss)) ∷ raw (fact 𝓤 Asked) ∷ []) ∵
     move ! (1 ∷ []) $ heard ! Asked (λ asked. split ! $ split ! $ move ! (2 ∷ []) $ fsplit ! $ move ! (1 ∷ []) $ drop ! $ fsplit3 ! $ drop ! $
     -- [what is observed; the borrow; the token; nothing]
-    let le : index + 1 ≤ length d.places = omega (arith, asked.1) in
-    let old = take 1 (drop_l index d.places) in
-    let one : length old ≡ 1 = omega (arith, le, length-take 1 (drop_l index d.places), length-drop index d.places) in
-    let new : Cr.Denot = with_contents d (take index d.places ++ (Some byte ∷ drop_l (index + 1) d.places)) in
-    let long : length new.places ≡ length d.places
-    = omega (arith, le, length-append (take index d.places) (Some byte ∷ drop_l (index + 1) d.places), length-take index d.places, length-drop (index + 1) d.places) in
+    let le : index + 1 ≤ length d.raw_cells = omega (arith, asked.1) in
+    let old = take 1 (drop_l index d.raw_cells) in
+    let one : length old ≡ 1 = omega (arith, le, length-take 1 (drop_l index d.raw_cells), length-drop index d.raw_cells) in
+    let new : Cr.Denot = with_contents d (take index d.raw_cells ++ (Some byte ∷ drop_l (index + 1) d.raw_cells)) in
+    let long : length new.raw_cells ≡ length d.raw_cells
+    = omega (arith, le, length-append (take index d.raw_cells) (Some byte ∷ drop_l (index + 1) d.raw_cells), length-take index d.raw_cells, length-drop (index + 1) d.raw_cells) in
     let good : Good (ty_int w8) (vint w8 byte) = (tt, record { fits = are.1.1.1.0.1 }) in
     regoal ! (λ (us : List Val). prop (WpFn 𝓤 H C Λ fn us Post)) (λ i. are.0.0 i ++ (told i ++ (are.1.1.0.0 i ++ (are.1.1.1.0.0 i ++ [])))) refl $
     enter ! C Λ fn (vptr rb ro ∷ start_val base.ptr ∷ vint w64 index ∷ vint w8 byte ∷ []) Post $
     alloc_all ! (λ l. pass_all ! refl ((tt, tt), (start_typed base.ptr, ((tt, record { fits = are.1.1.0.1 }), (good, tt)))) $
     let En : Env 𝓤 H = env fn.locals l in
     opens ! tt Cr {h = d} rb ro (λ vs. move ! (1 ∷ []) $ fsplit ! $ move ! (1 ∷ []) $
-    in_a_block ! d.at (λ p. contents_own p d.places) (id⊢ 𝓤 (never 𝓤)) (λ b o e. fsplit ! $ flt_l ! (λ small.
+    in_a_block ! d.at (λ p. contents_own p d.raw_cells) (id⊢ 𝓤 (never 𝓤)) (λ b o e. fsplit ! $ flt_l ! (λ small.
     let at = index + o in
-    use1 𝓛 (‵ (row_own b at old) ⊛ ‵ (Around 𝓛 b o d.places index 1 le)) (part_out 𝓛 b o d.places index 1 le) $ split ! $
+    use1 𝓛 (‵ (row_own b at old) ⊛ ‵ (Around 𝓛 b o d.raw_cells index 1 le)) (part_out 𝓛 b o d.raw_cells index 1 le) $ split ! $
     use1 𝓛 (‵ (froom (bytes_type (length old)) b at)) (to_room 𝓛 old b at) $ rewrite ! 0 (λ (k : ℕ). ‵ (froom (bytes_type k) b at)) one refl $
     use1 𝓛 (‵ (froom (ty_int w8) b at) ⊛ ‵ (froom (bytes_type 0) b (at + 1))) (𝓛.laws.room_uncons (ty_int w8) 0 b at) $ split ! $ move ! (1 ∷ []) $ drop ! $
-    -- [the byte's room; the places around it; the fields; their cell; the open borrow; ..]
+    -- [the byte's room; the raw_cells around it; the fields; their cell; the open borrow; ..]
     take_at ! 2 $ rewrite ! 0 (λ (p : Ptr). ‵ (fat full_share (layout start.the_row) (l 2) 0 (start_val p))) (asked.0 ∙ e) refl $ give_at ! 2 $ first ! $ blocks ! $
     sets ! (bin ! (get_in ! (fld ! refl (stop !)) (sub ! 0 refl (whole !))) (get ! refl) tt) refl (tt, tt) $
     assigns_last ! (of_opd ! (get ! refl)) (through ! refl (stop !)) (init ! 0 refl good) $
     exec ! C Λ En (after 1 fn.body) (at_ret En Post) $ sets ! (of_opd ! (unit_lit !)) refl (tt, tt) $
     use1 𝓛 (‵ (part_at u8 full_share byte b at)) (uint_in 𝓛 full_share w8 byte b at) $ nothing ! $ move ! (1 ∷ 0 ∷ []) $ fjoin ! $
     use1 𝓛 (‵ (row_own b at (Some byte ∷ []))) (id⊢ 𝓤 _) $
-    use2 𝓛 (‵ (row_own b o new.places)) (part_in 𝓛 b o d.places index 1 le (Some byte ∷ []) refl) $
-    flt_i ! (length new.places) (2 ^ 63) (omega (arith, small, long)) $ fjoin ! $
-    rewrite ! 0 (λ (p : Ptr). ‵ (contents_own p new.places)) (sym e) refl $ move ! (1 ∷ 0 ∷ []) $ fjoin ! $ move ! (1 ∷ 0 ∷ []) $ closes ! tt Cr new vs rb ro $
+    use2 𝓛 (‵ (row_own b o new.raw_cells)) (part_in 𝓛 b o d.raw_cells index 1 le (Some byte ∷ []) refl) $
+    flt_i ! (length new.raw_cells) (2 ^ 63) (omega (arith, small, long)) $ fjoin ! $
+    rewrite ! 0 (λ (p : Ptr). ‵ (contents_own p new.raw_cells)) (sym e) refl $ move ! (1 ∷ 0 ∷ []) $ fjoin ! $ move ! (1 ∷ 0 ∷ []) $ closes ! tt Cr new vs rb ro $
     returns ! (look_at ! 0 refl) $ free_all ! refl $ keep ! (0 ∷ 1 ∷ 2 ∷ []) $ feq_i ! (List Val) (vunit ∷ []) (vunit ∷ []) refl $ move ! (1 ∷ 2 ∷ 3 ∷ 0 ∷ []) $
     -- [what is observed; the borrow; the token; the result]
     suffices ! _ (ends_at 𝓛 f.ended stays c z vunit tt (new, (tt, (tt, (tt, tt)))) (tt, (tt, (tt, (tt, tt))))) $ says ! (refl, refl) $

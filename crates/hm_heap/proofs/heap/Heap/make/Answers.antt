@@ -23,6 +23,6 @@ returns-clause-goes_on g c = record {
 pub returns-clause-reach : goal.returns-clause-reach
 returns-clause-reach g c =
     called_reaches _ c.self.inside.config c.args.index (call_of c.args.part.request) c.enter_at.result c.index_mut.result.now.knows c.enter_at.new.turn.knows c.self.invariant.valid.arenas_most
-    (region_there c.self.inside.config c.self.inside.number c.self.inside.locks.items c.pass.inside.turns.items c.args.index c.index_mut.result.now c.self.invariant (grind arith)
+    (region_there c.self.inside.config c.self.inside.seed c.self.inside.locks.items c.pass.inside.turns.items c.args.index c.index_mut.result.now c.self.invariant (grind arith)
     (subst (λ z. AreOf c.self.inside.locks.items z) (grind arith) (subst (λ z. AreOf z c.args.pass.now.turns) (grind arith) c.requires.of)) c.index_mut.ensures.value)
     c.enter_at.ensures.made.called

@@ -3,7 +3,7 @@ use Rattle.std.specs.Ordering.{nat_cmp}
 use Rattle.std.specs.BTreeMap as tree
 use Rattle.hm_region_table.specs.Table.{Table}
 use Rattle.hm_large.specs.BlockTable.{Updates}
-use Rattle.hm_large.proofs.Tables.{tree_test}
+use Rattle.hm_large_rules.proofs.SizeMaps.{tree_test}
 use Rattle.hm_large.proofs.BlockTables.{inserted, live_changed, live_of}
 use Rattle.hm_large.proofs.block_table.BlockTable.insert.Goals as goal
 

@@ -26,8 +26,8 @@ put_back-requires-clause-apart c = (let g = extent_goes c.args.self.now c.args.a
     subst (λ (n : ℕ). MeetsNoFree c.args.self.now.space (c.args.addr - 4096 * c.in-Some.extent.guard) n) (sym c.span.ensures) g.apart)
 
 pub returns-in-Some : goal.returns-in-Some
-returns-in-Some c = λ config s x sound shows there. let_go_some config s c.args.self.now _ c.args.addr x c.in-Some.extent c.deref.result.now sound shows there c.deref.ensures.value c.in-Some.ensures c.remove_held.ensures
+returns-in-Some c = λ config s x sound shows there. let_go_some config s c.args.self.now _ c.args.addr x c.in-Some.extent c.deref.result.now sound shows there c.deref.ensures.value c.in-Some.ensures c.remove_quarantined.ensures
     (subst (λ (n : ℕ). GivesRange c.args.self.now.space c.put_back.new.self (c.args.addr - 4096 * c.in-Some.extent.guard) n) c.span.ensures c.put_back.ensures.given) c.put_back.ensures.out refl refl
 
 pub returns-in_default : goal.returns-in_default
-returns-in_default c = λ config s x sound shows there. absurd (let_go_none config s c.args.self.now c.args.addr x c.deref.result.now c.held_at.result shows there c.deref.ensures.value c.held_at.ensures c.in_default.not-Some)
+returns-in_default c = λ config s x sound shows there. absurd (let_go_none config s c.args.self.now c.args.addr x c.deref.result.now c.quarantined_at.result shows there c.deref.ensures.value c.quarantined_at.ensures c.in_default.not-Some)

@@ -1,6 +1,6 @@
 use Rattle.std.proofs.Common.{◌≡◌, ℕ, Some, subst}
 use Rattle.std.specs.Prelude.{IsTrue, ◌↔◌}
-use Rattle.hm_large.specs.Blocks.{first_trap}
+use Rattle.hm_large_rules.specs.Bytes.{first_trap}
 use Rattle.hm_large_book.proofs.Plain.{fill_trapped_is, in_state}
 use Rattle.hm_large_book.proofs.book.LargeBook.fill_trapped.Goals as goal
 

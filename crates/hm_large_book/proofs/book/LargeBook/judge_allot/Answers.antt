@@ -13,7 +13,7 @@ pub returns-in-NoSpace : goal.returns-in-NoSpace
 returns-in-NoSpace c = subst (λ (r : Reply). Judges c.args.self.now c.args.entry.now (call.Allot c.args.asked c.args.align) r c.no_space.new.self c.no_space.result) (sym c.in-NoSpace.is) c.no_space.ensures
 
 pub returns-in-PagesFailed : goal.returns-in-PagesFailed
-returns-in-PagesFailed c = subst (λ (r : Reply). Judges c.args.self.now c.args.entry.now (call.Allot c.args.asked c.args.align) r c.allot_failed.new.self c.allot_failed.result) (sym c.in-PagesFailed.is) c.allot_failed.ensures
+returns-in-PagesFailed c = subst (λ (r : Reply). Judges c.args.self.now c.args.entry.now (call.Allot c.args.asked c.args.align) r c.allot_fault.new.self c.allot_fault.result) (sym c.in-PagesFailed.is) c.allot_fault.ensures
 
 pub returns-in_default : goal.returns-in_default
 returns-in_default c = allot_refused c.args.self.now c.args.entry.now c.args.entry.now.reply c.args.asked c.args.align c.in_default.not-Given c.in_default.not-NoSpace c.in_default.not-PagesFailed

@@ -13,7 +13,7 @@ pub returns-in-WrongSize : goal.returns-in-WrongSize
 returns-in-WrongSize c = subst (λ (r : Reply). Judges c.args.self.now c.args.entry.now (call.GiveBack c.args.addr c.args.stated) r c.args.self.now c.freed_wrong.result) (sym c.in-WrongSize.is) c.freed_wrong.ensures
 
 pub returns-in-PagesFailed : goal.returns-in-PagesFailed
-returns-in-PagesFailed c = subst (λ (r : Reply). Judges c.args.self.now c.args.entry.now (call.GiveBack c.args.addr c.args.stated) r c.free_failed.new.self c.free_failed.result) (sym c.in-PagesFailed.is) c.free_failed.ensures
+returns-in-PagesFailed c = subst (λ (r : Reply). Judges c.args.self.now c.args.entry.now (call.GiveBack c.args.addr c.args.stated) r c.free_fault.new.self c.free_fault.result) (sym c.in-PagesFailed.is) c.free_fault.ensures
 
 pub returns-in-Freed : goal.returns-in-Freed
 returns-in-Freed c = subst (λ (r : Reply). IfOk c.freed.result (Judges c.args.self.now c.args.entry.now (call.GiveBack c.args.addr c.args.stated) r c.freed.new.self)) (sym c.in-Freed.is) c.freed.ensures

@@ -1,11 +1,17 @@
-use Rattle.std.proofs.Common.{◌-◌, ◌+◌, ◌≤◌, length, sym, subst, arith}
-use Rattle.hm_outside.proofs.Places.{can_is}
-use Rattle.hm_outside.proofs.Tables.{ranged, range_found, filled_in, lent_some, lent_is}
+use Rattle.std.proofs.Common.{◌-◌, ◌+◌, ◌≤◌, ◌∙◌, ℕ, Option, length, sym, ap, subst, arith}
+use Rattle.std.proofs.lemmas.Option.{slice_get-map}
+use Rattle.std.specs.Option.{option_map}
+use Rattle.std.specs.Map.{values_of}
+use Rattle.std.specs.FinMap as map
+use Rattle.hm_outside.specs.OwnParts.{OwnParts}
+use Rattle.hm_outside.proofs.Indices.{can_is, here_told}
+use Rattle.hm_outside.proofs.Tables.{ranged, range_found, filled_in, own_in, own_set_in, lent_some, lent_is}
+use Rattle.hm_outside.proofs.OwnEdits.{runs_is, own_is}
 use Rattle.hm_outside.proofs.run_map.RunMap.fill.Goals as goal
 
 pub unwrap-requires : goal.unwrap-requires
 unwrap-requires g c =
-    (can_is g.R.HasPageRun.entry c.self.inside.runs.entries c.args.self.now c.args.addr c.args.len c.run_of.result c.self.view_is c.self.invariant c.run_of.ensures.run c.run_of.ensures.nowhere).1 c.requires
+    (can_is g.R.HasPageRun.entry c.self.inside.runs.entries c.args.self.now.runs c.args.addr c.args.len c.run_of.result (runs_is c.self.view_is) c.self.invariant c.run_of.ensures.run c.run_of.ensures.nowhere).1 c.requires
 
 pub unwrap-run-requires : goal.unwrap-run-requires
 unwrap-run-requires g c =
@@ -38,16 +44,43 @@ invariant_of-self g c =
     let first = c.first-first.result in
     let h = ranged entry runs c.args.addr c.args.len c.run_of.result c.unwrap.result c.unwrap.ensures c.run_of.ensures.run in
     let is = lent_is entry runs first c.get_mut.result c.unwrap-run.result x (range_found entry runs c.args.addr c.args.len first x c.self.invariant h c.first-first.ensures) c.get_mut.ensures.value c.unwrap-run.ensures in
-    (filled_in entry runs _ c.args.self.now c.args.addr c.args.len first c.args.byte x c.unwrap-run.result.now c.fill.new.self c.self.invariant c.self.view_is c.requires h is c.first-first.ensures c.fill.ensures.first c.fill.ensures.bytes
+    (filled_in entry runs _ c.args.self.now.runs c.args.addr c.args.len first c.args.byte x c.unwrap-run.result.now c.fill.new.self c.self.invariant (runs_is c.self.view_is) c.requires h is c.first-first.ensures c.fill.ensures.first c.fill.ensures.bytes
     (c.get_mut.follows.holds c.fill.new.self).0).0
 
-pub returns : goal.returns
-returns g c =
+pub returns-clause-filled : goal.returns-clause-filled
+returns-clause-filled g c =
     let entry = g.R.HasPageRun.entry in
     let runs = c.self.inside.runs.entries in
     let x = c.unwrap.result.now in
     let first = c.first-first.result in
     let h = ranged entry runs c.args.addr c.args.len c.run_of.result c.unwrap.result c.unwrap.ensures c.run_of.ensures.run in
     let is = lent_is entry runs first c.get_mut.result c.unwrap-run.result x (range_found entry runs c.args.addr c.args.len first x c.self.invariant h c.first-first.ensures) c.get_mut.ensures.value c.unwrap-run.ensures in
-    (filled_in entry runs _ c.args.self.now c.args.addr c.args.len first c.args.byte x c.unwrap-run.result.now c.fill.new.self c.self.invariant c.self.view_is c.requires h is c.first-first.ensures c.fill.ensures.first c.fill.ensures.bytes
+    (filled_in entry runs _ c.args.self.now.runs c.args.addr c.args.len first c.args.byte x c.unwrap-run.result.now c.fill.new.self c.self.invariant (runs_is c.self.view_is) c.requires h is c.first-first.ensures c.fill.ensures.first c.fill.ensures.bytes
     (c.get_mut.follows.holds c.fill.new.self).0).1
+
+pub returns-clause-own : goal.returns-clause-own
+returns-clause-own g c =
+    let entry = g.R.HasPageRun.entry in
+    let own = g.R.HasPageRun.own in
+    let filled = g.R.HasPageRun.own_filled in
+    let runs = c.self.inside.runs.entries in
+    let kept = c.args.self.now in
+    let x = c.unwrap.result.now in
+    let first = c.first-first.result in
+    let w = c.fill.new.self in
+    let h = ranged entry runs c.args.addr c.args.len c.run_of.result c.unwrap.result c.unwrap.ensures c.run_of.ensures.run in
+    let is = lent_is entry runs first c.get_mut.result c.unwrap-run.result x (range_found entry runs c.args.addr c.args.len first x c.self.invariant h c.first-first.ensures) c.get_mut.ensures.value c.unwrap-run.ensures in
+    let same_first = c.fill.ensures.first ∙ ap (λ (r : g.row.R.Denot). (entry r).0) is in
+    record {
+      first = (entry x).0;
+      bytes = (entry x).1;
+      is_run = here_told entry (values_of runs) kept.runs h.index (entry x) c.self.invariant.ordered (runs_is c.self.view_is) (slice_get-map entry (values_of runs) h.index ∙ ap (λ (o : Option g.row.R.Denot). option_map entry o) h.here);
+      lies = h.lies;
+      before = own x;
+      had = ap (λ (m : OwnParts). map.get m (entry x).0) (sym (own_is c.self.view_is)) ∙ own_in entry own runs h.index x c.self.invariant h.here;
+      after = own w;
+      is_filled = subst (λ (p : g.row.R.Denot × ℕ). filled (own p.0) (c.args.addr - p.1) c.args.len (own w)) (λ i. (is i, c.first-first.ensures i)) c.fill.ensures.own;
+      value = own_set_in entry own runs _ h.index first x w c.self.invariant h.here (sym c.first-first.ensures) same_first (c.get_mut.follows.holds w).0
+          ∙ ap (λ (m : OwnParts). map.insert m first (own w)) (own_is c.self.view_is)
+          ∙ ap (λ (n : ℕ). map.insert kept.own n (own w)) c.first-first.ensures;
+    }

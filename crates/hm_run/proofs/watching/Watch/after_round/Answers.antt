@@ -1,9 +1,8 @@
 use Rattle.std.proofs.Common.{ℕ, [], ◌∷◌, ◌++◌, length, length-append, ◌∙◌, ap, arith}
 use Rattle.hm_heap.specs.Calls.{large_index}
 use Rattle.hm_heap.specs.Passes.{PassView}
-use Rattle.hm_snapshot.specs.Known.{Published}
 use Rattle.hm_run.specs.Watches.{large_seen}
-use Rattle.hm_run.proofs.Tracking.{all_ok, follows_on, has_looked, looked_more, own_sum, seen_before}
+use Rattle.hm_run.proofs.Tracking.{all_ok, each_ok, follows_on, has_looked, looked_more, own_sum, seen_before}
 use Rattle.hm_run.proofs.watching.Watch.after_round.Goals as goal
 
 pub large_changes-requires-clause-from : goal.large_changes-requires-clause-from
@@ -20,7 +19,7 @@ returns-in_err-changes-clause-looked g c =
     has_looked c.args.heap.now.config c.args.root.now c.large_changes.new.pass c.args.self.now.upto _ e.same e.looked
 
 pub count-requires : goal.count-requires
-count-requires g c = record { none = ap (λ (p : Published). p.waiting) c.requires.front.follows.published }
+count-requires g c = record { none = c.requires.front.follows.none_waits }
 
 pub returns-clause-looked : goal.returns-clause-looked
 returns-clause-looked g c =
@@ -35,9 +34,9 @@ returns-clause-follows g c =
     let front = c.requires.front in
     let changes = c.in_ok-changes.changes in
     let more = looked_more p q (large_index config) c.args.self.now.upto changes front.front c.in_ok-changes.ensures.looked front.begins front.follows.upto in
-    all_ok c.count.result
-    (λ writer own upto. follows_on c.args.self.now c.count.new.self front.front (large_seen config q) changes.list.items front.follows more.1 writer own (upto ∙ more.0))
-    c.count.ensures.writer c.count.ensures.own c.count.ensures.upto
+    each_ok c.count.result
+    (λ list waiting own upto. follows_on c.args.self.now c.count.new.self front.front (large_seen config q) changes.list.items front.follows more.1 list waiting own (upto ∙ more.0))
+    c.count.ensures.list c.count.ensures.waiting c.count.ensures.own c.count.ensures.upto
 
 pub returns-clause-totals : goal.returns-clause-totals
 returns-clause-totals g c =

@@ -18,11 +18,11 @@ returns-in_err-slot-clause-none c =
 
 pub returns-then-slot-self-clause-found : goal.returns-then-slot-self-clause-found
 returns-then-slot-self-clause-found c =
-    let long = sym (ap (λ (s : SlabUse). length s.slots) c.self.view_is) ∙ length-uses_of c.self.inside.live c.self.inside.held c.self.inside.condemned c.self.inside.given c.self.inside.slots in
+    let long = sym (ap (λ (s : SlabUse). length s.slots) c.self.view_is) ∙ length-uses_of c.self.inside.live c.self.inside.quarantined c.self.inside.condemned c.self.inside.given c.self.inside.slots in
     first_free c.args.taken.now c.args.self.now.slots c.args.from c.in_ok-slot.slot c.requires.taken (omega (arith, long, c.if-slot-self.true)) c.in_ok-slot.ensures.found
 
 pub returns-else-slot-self-clause-none : goal.returns-else-slot-self-clause-none
 returns-else-slot-self-clause-none c =
-    let long = sym (ap (λ (s : SlabUse). length s.slots) c.self.view_is) ∙ length-uses_of c.self.inside.live c.self.inside.held c.self.inside.condemned c.self.inside.given c.self.inside.slots in
+    let long = sym (ap (λ (s : SlabUse). length s.slots) c.self.view_is) ∙ length-uses_of c.self.inside.live c.self.inside.quarantined c.self.inside.condemned c.self.inside.given c.self.inside.slots in
     all_taken c.args.taken.now c.args.self.now.slots c.args.from (length c.args.self.now.slots) c.requires.taken c.requires.few
     (λ i le lt. c.in_ok-slot.ensures.found.before i le (omega (arith, lt, long, c.if-slot-self.false)))

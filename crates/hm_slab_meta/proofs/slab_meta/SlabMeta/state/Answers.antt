@@ -7,25 +7,25 @@ use Rattle.hm_slab_meta.proofs.Slots.{slice_get-uses_of}
 use Rattle.hm_slab_meta.proofs.slab_meta.SlabMeta.state.Goals as goal
 
 pub contains-requires : goal.contains-requires
-contains-requires c = let there = slice_get-uses_of c.self.inside.live c.self.inside.held c.self.inside.condemned c.self.inside.given c.self.inside.slots c.self.inside.canary c.args.slot c.args.self.now c.self.view_is c.requires in omega (arith, there.0, c.self.invariant.few)
+contains-requires c = let there = slice_get-uses_of c.self.inside.live c.self.inside.quarantined c.self.inside.condemned c.self.inside.given c.self.inside.slots c.self.inside.canary c.args.slot c.args.self.now c.self.view_is c.requires in omega (arith, there.0, c.self.invariant.few)
 
 pub contains-requires-else-contains : goal.contains-requires-else-contains
-contains-requires-else-contains c = let there = slice_get-uses_of c.self.inside.live c.self.inside.held c.self.inside.condemned c.self.inside.given c.self.inside.slots c.self.inside.canary c.args.slot c.args.self.now c.self.view_is c.requires in omega (arith, there.0, c.self.invariant.few)
+contains-requires-else-contains c = let there = slice_get-uses_of c.self.inside.live c.self.inside.quarantined c.self.inside.condemned c.self.inside.given c.self.inside.slots c.self.inside.canary c.args.slot c.args.self.now c.self.view_is c.requires in omega (arith, there.0, c.self.invariant.few)
 
 pub contains-requires-else-contains-2 : goal.contains-requires-else-contains-2
-contains-requires-else-contains-2 c = let there = slice_get-uses_of c.self.inside.live c.self.inside.held c.self.inside.condemned c.self.inside.given c.self.inside.slots c.self.inside.canary c.args.slot c.args.self.now c.self.view_is c.requires in omega (arith, there.0, c.self.invariant.few)
+contains-requires-else-contains-2 c = let there = slice_get-uses_of c.self.inside.live c.self.inside.quarantined c.self.inside.condemned c.self.inside.given c.self.inside.slots c.self.inside.canary c.args.slot c.args.self.now c.self.view_is c.requires in omega (arith, there.0, c.self.invariant.few)
 
 pub contains-requires-else-contains-3 : goal.contains-requires-else-contains-3
-contains-requires-else-contains-3 c = let there = slice_get-uses_of c.self.inside.live c.self.inside.held c.self.inside.condemned c.self.inside.given c.self.inside.slots c.self.inside.canary c.args.slot c.args.self.now c.self.view_is c.requires in omega (arith, there.0, c.self.invariant.few)
+contains-requires-else-contains-3 c = let there = slice_get-uses_of c.self.inside.live c.self.inside.quarantined c.self.inside.condemned c.self.inside.given c.self.inside.slots c.self.inside.canary c.args.slot c.args.self.now c.self.view_is c.requires in omega (arith, there.0, c.self.invariant.few)
 
 live_state : (l h c g : Bool) → true ≡ l → state_of (use_of l h c g) ≡ state.Live
 live_state true h c g e = refl
 live_state false h c g e = cc
 
-held_state : (l h c g : Bool) → false ≡ l → true ≡ h → state_of (use_of l h c g) ≡ state.Held
-held_state true h c g e f = cc
-held_state false true c g e f = refl
-held_state false false c g e f = cc
+quarantined_state : (l h c g : Bool) → false ≡ l → true ≡ h → state_of (use_of l h c g) ≡ state.Quarantined
+quarantined_state true h c g e f = cc
+quarantined_state false true c g e f = refl
+quarantined_state false false c g e f = cc
 
 condemned_state : (l h c g : Bool) → false ≡ l → false ≡ h → true ≡ c → state_of (use_of l h c g) ≡ state.Condemned
 condemned_state true h c g e f k = cc
@@ -49,25 +49,25 @@ never_state false false false false e f k m = refl
 
 pub returns-then-contains : goal.returns-then-contains
 returns-then-contains c =
-    let there = slice_get-uses_of c.self.inside.live c.self.inside.held c.self.inside.condemned c.self.inside.given c.self.inside.slots c.self.inside.canary c.args.slot c.args.self.now c.self.view_is c.requires in
+    let there = slice_get-uses_of c.self.inside.live c.self.inside.quarantined c.self.inside.condemned c.self.inside.given c.self.inside.slots c.self.inside.canary c.args.slot c.args.self.now c.self.view_is c.requires in
     ap (option_map state_of) there.1 ∙ ap (λ s. Some s) (live_state _ _ _ _ c.if-contains.ensures)
 
 pub returns-then-contains-2 : goal.returns-then-contains-2
 returns-then-contains-2 c =
-    let there = slice_get-uses_of c.self.inside.live c.self.inside.held c.self.inside.condemned c.self.inside.given c.self.inside.slots c.self.inside.canary c.args.slot c.args.self.now c.self.view_is c.requires in
-    ap (option_map state_of) there.1 ∙ ap (λ s. Some s) (held_state _ _ _ _ c.if-contains.ensures c.if-contains-2.ensures)
+    let there = slice_get-uses_of c.self.inside.live c.self.inside.quarantined c.self.inside.condemned c.self.inside.given c.self.inside.slots c.self.inside.canary c.args.slot c.args.self.now c.self.view_is c.requires in
+    ap (option_map state_of) there.1 ∙ ap (λ s. Some s) (quarantined_state _ _ _ _ c.if-contains.ensures c.if-contains-2.ensures)
 
 pub returns-then-contains-3 : goal.returns-then-contains-3
 returns-then-contains-3 c =
-    let there = slice_get-uses_of c.self.inside.live c.self.inside.held c.self.inside.condemned c.self.inside.given c.self.inside.slots c.self.inside.canary c.args.slot c.args.self.now c.self.view_is c.requires in
+    let there = slice_get-uses_of c.self.inside.live c.self.inside.quarantined c.self.inside.condemned c.self.inside.given c.self.inside.slots c.self.inside.canary c.args.slot c.args.self.now c.self.view_is c.requires in
     ap (option_map state_of) there.1 ∙ ap (λ s. Some s) (condemned_state _ _ _ _ c.if-contains.ensures c.if-contains-2.ensures c.if-contains-3.ensures)
 
 pub returns-then-contains-4 : goal.returns-then-contains-4
 returns-then-contains-4 c =
-    let there = slice_get-uses_of c.self.inside.live c.self.inside.held c.self.inside.condemned c.self.inside.given c.self.inside.slots c.self.inside.canary c.args.slot c.args.self.now c.self.view_is c.requires in
+    let there = slice_get-uses_of c.self.inside.live c.self.inside.quarantined c.self.inside.condemned c.self.inside.given c.self.inside.slots c.self.inside.canary c.args.slot c.args.self.now c.self.view_is c.requires in
     ap (option_map state_of) there.1 ∙ ap (λ s. Some s) (free_state _ _ _ _ c.if-contains.ensures c.if-contains-2.ensures c.if-contains-3.ensures c.if-contains-4.ensures)
 
 pub returns-else-contains-4 : goal.returns-else-contains-4
 returns-else-contains-4 c =
-    let there = slice_get-uses_of c.self.inside.live c.self.inside.held c.self.inside.condemned c.self.inside.given c.self.inside.slots c.self.inside.canary c.args.slot c.args.self.now c.self.view_is c.requires in
+    let there = slice_get-uses_of c.self.inside.live c.self.inside.quarantined c.self.inside.condemned c.self.inside.given c.self.inside.slots c.self.inside.canary c.args.slot c.args.self.now c.self.view_is c.requires in
     ap (option_map state_of) there.1 ∙ ap (λ s. Some s) (never_state _ _ _ _ c.if-contains.ensures c.if-contains-2.ensures c.if-contains-3.ensures c.if-contains-4.ensures)

@@ -3,7 +3,7 @@ use Rattle.std.specs.Prelude.{Option, IsSomeAnd}
 use Rattle.hm_space.specs.declared.free_range.FreeRange.{FreeRange}
 use Rattle.hm_space.specs.Ranges.{begun, LiesIn, IsWithin, IsInSome, AreApart}
 use Rattle.hm_space.specs.Space.{FreeSpace}
-use Rattle.hm_space.proofs.Places.{found}
+use Rattle.hm_space.proofs.Indices.{found}
 use Rattle.hm_space.proofs.space.Space.take.Goals as goal
 
 -- the range that is taken lies in the last one that begins at its address or below
@@ -16,10 +16,10 @@ holder rs read space now at len n apart some same view is free count =
       subst (λ (o : Option FreeRange). IsSomeAnd o (λ r. LiesIn r at len)) (sym (ap (λ (k : ℕ). slice_get rs (k - 1)) e ∙ f.here)) f.holds,
     )
 
-pub overflow_sub-place : goal.overflow_sub-place
-overflow_sub-place c =
-    (holder c.self.inside.ranges.items c.deref.result.now _ c.args.self.now c.args.at c.args.len c.count_begun-place.result c.self.invariant.0 c.requires.some c.deref.ensures.value c.self.view_is refl c.requires.free c.count_begun-place.ensures).0
+pub overflow_sub-index : goal.overflow_sub-index
+overflow_sub-index c =
+    (holder c.self.inside.ranges.items c.deref.result.now _ c.args.self.now c.args.at c.args.len c.count_begun-index.result c.self.invariant.0 c.requires.some c.deref.ensures.value c.self.view_is refl c.requires.free c.count_begun-index.ensures).0
 
 pub cut-requires-clause-here : goal.cut-requires-clause-here
 cut-requires-clause-here c =
-    (holder c.self.inside.ranges.items c.deref.result.now _ c.args.self.now c.args.at c.args.len c.count_begun-place.result c.self.invariant.0 c.requires.some c.deref.ensures.value c.self.view_is refl c.requires.free c.count_begun-place.ensures).1
+    (holder c.self.inside.ranges.items c.deref.result.now _ c.args.self.now c.args.at c.args.len c.count_begun-index.result c.self.invariant.0 c.requires.some c.deref.ensures.value c.self.view_is refl c.requires.free c.count_begun-index.ensures).1

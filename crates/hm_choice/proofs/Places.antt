@@ -1,9 +1,0 @@
--- The places of a stream.
-use Rattle.std.proofs.Common.{◌≡◌, ℕ, ◌+◌, ◌-◌, ◌%◌, ◌^◌, ◌<◌, ap, arith}
-use Rattle.hm_choice.specs.Stream.{ComesAgain}
-
-place_again : (p : ℕ) → p < 2 ^ 68 → ((p + 1) % 2 ^ 68 + (2 ^ 68 - 1)) % 2 ^ 68 ≡ p
-place_again p lt = omega arith
-
-pub comes_again : ComesAgain
-comes_again s lt = ap (λ (p : ℕ). record s { place = p }) (place_again s.place lt)

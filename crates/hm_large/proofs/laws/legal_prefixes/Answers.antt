@@ -1,5 +1,0 @@
-use Rattle.hm_large.proofs.Legal.{prefixes, one_more, one_less}
-use Rattle.hm_large.proofs.laws.legal_prefixes.Goals as goal
-
-pub returns : goal.returns
-returns c = record { prefixes = prefixes; one_more = one_more; one_less = one_less }

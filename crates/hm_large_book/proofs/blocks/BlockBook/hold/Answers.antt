@@ -1,9 +1,0 @@
-use Rattle.std.proofs.Common.{◌∷◌, ◌∙◌, ap, refl}
-use Rattle.hm_large_book.specs.declared.blocks.Extent.{Extent}
-use Rattle.hm_large_book.proofs.Changing.{shows_held}
-use Rattle.hm_large_book.proofs.blocks.BlockBook.hold.Goals as goal
-
-pub returns : goal.returns
-returns c = λ config s x word sound shows there reach small.
-    shows_held config s c.args.self.now c.args.addr x sound shows there _ word small c.remove_live.ensures
-    (c.in_ok-insert.ensures.items ∙ ap (λ (r : Extent). (c.args.addr, r) ∷ c.args.self.now.held.items) reach) c.in_ok-note.ensures refl

@@ -1,0 +1,12 @@
+use Rattle.std.proofs.Common.{refl}
+use Rattle.hm_model.specs.declared.entry.Reply.TheVariants.{PagesFailed}
+use Rattle.hm_large_book.proofs.Allotting.{not_legal, allot_judged, fault_allows, fault_refuses}
+use Rattle.hm_large_book.proofs.book.LargeBook.allot_fault.Goals as goal
+
+pub returns-then-not-allowed : goal.returns-then-not-allowed
+returns-then-not-allowed c = not_legal c.args.self.now c.args.entry.now c.args.asked c.args.align PagesFailed c.args.self.now refl refl
+    (fault_refuses c.args.self.now c.args.entry.now c.args.asked c.args.align c.unwrap_or-guard.result c.size_of_block-size.result c.least_address-least.result c.unwrap_or-guard.ensures c.size_of_block-size.ensures.value c.least_address-least.ensures c.chose-chosen.result c.chose-chosen.ensures c.is_some-some.result c.rose-rose.result c.is_some-some.ensures c.rose-rose.ensures c.if-not-allowed.true)
+
+pub returns : goal.returns
+returns c = allot_judged c.args.self.now c.args.entry.now c.args.asked c.args.align PagesFailed c.args.self.now.blocks c.guarded.new.words c.size_of_block-size.result c.guarded.result c.size_of_block-size.ensures.value c.guarded.ensures.taken
+    (fault_allows c.args.self.now c.args.entry.now c.args.asked c.args.align c.unwrap_or-guard.result c.size_of_block-size.result c.least_address-least.result c.unwrap_or-guard.ensures c.size_of_block-size.ensures.value c.least_address-least.ensures c.chose-chosen.result c.chose-chosen.ensures c.is_some-some.result c.rose-rose.result c.is_some-some.ensures c.rose-rose.ensures c.if-not-allowed.false) (λ s st. st.shows.blocks) (λ s. (refl, refl)) c.guarded.ensures.judged

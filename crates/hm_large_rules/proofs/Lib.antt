@@ -1,0 +1,9 @@
+pub mod BlockLists
+pub mod Legal
+pub mod Candidates
+pub mod Delay
+pub mod Zeroed
+pub mod SizeMaps
+pub mod LiveSizes
+pub mod SameRuns
+pub mod SameEntry

@@ -1,0 +1,9 @@
+pub mod State
+pub mod Bytes
+pub mod Steps
+pub mod Rules
+pub mod Laws
+pub mod LiveSizes
+pub mod Draws
+pub mod Drawn
+pub mod OneEntry
