@@ -13,7 +13,7 @@ usage: ./hmreplay COMMAND [OPTION VALUE].. < FILE     the command first; each op
   run, journal      the report of the trace in FILE; every history of its run
   stats, watch      what the histories come to; the bytes of live large blocks after each round
   check             whether FILE is a journal of legal and drawn histories; it takes no option
-  stress NUMBER     one line of counts of a trace that the number, 0 to 18446744073709551615, makes; it reads no FILE
+  stress SEED       one line of counts of the stress trace of a seed, 0 to 18446744073709551615; it reads no FILE
   --config standard or light, --seed 0 to 18446744073709551615; a number is 1 to 20 digits
   --class-region, --large-space: multiples of 4096 from 1048576, to 34359738368 and to 1099511627776
 statuses: 0 no finding, 1 a finding or the verdict no, 2 words, 3 no trace, 4 and 5 input and output failed, 6 and 9 no

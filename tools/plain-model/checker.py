@@ -173,24 +173,24 @@ class History:
 
 
 class Delay:
-    """The frees so far, and which of them are still held back."""
+    """The frees so far, and which of them are still quarantined."""
 
     def __init__(self, array, ring):
         self.array, self.ring = array, ring
-        self.frees, self.last_at, self.held = [], {}, set()
+        self.frees, self.last_at, self.quarantined = [], {}, set()
         self.latest_in, self.left = {}, []
 
     def add(self, addr, released):
         """One more free, with what was released at it."""
         self.frees.append(addr)
         self.last_at[addr] = len(self.frees) - 1
-        self.held.add(addr)
+        self.quarantined.add(addr)
         if released is not None:
-            need(released in self.held, 'NotLegal')
+            need(released in self.quarantined, 'NotLegal')
             later = len(self.frees) - 1 - self.last_at[released]
             need(later >= self.ring + min(self.array, 1), 'NotLegal')
-            self.held.discard(released)
-        need(len(self.held) <= self.array + self.ring, 'NotLegal')
+            self.quarantined.discard(released)
+        need(len(self.quarantined) <= self.array + self.ring, 'NotLegal')
 
     def drawn(self, word):
         """What has to be released at the last free, by the word of its place."""
@@ -428,13 +428,13 @@ class LargeHistory(History):
         super().__init__(seed, LARGE_REGION)
         self.first = LARGE_SPACE_START
         self.end = self.first + config.large_space
-        self.live, self.held = {}, {}
+        self.live, self.quarantined = {}, {}
         self.delay = Delay(LARGE_ARRAY, LARGE_RING)
 
     def candidates_from(self, size, front, align):
         """The least address for a block with its guards, or None."""
         taken = sorted((addr - block[1], addr + block[0] + block[1])
-                       for blocks in (self.live, self.held) for addr, block in blocks.items())
+                       for blocks in (self.live, self.quarantined) for addr, block in blocks.items())
         addr = rounded_up(self.first + front, align)
         for low, high in taken:
             if addr - front < high and low < addr + size + front:
@@ -472,12 +472,12 @@ class LargeHistory(History):
         block = self.live.pop(addr)
         if size >= QUARANTINED_BELOW:
             return None
-        self.held[addr] = block
+        self.quarantined[addr] = block
         released = self.entry.released
         self.allowed_choices.add('released')
         self.delay.add(addr, released)
         if released is not None:
-            del self.held[released]
+            del self.quarantined[released]
         self.drawn_rule = (1, lambda: released == self.delay.drawn(self.words[0]))
         return None
 

@@ -28,6 +28,13 @@ static int thrown(int turn)
     return 0;
 }
 
+// Sizes that are no multiple of the alignment, for which the C++ library may ask for the next one.
+static void give_rounded(std::size_t size, std::align_val_t align)
+{
+    void *block = ::operator new(size, align);
+    ::operator delete(block, size, align);
+}
+
 static void give_objects()
 {
     for (int turn = 0; turn < 1000; turn++) {
@@ -36,7 +43,9 @@ static void give_objects()
         delete new std::string(100, 'a');
         std::vector<Line> lines(turn % 5);
         thrown(turn);
+        give_rounded(turn % 300, std::align_val_t(8 << turn % 10));
     }
+    give_rounded(200000, std::align_val_t(4096));
 }
 
 int main()

@@ -113,6 +113,14 @@ static int is_wrong_size(const struct block *block, const struct record *record)
 /* Who states the size of a sized free. */
 enum stated_by { NO_ONE, CXX, C };
 
+/* The size that C++ asked for where it states this one: at an alignment its library may ask for the next multiple. */
+static size_t asked_by_cxx(const struct block *block, size_t stated)
+{
+    size_t align = own.stated_align;
+    size_t multiple = align ? (stated + align - 1) / align * align : stated;
+    return block->size == multiple ? multiple : stated;
+}
+
 /* Frees a live block, and notes and ignores every other call: the C library would end the process. The size that C++
  * states counts for blocks that it gave, as a program may have operators of its own. */
 static void free_noted(void *address, struct record record, enum stated_by stated_by)
@@ -128,6 +136,8 @@ static void free_noted(void *address, struct record record, enum stated_by state
         look_at_tail(block);
     if (stated_by == CXX && block && !is_of_cxx(block->given.site))
         record.kind = FREE;
+    else if (stated_by == CXX && block)
+        record.first = asked_by_cxx(block, record.first);
     if (is_right ? is_wrong_size(block, &record) : address != NULL)
         note_fault(block, record);
     record = naming(block, record);
@@ -264,6 +274,7 @@ static void delete_sized(const char *name, void *address, size_t size, size_t al
     deletion *next = (deletion *)dlsym(RTLD_NEXT, name);
     own.deleted = address;
     own.stated = size ? size : 1; /* for 0 bytes C++ asks for one */
+    own.stated_align = alignment;
     if (next)
         next(address, size, alignment);
     else

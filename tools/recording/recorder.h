@@ -152,7 +152,8 @@ struct own {
     uint64_t mask_before;      /* the signals that were blocked before */
     int is_unwinding;
     void *deleted;             /* what a sized deletion is about to free */
-    size_t stated;             /* and the size that it states */
+    size_t stated;             /* and the size that it states, */
+    size_t stated_align;       /* with this alignment, 0 for none */
 };
 
 extern __thread struct own own;
