@@ -101,16 +101,6 @@ module _ (p : Shape) (s : State) (n : ℕ) where
   pub shut_free : is_open s n ≡ false → false ≡ has_free p s n
   shut_free off = shut_any (range_with_len 0 p.slots) off
 
-  shut_all : (k : ℕ) (xs : List ℕ) → is_open s n ≡ false → false ≡ list_all (is_free p s n) (k ∷ xs)
-  shut_all k xs off = sym (ap (λ (b : Bool). (b && not (is_taken s (place p n k))) && list_all (is_free p s n) xs) off)
-
-  pub shut_empty : IsShape p → is_open s n ≡ false → false ≡ is_empty p s n
-  shut_empty shape off = of p.slots shape.slots_some
-    where
-      of : (k : ℕ) → 1 ≤ k → false ≡ list_all (is_free p s n) (range_with_len 0 k)
-      of zero some = absurd (omega arith)
-      of (suc k) some = shut_all 0 (range_with_len (0 + 1) k) off
-
 -- ---- the first available place, by the marks
 module _ (p : Shape) (s : State) (n from : ℕ) (start : from < p.slots) where
   pub first_is : (marks : List Bool) (r : Option ℕ) → is_open s n ≡ true → p.slots ≤ length marks → ((i : ℕ) → i < p.slots → get_or marks i false ≡ is_taken s (place p n i))

@@ -144,7 +144,7 @@ impl Pages for FailingPages {
         self.plain.bytes_mut(addr, len)
     }
 
-    fn fill(&mut self, addr: u64, len: usize, byte: u8) {
+    fn fill(&mut self, addr: u64, len: usize, byte: u8) -> bool {
         self.plain.fill(addr, len, byte)
     }
 

@@ -36,9 +36,7 @@ fn write_at(pages: &mut PlainPages, addr: u64, bytes: &[u8])
 
 // Writes one byte over a range, if it can be written.
 fn fill_at(pages: &mut PlainPages, addr: u64, len: usize, byte: u8) {
-    if pages.holds(addr, len) {
-        pages.fill(addr, len, byte);
-    }
+    pages.fill(addr, len, byte);
 }
 
 // Whether the piece stands in memory and has these bytes.

@@ -88,7 +88,7 @@ impl Pages for PlainPages {
         self.runs.bytes_mut(addr, len)
     }
 
-    fn fill(&mut self, addr: u64, len: usize, byte: u8) {
+    fn fill(&mut self, addr: u64, len: usize, byte: u8) -> bool {
         self.runs.fill(addr, len, byte)
     }
 

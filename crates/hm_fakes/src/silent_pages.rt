@@ -95,8 +95,8 @@ impl Pages for SilentPages {
         self.runs.bytes_mut(addr, len)
     }
 
-    fn fill(&mut self, addr: u64, len: usize, byte: u8) {
-        self.runs.fill(addr, len, byte)
+    fn fill(&mut self, addr: u64, len: usize, byte: u8) -> bool {
+        addr == 0 && self.runs.fill(addr, len, byte)
     }
 
     fn faults(&self) -> u64 {

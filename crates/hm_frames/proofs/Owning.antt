@@ -61,8 +61,6 @@ lent_units new old from len end count ends own others =
     ∙ sym read)
 
 -- ---- a fill, unit by unit
-pub none_filled : (own : List Bool) (from : ℕ) → OwnFilled own from 0 own
-none_filled own from = record { count = refl; whole = λ unit low high. absurd (omega (arith, low, high)); beside = λ unit e. refl }
 
 -- so far, up to a cell that is where the range begins, or where a unit does, or where the range ends
 abbrev pub Stops : ℕ → ℕ → ℕ → Type 0

@@ -7,7 +7,7 @@ use hm_fakes::PlainMaker;
 use hm_heap::{Heap, Pass};
 use hm_model::{Answer, Entry, Reply};
 use hm_outside::{Gate, NoGate, Pages};
-use hm_replay::{Env, run_round, run_script, small_rounds};
+use hm_replay::{Env, Setting, run_round, run_script, small_rounds};
 use hm_report::{Results, StepResult, report};
 use hm_sizes::{CLASSES, Config};
 use hm_trace::{Round, Script, read_trace};
@@ -32,13 +32,14 @@ fn run_rounds<R: Threads + Wait + Sync, P: Pages, G: Gate>(
     ensures of { AreOf heap.now.locks root.new.turns }
     ensures root { (root.new.caller ≡ 0) × (root.new.out ≡ root.old.out) }
 {
+    let setting = Setting { rt, alloc, heap };
     let mut env = Env::build(alloc);
     let mut all = Vec::new(alloc);
     for (index, round) in rounds.iter().enumerate() {
         // Both are called for their contracts: these are the scripts of a round, so there are at most 64.
         let _ = round.scripts();
         small_rounds();
-        let mut results = run_round(rt, alloc, heap, root, index as u32 + 1, round, &mut env)?;
+        let mut results = run_round(&setting, root, index as u32 + 1, round, &mut env)?;
         all.append(&mut results)?;
     }
     Ok(all)
@@ -136,7 +137,8 @@ fn run_alone<R: Wait, P: Pages, G: Gate>(
     ensures root { (root.new.caller ≡ 0) × (root.new.splits ≤ root.old.splits + 1) }
 {
     let mut pass = heap.split(alloc, root, 1, script.thread())?;
-    let results = run_script(rt, alloc, heap, &mut pass, script, env);
+    let setting = Setting { rt, alloc, heap };
+    let results = run_script(&setting, &mut pass, script, env);
     heap.join(root, pass);
     results
 }

@@ -97,9 +97,6 @@ module _ (c : Config) (s : State) (k : BlockBook) (b : ℕ) (y : Block) (sound :
 
 -- ---- what may be released
 module _ (c : Config) (s : State) (k : BlockBook) (shows : ShowsBlocks c s k) where
-  pub quarantined_length : length k.quarantined.items ≡ length s.quarantined
-  quarantined_length = ap length shows.quarantined ∙ length_pairs extent_of s.quarantined
-
   pub quarantined_is : (b : ℕ) → at b k.quarantined.items ≡ option_map extent_of (at b s.quarantined)
   quarantined_is b = ap (at b) shows.quarantined ∙ at_pairs extent_of b s.quarantined
 
@@ -135,9 +132,6 @@ module _ (a : ℕ) (old live : List (ℕ × LiveBlock)) (same : length live ≡ 
   mark_next i item new lt is marks so_far =
       map-set block_in live i new ∙ ap (set (blocks_in live) i) marks
       ∙ map_over_more (mark a) (blocks_in old) (blocks_in live) i (block_in item) (omega (arith, lt, length_pairs block_of old)) so_far (ap block_in is ∙ sym (get_or-map block_in live i item))
-
-  pub mark_all : blocks_in live ≡ map (mark a) (take (length live) (blocks_in old)) ++ drop (length live) (blocks_in old) → blocks_in live ≡ marked a (blocks_in old)
-  mark_all so_far = so_far ∙ past_all (mark a) (blocks_in old) (length live) (same ∙ sym (length_pairs block_of old))
 
 -- a range is taken out of ranges for which there is more room
 pub more_taken : (old room new : FreeSpace) (at len : ℕ) → room.ranges ≡ old.ranges → TakesRange room new at len → TakesRange old new at len

@@ -61,9 +61,6 @@ module _ {X : Type 0} where
         | false ↦ λ h. any_next test l i d h (omega (arith, lt)) off
       ] none
 
-  pub any_passed : (test : ℕ × X → Bool) (l : List (ℕ × X)) (i : ℕ) (x : ℕ × X) → x ≡ get_or l i x → list_any test (take i l) ≡ false → i < length l → test x ≡ false → list_any test (take (i + 1) l) ≡ false
-  any_passed test l i x is none lt off = any_next test l i x none lt (ap test (sym is) ∙ off)
-
   pub none_any : (test : ℕ × X → Bool) (l : List (ℕ × X)) (n : ℕ) → list_any test (take n l) ≡ false → length l ≤ n → list_any test l ≡ false
   none_any test l n none le = ap (list_any test) (sym (take_whole l n le)) ∙ none
 

@@ -102,17 +102,6 @@ of_true : (P Q : Type 0) (t : Bool) → t ≡ true → MatchBool t P Q → P
 of_true P Q t is m = subst (λ (b : Bool). MatchBool b P Q) is m
 
 module _ (k : LargeBook) (e : Entry) (a : ℕ) (extent : Extent) (great : quarantined_below ≤ extent.size) where
-  -- it chose what it may not
-  pub great_not_legal : (new : LargeBook) → new.config ≡ k.config → new.seed ≡ k.seed → (e.choices.released ≡ None → ⊥) → JudgesFree k e a extent new NotLegal
-  great_not_legal new config seed some = record { judged = λ s x st there reach r. some (of_false _ _ _ (great_is extent x reach great) r); config_same = config; seed_same = seed }
-
-  pub great_not_drawn : (new : LargeBook) → new.config ≡ k.config → new.seed ≡ k.seed → e.choices.released ≡ None → (e.draws ≡ no_words → ⊥) → JudgesFree k e a extent new NotDrawn
-  great_not_drawn new config seed none other = record {
-    judged = λ s x st there reach. (at_false _ _ _ (great_is extent x reach great) none, λ d. other (of_false _ _ _ (great_is extent x reach great) d));
-    config_same = config;
-    seed_same = seed;
-  }
-
   pub great_taken : (b : BlockBook) → e.choices.released ≡ None → e.draws ≡ no_words
       → ((s : State) (x : Block) → Stands s k → at a s.live ≡ Some x → extent ≡ extent_of x → ShowsBlocks k.config (record s { live = removed a s.live }) b)
       → JudgesFree k e a extent (record k { blocks = b }) Taken

@@ -33,7 +33,7 @@ use Rattle.hm_run.specs.Replayed.{origin_at, IsReplayed, AreEnds}
 use Rattle.hm_run.specs.Words.{config_of}
 use Rattle.hm_run.proofs.Outcomes.{is_region}
 use Rattle.hm_laws.specs.Moves.{Copies, CopiesFirst, StopsBy, IsHalfMoved, IsCopied, MovesBytes, MovesKeep, HalvesKeep}
-use Rattle.hm_laws.specs.Replies.{is_given, is_freed}
+use Rattle.hm_stats.specs.Tallies.{is_given, is_freed}
 use Rattle.hm_laws.specs.Steps.{Added, AreOfStep, IsStepOf, Stands, calls_in}
 use Rattle.hm_laws.proofs.Adding.{IsDone, StepRan, step_ran}
 use Rattle.hm_laws.proofs.Copied.{bytes_fetched, bytes_filled}

@@ -11,7 +11,8 @@ use Rattle.hm_model.proofs.Lists.{eq_same, eq_other}
 use Rattle.hm_heap.specs.Calls.{freed, filled, fetched, copying, allotted, measured}
 use Rattle.hm_heap.specs.Plans.{Plan, Done, Part}
 use Rattle.hm_laws.specs.Moves.{Copies, CopiesFirst, StopsBy}
-use Rattle.hm_laws.specs.Replies.{is_given, is_usable}
+use Rattle.hm_stats.specs.Tallies.{is_given}
+use Rattle.hm_laws.specs.Replies.{is_usable}
 use Rattle.hm_laws.specs.Steps.{Added, calls_in}
 use Rattle.hm_laws.proofs.Adding.{Runs}
 

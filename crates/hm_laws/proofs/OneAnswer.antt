@@ -12,7 +12,8 @@ use Rattle.hm_sizes.specs.Aligned.{IsAlignment}
 use Rattle.hm_trace.specs.Views.{PlaceView, StepView, Malloc, Calloc, Aligned, Realloc, Free, Sfree, Write, Read, Size}
 use Rattle.hm_laws.specs.Answers.{Calls, IsCallOf, IsResized, IsReplied, AnswersAs}
 use Rattle.hm_laws.specs.Moves.{Copies, CopiesFirst, StopsBy, IsHalfMoved}
-use Rattle.hm_laws.specs.Replies.{is_given, is_freed, is_usable}
+use Rattle.hm_stats.specs.Tallies.{is_given, is_freed}
+use Rattle.hm_laws.specs.Replies.{is_usable}
 
 -- ---- by the words
 -- of the two answers that a step may have with no call, and what decides between them

@@ -13,7 +13,8 @@ use Rattle.hm_run.specs.Replayed.{AreEnds}
 use Rattle.hm_run.specs.Words.{config_of}
 use Rattle.hm_laws.specs.Answers.{Calls, IsReplied, IsResized}
 use Rattle.hm_laws.specs.Light.{AnswersNoOverwrite}
-use Rattle.hm_laws.specs.Replies.{is_given, is_usable}
+use Rattle.hm_stats.specs.Tallies.{is_given}
+use Rattle.hm_laws.specs.Replies.{is_usable}
 use Rattle.hm_laws.specs.Steps.{Added, AreOfStep, calls_in}
 use Rattle.hm_laws.proofs.Causes.{answers_have_causes}
 use Rattle.hm_laws.proofs.Light.{tells_no_overwrite}

@@ -19,7 +19,8 @@ use Rattle.hm_run.specs.declared.words.Options.{Options}
 use Rattle.hm_run.specs.Replayed.{IsReplayed}
 use Rattle.hm_run.specs.Words.{config_of}
 use Rattle.hm_laws.specs.Moves.{IsMoved, IsHalfMoved}
-use Rattle.hm_laws.specs.Replies.{is_given, is_usable}
+use Rattle.hm_stats.specs.Tallies.{is_given}
+use Rattle.hm_laws.specs.Replies.{is_usable}
 use Rattle.hm_laws.specs.Steps.{Added, AreOfStep, IsStepOf, calls_in}
 
 -- calls of regions, each with its reply, in their order

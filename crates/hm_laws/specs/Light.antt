@@ -27,9 +27,9 @@ module _ {P : Type 0} (meaning : pages.Ghosts P) (o : Options) (closed : Closed 
 
   -- where reuse is not checked, no entry tells an overwrite
   abbrev pub TellsNoOverwrite : Type 0
-  TellsNoOverwrite = (before : List Entry) (e : Entry) (a place found : ℕ)
+  TellsNoOverwrite = (before : List Entry) (e : Entry) (a offset found : ℕ)
       → Begins meaning o closed index p (before ++ e ∷ []) → (config_of o).check_reuse ≡ false
-      → e.reply ≡ Overwritten a place found → ⊥
+      → e.reply ≡ Overwritten a offset found → ⊥
 
   -- each usable byte of a given slot is as it was before: nothing is cleared as a slot is given. Only where a slab was
   -- opened for it, it is zero
@@ -51,7 +51,7 @@ module _ {P : Type 0} (meaning : pages.Ghosts P) (o : Options) (closed : Closed 
 -- where reuse is not checked, no step is answered that a slot was overwritten
 abbrev pub AnswersNoOverwrite : {P : Type 0} → pages.Ghosts P → Options → Closed P → Type 0
 AnswersNoOverwrite {P} meaning o closed = (trace : TraceView) (results : List Results) (scripts steps : ℕ)
-    (step : StepView) (base a place found : ℕ) → IsReplayed meaning o closed trace results
+    (step : StepView) (base a offset found : ℕ) → IsReplayed meaning o closed trace results
     → (config_of o).check_reuse ≡ false
     → IsStepOf trace results scripts steps step
-    (record { base = base; answer = Some (Replied (Overwritten a place found)) }) → ⊥
+    (record { base = base; answer = Some (Replied (Overwritten a offset found)) }) → ⊥

@@ -17,7 +17,8 @@ use Rattle.hm_run.specs.declared.words.Options.{Options}
 use Rattle.hm_run.specs.Laws.{Begins}
 use Rattle.hm_run.specs.Replayed.{origin_at, IsReplayed}
 use Rattle.hm_laws.specs.Kept.{byte_in}
-use Rattle.hm_laws.specs.Replies.{is_freed, is_bytes, is_filled}
+use Rattle.hm_stats.specs.Tallies.{is_freed}
+use Rattle.hm_laws.specs.Replies.{is_bytes, is_filled}
 use Rattle.hm_laws.specs.Steps.{Added, AreOfStep, IsStepOf, Stands, calls_in}
 
 -- ---- the calls of a move, each with its reply

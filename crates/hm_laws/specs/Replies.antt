@@ -1,15 +1,7 @@
 -- Which reply it is.
 use Rattle.std.specs.Prelude.{Bool, true, false}
 use Rattle.hm_model.specs.declared.entry.Reply.{Reply}
-use Rattle.hm_model.specs.declared.entry.Reply.TheVariants.{Given, Freed, Usable, Bytes, Filled}
-
-abbrev pub is_given : Reply → Bool
-is_given (Given a usable) = true
-is_given reply = false
-
-abbrev pub is_freed : Reply → Bool
-is_freed Freed = true
-is_freed reply = false
+use Rattle.hm_model.specs.declared.entry.Reply.TheVariants.{Usable, Bytes, Filled}
 
 abbrev pub is_usable : Reply → Bool
 is_usable (Usable size) = true

@@ -34,15 +34,15 @@ pub fn moves_keep_bytes<P: Pages>()
     ensures half { (o : Options) (closed : Closed P) → HalvesKeep P.Pages o closed }
 {}
 
-/// Each answer comes exactly where the calls that its step made, in their order, were replied to so; by the step's words
-/// alone where it made none. A step that was skipped made none.
+/// Each answer comes exactly where the calls that its step made, in their order, were replied to so; by the step's
+/// words alone where it made none. A step that was skipped made none.
 pub fn answers_have_causes<P: Pages>()
     ensures answered { (o : Options) (closed : Closed P) → AnswersHaveCauses P.Pages o closed }
     ensures skipped { (o : Options) (closed : Closed P) → SkippedSteps P.Pages o closed }
 {}
 
-/// Where reuse is not checked, no reply and no answer tells an overwrite. A given slot has the bytes that it had, or zeros where a slab was
-/// opened for it; and when a slot is freed, its usable bytes are zero.
+/// Where reuse is not checked, no reply and no answer tells an overwrite. A given slot has the bytes that it had, or
+/// zeros where a slab was opened for it; and when a slot is freed, its usable bytes are zero.
 pub fn reuse_is_not_told<P: Pages>()
     ensures overwritten { (o : Options) (closed : Closed P) (index : ℕ) (p : P)
         → TellsNoOverwrite P.Pages o closed index p }

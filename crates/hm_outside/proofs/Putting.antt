@@ -1,11 +1,7 @@
 -- What is appended piece by piece to what may be told.
-use Rattle.std.proofs.Common.{ℕ, List, [], ◌++◌, Some, None, sym, ◌∙◌, ap, append-nil, append_assoc}
+use Rattle.std.proofs.Common.{ℕ, List, ◌++◌, Some, None, ◌∙◌, ap, append_assoc}
 use Rattle.std.specs.declared.option.Option.{Option}
 use Rattle.hm_outside.specs.Streams.{Put}
-
-pub put_none : (a : Option (List ℕ)) → Put a a []
-put_none None = tt
-put_none (Some x) = sym (append-nil x)
 
 pub put_more : (a b c : Option (List ℕ)) (xs ys : List ℕ) → Put a b xs → Put b c ys → Put a c (xs ++ ys)
 put_more None None None xs ys p q = tt

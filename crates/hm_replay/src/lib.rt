@@ -19,3 +19,4 @@ pub use hm_report::{Results, StepResult};
 pub use laws::{replayed_rounds, small_rounds, watched_rounds};
 pub use round::run_round;
 pub use script::run_script;
+pub use setting::Setting;

@@ -35,15 +35,8 @@ impl<'s, 'e> Worker<'s, 'e> {
         requires { IsToRun heap.now.locks self.old }
         ensures run { WasRun heap.now self.old self.new }
     {
-        let results = run_with(
-            rt,
-            alloc,
-            heap,
-            &mut self.pass,
-            self.script,
-            &mut self.scope,
-        )
-        .ok();
+        let setting = Setting { rt, alloc, heap };
+        let results = run_with(&setting, &mut self.pass, self.script, &mut self.scope).ok();
         self.left = match &results {
             Some(_) => self.scope.left(alloc).ok(),
             None => None,
@@ -159,39 +152,37 @@ fn all_found<T: Drop>(alloc: Global, found: Vec<Option<T>>) -> Result<Vec<T>, No
 /// there is no memory: then each script may have run up to any step, or not at all, and no name is set. Else the names
 /// that the scripts set are seen from then on.
 pub fn run_round<R: Threads + Wait + Sync, P: Pages, G: Gate>(
-    rt: &R,
-    alloc: Global,
-    heap: &Heap<'_, P, G>,
+    setting: &Setting<'_, '_, R, P, G>,
     root: &mut Pass,
     number: u32,
     round: &Round,
     env: &mut Env,
 ) -> Result<Vec<Results>, NoMemory>
-    requires of { AreOf heap.now.locks root.old.turns }
+    requires of { AreOf setting.now.heap.now.locks root.old.turns }
     requires root { root.old.caller ≡ 0 }
     requires few { root.old.splits + length round.now.scripts < 2 ^ 32 }
-    ensures of { AreOf heap.now.locks root.new.turns }
+    ensures of { AreOf setting.now.heap.now.locks root.new.turns }
     ensures root { LeavesRoot (length round.now.scripts) root.old root.new }
     ensures splits { IfOk result (λ _. root.new.splits ≡ root.old.splits + length round.now.scripts) }
     ensures at_most { (root.old.splits ≤ root.new.splits)
         × (root.new.splits ≤ root.old.splits + length round.now.scripts) }
-    ensures ran { IfOk result (λ results. RunsRound heap.now.config (ended_in root.new.turns) (root.old.splits + 1)
-        number (held env.old) (held env.old) round.now.scripts results.items (held env.new)) }
-    ensures begun { BeginsRound heap.now.config number (held env.old) round.now.scripts root.old root.new }
+    ensures ran { IfOk result (λ results. RunsRound setting.now.heap.now.config (ended_in root.new.turns)
+        (root.old.splits + 1) number (held env.old) (held env.old) round.now.scripts results.items (held env.new)) }
+    ensures begun { BeginsRound setting.now.heap.now.config number (held env.old) round.now.scripts root.old root.new }
     ensures memory { OnErr result (env.new ≡ env.old) }
 {
+    let alloc = setting.alloc;
     let scripts = round.scripts();
     let mut workers = Vec::with_capacity(alloc, scripts.len())?;
     let mut found = Vec::with_capacity(alloc, scripts.len())?;
     let mut lists = Vec::with_capacity(alloc, scripts.len())?;
-    let setting = Setting { rt, alloc, heap };
-    if start(&setting, root, number, scripts, env, &mut workers).is_err() {
-        finish(heap, root, workers, &mut found, &mut lists);
+    if start(setting, root, number, scripts, env, &mut workers).is_err() {
+        finish(setting.heap, root, workers, &mut found, &mut lists);
         return Err(NoMemory);
     }
     let threads = workers.len().max(1);
-    work(rt, alloc, heap, &mut workers, threads);
-    finish(heap, root, workers, &mut found, &mut lists);
+    work(setting.rt, alloc, setting.heap, &mut workers, threads);
+    finish(setting.heap, root, workers, &mut found, &mut lists);
     let results = all_found(alloc, found)?;
     let left = all_found(alloc, lists)?;
     env.set_all(&left)?;

@@ -17,11 +17,10 @@ use crate::naming::{name, skip};
 use crate::places::base_of;
 use crate::setting::Setting;
 use hm_base::{List, NoMemory};
-use hm_heap::{Heap, Pass};
+use hm_heap::Pass;
 use hm_outside::{Gate, Pages};
 use hm_report::{Results, StepResult};
 use hm_trace::{Script, Step};
-use std::alloc::Global;
 use std::sync::Wait;
 
 // Runs one step.
@@ -85,26 +84,23 @@ fn run_steps<R: Wait, P: Pages, G: Gate, E: Addresses>(
 
 /// Runs a script with any kind of names, as `run_script` does.
 pub(crate) fn run_with<R: Wait, P: Pages, G: Gate, E: Addresses>(
-    rt: &R,
-    alloc: Global,
-    heap: &Heap<'_, P, G>,
+    setting: &Setting<'_, '_, R, P, G>,
     pass: &mut Pass,
     script: &Script,
     env: &mut E,
 ) -> Result<Results, NoMemory>
-    requires of { AreOf heap.now.locks pass.old.turns }
+    requires of { AreOf setting.now.heap.now.locks pass.old.turns }
     requires thread { pass.old.thread ≡ script.now.thread }
     requires fresh { (index : ℕ) → mine_of pass.old.turns index ≡ [] }
-    ensures run { WentOn heap.now.locks pass.old pass.new }
+    ensures run { WentOn setting.now.heap.now.locks pass.old pass.new }
     ensures results { IfOk result (λ rs. (rs.round ≡ pass.old.round) × (rs.thread ≡ script.now.thread)) }
-    ensures ran { IfOk result (λ rs. RunsAllSteps (terms_of heap.now pass.old) (E.names env.old) script.now.steps
-        rs.items (E.names env.new) (mine_of pass.new.turns)) }
+    ensures ran { IfOk result (λ rs. RunsAllSteps (terms_of setting.now.heap.now pass.old) (E.names env.old)
+        script.now.steps rs.items (E.names env.new) (mine_of pass.new.turns)) }
     ensures touched { IfOk result (λ _. E.touched env.new ≡ touched_all (E.touched env.old) script.now.steps) }
-    ensures stops { OnErr result (IsFront (terms_of heap.now pass.old) (E.names env.old) script.now.steps
-        (E.names env.new) (mine_of pass.new.turns)) }
+    ensures stops { OnErr result (IsFront (terms_of setting.now.heap.now pass.old) (E.names env.old)
+        script.now.steps (E.names env.new) (mine_of pass.new.turns)) }
 {
-    let setting = Setting { rt, alloc, heap };
-    let items = run_steps(&setting, pass, env, script.steps())?;
+    let items = run_steps(setting, pass, env, script.steps())?;
     Ok(Results {
         round: pass.round(),
         thread: script.thread(),
@@ -116,22 +112,20 @@ pub(crate) fn run_with<R: Wait, P: Pages, G: Gate, E: Addresses>(
 /// or all among them, and the first parts of the next one may have been made: the names are then as the steps before
 /// have left them.
 pub fn run_script<R: Wait, P: Pages, G: Gate>(
-    rt: &R,
-    alloc: Global,
-    heap: &Heap<'_, P, G>,
+    setting: &Setting<'_, '_, R, P, G>,
     pass: &mut Pass,
     script: &Script,
     env: &mut Env,
 ) -> Result<Results, NoMemory>
-    requires of { AreOf heap.now.locks pass.old.turns }
+    requires of { AreOf setting.now.heap.now.locks pass.old.turns }
     requires thread { pass.old.thread ≡ script.now.thread }
     requires fresh { (index : ℕ) → mine_of pass.old.turns index ≡ [] }
-    ensures run { WentOn heap.now.locks pass.old pass.new }
+    ensures run { WentOn setting.now.heap.now.locks pass.old pass.new }
     ensures results { IfOk result (λ rs. (rs.round ≡ pass.old.round) × (rs.thread ≡ script.now.thread)) }
-    ensures ran { IfOk result (λ rs. RunsAllSteps (terms_of heap.now pass.old) (held env.old) script.now.steps rs.items
-        (held env.new) (mine_of pass.new.turns)) }
-    ensures stops { OnErr result (IsFront (terms_of heap.now pass.old) (held env.old) script.now.steps (held env.new)
-        (mine_of pass.new.turns)) }
+    ensures ran { IfOk result (λ rs. RunsAllSteps (terms_of setting.now.heap.now pass.old) (held env.old)
+        script.now.steps rs.items (held env.new) (mine_of pass.new.turns)) }
+    ensures stops { OnErr result (IsFront (terms_of setting.now.heap.now pass.old) (held env.old)
+        script.now.steps (held env.new) (mine_of pass.new.turns)) }
 {
-    run_with(rt, alloc, heap, pass, script, env)
+    run_with(setting, pass, script, env)
 }

@@ -22,6 +22,7 @@ pub use laws::{
     given_blocks_are_zero, journals_tell, live_blocks_apart, no_trace_is_exact,
     refusals_have_causes, runs_are_complete, too_long_is_exact, usage_is_exact,
 };
+pub use rounds::Machine;
 pub use run::{Run, replay};
 pub use status::Status;
 pub use words::{Asked, Command, Options, Output, Template, read_words};

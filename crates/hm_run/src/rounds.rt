@@ -23,7 +23,7 @@ use hm_base::NoMemory;
 use hm_heap::{Closed, Heap, Pass};
 use hm_large_rules::live_block_sizes;
 use hm_outside::{Gate, PageMaker, Pages};
-use hm_replay::{Env, replayed_rounds, run_round, small_rounds, watched_rounds};
+use hm_replay::{Env, Setting, replayed_rounds, run_round, small_rounds, watched_rounds};
 use hm_report::Results;
 use hm_trace::{Round, Trace};
 use std::alloc::Global;
@@ -55,67 +55,63 @@ pub struct Ran<P> {
 // Runs the rounds in order, each with the names that the one before has left, and watches them. The laws are called
 // for their contracts.
 fn run_rounds<R: Threads + Wait + Sync, P: Pages, G: Gate>(
-    rt: &R,
-    alloc: Global,
-    heap: &Heap<'_, P, G>,
+    setting: &Setting<'_, '_, R, P, G>,
     root: &mut Pass,
     rounds: &[Round],
     watcher: &mut Watcher,
 ) -> Result<Vec<Results>, NoMemory>
-    requires of { AreOf heap.now.locks root.old.turns }
-    requires index { large_index heap.now.config < length heap.now.locks }
+    requires of { AreOf setting.now.heap.now.locks root.old.turns }
+    requires index { large_index setting.now.heap.now.config < length setting.now.heap.now.locks }
     requires first { root.old ≡ first_pass root.old.turns }
-    requires founds { Founds heap.now.locks root.old.turns }
+    requires founds { Founds setting.now.heap.now.locks root.old.turns }
     requires valid { list_all (λ r. is_round r.scripts) rounds.now ≡ true }
     requires few { length rounds.now ≤ 1024 }
     requires fresh { Tracks watcher.old [] × (totals_of watcher.old ≡ []) }
-    ensures of { AreOf heap.now.locks root.new.turns }
+    ensures of { AreOf setting.now.heap.now.locks root.new.turns }
     ensures root { (root.new.caller ≡ 0) × (root.new.out ≡ 0) }
     ensures ran { IfOk result (λ results. (last : _)
-        × HasReplayed heap.now.config root.new (map (λ r. r.scripts) rounds.now) results.items last) }
+        × HasReplayed setting.now.heap.now.config root.new (map (λ r. r.scripts) rounds.now) results.items last) }
     ensures watched { IfOk result (λ _. is_on watcher.old ≡ true
         → IsWatched size_sum 1 (map (λ r. r.scripts) rounds.now) []
-        (large_seen heap.now.config root.new) (totals_of watcher.new)) }
+        (large_seen setting.now.heap.now.config root.new) (totals_of watcher.new)) }
 {
     replayed_rounds();
     watched_rounds();
     small_rounds();
-    let mut env = Env::build(alloc);
-    let mut all = Vec::new(alloc);
+    let mut env = Env::build(setting.alloc);
+    let mut all = Vec::new(setting.alloc);
     for (index, round) in rounds.iter().enumerate() {
-        let mut results = run_round(rt, alloc, heap, root, index as u32 + 1, round, &mut env)?;
+        let mut results = run_round(setting, root, index as u32 + 1, round, &mut env)?;
         all.append(&mut results)?;
-        watcher.after_round(rt, alloc, heap, root)?;
+        watcher.after_round(setting.rt, setting.alloc, setting.heap, root)?;
     }
     Ok(all)
 }
 
 // Runs the rounds, watched or not. What watches them is ended, whether memory is found or not.
 fn watch_rounds<R: Threads + Wait + Sync, P: Pages, G: Gate>(
-    rt: &R,
-    alloc: Global,
-    heap: &Heap<'_, P, G>,
+    setting: &Setting<'_, '_, R, P, G>,
     root: &mut Pass,
     rounds: &[Round],
     watched: bool,
 ) -> Result<(Vec<Results>, Vec<u128>), NoMemory>
-    requires of { AreOf heap.now.locks root.old.turns }
-    requires index { large_index heap.now.config < length heap.now.locks }
+    requires of { AreOf setting.now.heap.now.locks root.old.turns }
+    requires index { large_index setting.now.heap.now.config < length setting.now.heap.now.locks }
     requires first { root.old ≡ first_pass root.old.turns }
-    requires founds { Founds heap.now.locks root.old.turns }
+    requires founds { Founds setting.now.heap.now.locks root.old.turns }
     requires valid { list_all (λ r. is_round r.scripts) rounds.now ≡ true }
     requires few { length rounds.now ≤ 1024 }
-    ensures of { AreOf heap.now.locks root.new.turns }
+    ensures of { AreOf setting.now.heap.now.locks root.new.turns }
     ensures root { (root.new.caller ≡ 0) × (root.new.out ≡ 0) }
     ensures ran { IfOk result (λ r. (last : _)
-        × HasReplayed heap.now.config root.new (map (λ r. r.scripts) rounds.now) r.0.items last) }
+        × HasReplayed setting.now.heap.now.config root.new (map (λ r. r.scripts) rounds.now) r.0.items last) }
     ensures watched { IfOk result (λ r. watched ≡ true
         → IsWatched size_sum 1 (map (λ r. r.scripts) rounds.now) []
-        (large_seen heap.now.config root.new) r.1.items) }
+        (large_seen setting.now.heap.now.config root.new) r.1.items) }
 {
-    let mut watcher = Watcher::build(alloc, watched)?;
-    let results = run_rounds(rt, alloc, heap, root, rounds, &mut watcher);
-    let totals = watcher.end(rt, alloc);
+    let mut watcher = Watcher::build(setting.alloc, watched)?;
+    let results = run_rounds(setting, root, rounds, &mut watcher);
+    let totals = watcher.end(setting.rt, setting.alloc);
     Ok((results?, totals))
 }
 
@@ -141,7 +137,12 @@ pub fn run_trace<R: Threads + Wait + Sync, M: PageMaker, G: Gate>(
     live_block_sizes();
     let Machine { rt, alloc, gate } = machine;
     let (heap, mut root) = Heap::build(alloc, options.config(), options.seed, maker, gate)?;
-    let (results, totals) = watch_rounds(rt, alloc, &heap, &mut root, trace.rounds(), watched)?;
+    let setting = Setting {
+        rt,
+        alloc,
+        heap: &heap,
+    };
+    let (results, totals) = watch_rounds(&setting, &mut root, trace.rounds(), watched)?;
     let closed = heap.close(alloc, root)?;
     Ok(Ran {
         closed,

@@ -332,13 +332,11 @@ fn carry_out<R: Threads + Wait + Sync, S: Source, K: Sink, M: PageMaker, G: Gate
 /// refused. All memory is taken before the first byte is written. What was closed is handed out, with the results of the
 /// steps. Where a trace is run, pages of each region are made once, in order, and else none.
 pub fn replay<R: Threads + Wait + Sync, S: Source, K: Sink, M: PageMaker, G: Gate>(
-    rt: &R,
-    alloc: Global,
+    machine: Machine<'_, R, G>,
     words: &[String],
     source: &mut S,
     sink: &mut K,
     maker: &mut M,
-    gate: &G,
 ) -> Run<M::P>
     ensures bound { IsTakenWithin most_taken (source_of S.Source source.old source.new) }
     ensures ends { Ends M.P.Pages words.now result (source_of S.Source source.old source.new)
@@ -353,7 +351,6 @@ pub fn replay<R: Threads + Wait + Sync, S: Source, K: Sink, M: PageMaker, G: Gat
         Some(asked) => asked,
         None => return refuse(sink, Refusal::Usage),
     };
-    let machine = Machine { rt, alloc, gate };
     match carry_out(machine, maker, &asked, source, sink) {
         Ok(run) => run,
         Err(NoMemory) => give_up(),

@@ -174,7 +174,7 @@ impl<'a> Pages for WatchingPages<'a> {
         self.silent.bytes_mut(addr, len)
     }
 
-    fn fill(&mut self, addr: u64, len: usize, byte: u8) {
+    fn fill(&mut self, addr: u64, len: usize, byte: u8) -> bool {
         self.silent.fill(addr, len, byte)
     }
 

@@ -3,6 +3,7 @@
 use crate::test_runs::{failing_maker, replay_plain, run_plain, run_text, source, text_of, words};
 use hm_fakes::{FailingMaker, VecSink};
 use hm_outside::NoGate;
+use hm_run::Machine;
 use std::alloc::Global;
 use std::sync::Wait;
 use std::test::Fail;
@@ -30,7 +31,12 @@ fn faults_after<R: Threads + Wait + Sync>(
 ) -> Result<u64, Fail> {
     let text = text_of(alloc, steps.steps)?;
     let mut sink = VecSink::build(alloc, 999, 99, Vec::new(alloc))?;
-    let run = run_text(rt, alloc, "run", text.as_bytes(), &mut sink, maker, &NoGate)?;
+    let machine = Machine {
+        rt,
+        alloc,
+        gate: &NoGate,
+    };
+    let run = run_text(machine, "run", text.as_bytes(), &mut sink, maker)?;
     if run.status != steps.status || sink.held.as_slice() != steps.output.as_bytes() {
         return Err(Fail::new(steps.steps));
     }

@@ -4,7 +4,7 @@
 use hm_base::RegionId;
 use hm_fakes::{FailingMaker, PlainMaker, PlainPages, VecSink, VecSource};
 use hm_outside::{Gate, NoGate, PageMaker, Source};
-use hm_run::{Run, replay};
+use hm_run::{Machine, Run, replay};
 use std::alloc::Global;
 use std::sync::Wait;
 use std::test::Fail;
@@ -55,17 +55,15 @@ pub(crate) fn failing_maker(alloc: Global, region: u32, call: u64) -> Result<Fai
 
 // Runs a text.
 pub(crate) fn run_text<R: Threads + Wait + Sync, M: PageMaker, G: Gate>(
-    rt: &R,
-    alloc: Global,
+    machine: Machine<'_, R, G>,
     asked: &str,
     text: &[u8],
     sink: &mut VecSink,
     maker: &mut M,
-    gate: &G,
 ) -> Result<Run<M::P>, Fail> {
-    let words = words(alloc, asked)?;
-    let mut source = source(alloc, text, 65_536, 0)?;
-    Ok(replay(rt, alloc, &words, &mut source, sink, maker, gate))
+    let words = words(machine.alloc, asked)?;
+    let mut source = source(machine.alloc, text, 65_536, 0)?;
+    Ok(replay(machine, &words, &mut source, sink, maker))
 }
 
 // The status of a run of a text, and what it wrote.
@@ -77,7 +75,8 @@ pub(crate) fn report_of<R: Threads + Wait + Sync, M: PageMaker, G: Gate>(
     gate: &G,
 ) -> Result<(u8, Vec<u8>), Fail> {
     let mut sink = VecSink::build(alloc, 65_536, 999, Vec::new(alloc))?;
-    let run = run_text(rt, alloc, "run", text.as_bytes(), &mut sink, maker, gate)?;
+    let machine = Machine { rt, alloc, gate };
+    let run = run_text(machine, "run", text.as_bytes(), &mut sink, maker)?;
     Ok((run.status, sink.held))
 }
 
@@ -89,7 +88,12 @@ pub(crate) fn run_plain<R: Threads + Wait + Sync>(
     text: &[u8],
     sink: &mut VecSink,
 ) -> Result<Run<PlainPages>, Fail> {
-    run_text(rt, alloc, asked, text, sink, &mut PlainMaker, &NoGate)
+    let machine = Machine {
+        rt,
+        alloc,
+        gate: &NoGate,
+    };
+    run_text(machine, asked, text, sink, &mut PlainMaker)
 }
 
 // Runs what a source holds, over plain pages.
@@ -100,5 +104,10 @@ pub(crate) fn replay_plain<R: Threads + Wait + Sync, S: Source>(
     source: &mut S,
     sink: &mut VecSink,
 ) -> Run<PlainPages> {
-    replay(rt, alloc, words, source, sink, &mut PlainMaker, &NoGate)
+    let machine = Machine {
+        rt,
+        alloc,
+        gate: &NoGate,
+    };
+    replay(machine, words, source, sink, &mut PlainMaker)
 }

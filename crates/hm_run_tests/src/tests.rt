@@ -8,7 +8,7 @@ use crate::test_runs::{
 use hm_fakes::{Meeting, PlainMaker, VecSink};
 use hm_frames::FrameMaker;
 use hm_outside::{NoGate, PageMaker, Source, SourceFault};
-use hm_run::{Run, replay};
+use hm_run::{Machine, Run, replay};
 use hm_trace::{read_trace, write_trace};
 use std::alloc::{AllocError, Global};
 use std::fmt::Write;
@@ -210,15 +210,12 @@ fn check_row<R: Threads + Wait + Sync, M: PageMaker>(
     let mut sink = VecSink::build(alloc, 999, 99, Vec::new(alloc))?;
     let text = text_of(alloc, row.steps)?;
     let asked = format!(in alloc; "{}{more}", row.words)?;
-    let run = run_text(
+    let machine = Machine {
         rt,
         alloc,
-        asked.as_str(),
-        text.as_bytes(),
-        &mut sink,
-        maker,
-        &NoGate,
-    )?;
+        gate: &NoGate,
+    };
+    let run = run_text(machine, asked.as_str(), text.as_bytes(), &mut sink, maker)?;
     let written = sink.held.as_slice();
     let is_other = match row.other {
         Some(other) => written == other.as_bytes(),
@@ -269,14 +266,17 @@ fn opened_slabs(rt: HostRuntime) -> Result<(), Fail> {
         "malloc a 130000\nmalloc b 130000\nmalloc c 130000\nmalloc d 130000\nmalloc e 130000\n",
     )?;
     let mut sink = VecSink::build(alloc, 99, 99, Vec::new(alloc))?;
-    let run = run_text(
-        &rt,
+    let machine = Machine {
+        rt: &rt,
         alloc,
+        gate: &NoGate,
+    };
+    let run = run_text(
+        machine,
         "run --class-region 1048576",
         text.as_bytes(),
         &mut sink,
         &mut FrameMaker,
-        &NoGate,
     )?;
     let closed = run.closed.ok_or("closed")?;
     let history = closed.histories.items().get(48).ok_or("region 48")?;
@@ -370,7 +370,12 @@ fn check_ending<R: Threads + Wait + Sync, M: PageMaker>(
     let asked = words(alloc, ending.words)?;
     let mut source = source(alloc, ending.text, 8, ending.source_fails)?;
     let mut sink = VecSink::build(alloc, ending.room, ending.piece, Vec::new(alloc))?;
-    let run = replay(rt, alloc, &asked, &mut source, &mut sink, maker, &NoGate);
+    let machine = Machine {
+        rt,
+        alloc,
+        gate: &NoGate,
+    };
+    let run = replay(machine, &asked, &mut source, &mut sink, maker);
     Ok(run.status == ending.status && sink.held.as_slice() == ending.output)
 }
 
@@ -419,15 +424,12 @@ fn runs_seven<R: Threads + Wait + Sync>(rt: &R, alloc: Global, line: &str) -> Re
     let asked = words(alloc, line)?;
     let mut source = source(alloc, b"", 8, 1)?;
     let mut sink = VecSink::build(alloc, 999, 99, Vec::new(alloc))?;
-    let run = replay(
+    let machine = Machine {
         rt,
         alloc,
-        &asked,
-        &mut source,
-        &mut sink,
-        &mut FrameMaker,
-        &NoGate,
-    );
+        gate: &NoGate,
+    };
+    let run = replay(machine, &asked, &mut source, &mut sink, &mut FrameMaker);
     Ok(run.status == 0 && source.calls == 0 && sink.held.as_slice() == SEVEN)
 }
 
@@ -491,15 +493,12 @@ fn page_fault(rt: HostRuntime) -> Result<(), Fail> {
     let text = text_of(alloc, "malloc x 100\nmalloc y 100\n")?;
     let mut sink = VecSink::build(alloc, 99, 99, Vec::new(alloc))?;
     let mut maker = failing_maker(alloc, 7, 1)?;
-    let run = run_text(
-        &rt,
+    let machine = Machine {
+        rt: &rt,
         alloc,
-        "run",
-        text.as_bytes(),
-        &mut sink,
-        &mut maker,
-        &NoGate,
-    )?;
+        gate: &NoGate,
+    };
+    let run = run_text(machine, "run", text.as_bytes(), &mut sink, &mut maker)?;
     assert_eq!(rt; run.status, 0);
     assert_eq!(rt;
         sink.held.as_slice(),
@@ -569,15 +568,12 @@ fn sixteen_threads(rt: HostRuntime) -> Result<(), Fail> {
     let alloc = rt.alloc();
     let (text, expected) = many_threads(alloc)?;
     let mut sink = VecSink::build(alloc, 65_536, 999, Vec::new(alloc))?;
-    let run = run_text(
-        &rt,
+    let machine = Machine {
+        rt: &rt,
         alloc,
-        "run",
-        text.as_bytes(),
-        &mut sink,
-        &mut FrameMaker,
-        &NoGate,
-    )?;
+        gate: &NoGate,
+    };
+    let run = run_text(machine, "run", text.as_bytes(), &mut sink, &mut FrameMaker)?;
     assert_eq!(rt; run.status, 0);
     assert_eq!(rt; sink.held.as_slice(), expected.as_bytes());
     let closed = run.closed.ok_or("closed")?;

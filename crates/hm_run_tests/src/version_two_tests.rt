@@ -5,6 +5,7 @@ use crate::test_runs::{run_plain, run_text};
 use hm_fakes::VecSink;
 use hm_frames::FrameMaker;
 use hm_outside::NoGate;
+use hm_run::Machine;
 use std::alloc::{AllocError, Global};
 use std::fmt::Write;
 use std::sync::Wait;
@@ -139,15 +140,12 @@ fn runs_many<R: Threads + Wait + Sync>(
 ) -> Result<bool, Fail> {
     let (text, report) = many_threads(alloc, version, threads)?;
     let mut sink = VecSink::build(alloc, 65_536, 999, Vec::new(alloc))?;
-    let run = run_text(
+    let machine = Machine {
         rt,
         alloc,
-        "run",
-        text.as_bytes(),
-        &mut sink,
-        &mut FrameMaker,
-        &NoGate,
-    )?;
+        gate: &NoGate,
+    };
+    let run = run_text(machine, "run", text.as_bytes(), &mut sink, &mut FrameMaker)?;
     Ok(run.status == 0 && sink.held.as_slice() == report.as_bytes())
 }
 

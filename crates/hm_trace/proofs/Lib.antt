@@ -2,6 +2,7 @@ mod Again
 mod Agree
 mod Agreeing
 mod Bytes
+mod ByWords
 mod Choices
 mod Decimals
 mod Exact
@@ -17,7 +18,6 @@ mod LineEnds
 mod NameSets
 mod Notes
 mod Numerals
-mod Ordered
 mod Parts
 mod Places
 mod Powers

@@ -1,5 +1,5 @@
 //! Names of at most 32 bytes, each kept in itself, in the order of their bytes.
-ghost use Rattle.std.specs.Prelude.{◌≡◌, ◌≤◌, ◌-◌, ◌++◌, length, take, replicate, true, false, nat_eq, IfSome, IfNone};
+ghost use Rattle.std.specs.Prelude.{◌≡◌, ◌≤◌, ◌+◌, ◌-◌, ◌++◌, length, take, drop, replicate, true, false, nat_eq, IfSome, IfNone};
 ghost use Rattle.std.specs.List.{list_all};
 ghost use Rattle.hm_trace.specs.Names.{is_name, is_name_byte};
 ghost use Rattle.std.proofs.Common.{rules};
@@ -7,6 +7,7 @@ ghost use Rattle.std.specs.Cmp.{partial_order_from_own_ties, partial_equiv_from_
 ghost use Rattle.std.specs.Cmp.Lexicographic.{pointwise, slice_cmp, on_texts, on_texts_equal};
 ghost use Rattle.std.specs.Cmp.Rules.{comparing};
 ghost use Rattle.std.specs.Ordering.{nat_cmp, on, as_partial_cmp};
+ghost use Rattle.std.specs.Slice.Scan.{big_endian};
 
 use std::cmp::Ordering;
 
@@ -52,11 +53,11 @@ impl Ord for Name {
 
     ghost matches_eq = { Prim.search (comparing, rules) };
 
-    // Names are short, and `partial_cmp` goes byte by byte, where `cmp` of slices first skips groups of equal bytes.
+    // Zeros stand behind a name, so whole words tell which name is less. Where all are equal, the shorter name is.
     fn cmp(&self, other: &Name) -> Ordering {
-        match self.bytes().partial_cmp(other.bytes()) {
-            Some(found) => found,
-            None => Ordering::Equal,
+        match order_of(&self.bytes, &other.bytes) {
+            Ordering::Equal => self.len.cmp(&other.len),
+            found => found,
         }
     }
 }
@@ -114,6 +115,39 @@ impl Name {
             bytes,
         }
     }
+}
+
+// The order of bytes, eight of which are compared at once, as a number.
+fn order_of(bytes: &[u8; 32], others: &[u8; 32]) -> Ordering
+    ensures { result ≡ slice_cmp nat_cmp bytes.now others.now }
+{
+    let mut at = 0;
+    while at < 32 {
+        let word = word_at(bytes, at);
+        let other = word_at(others, at);
+        if word != other {
+            return word.cmp(&other);
+        }
+        at += 8;
+    }
+    Ordering::Equal
+}
+
+// The number that eight bytes spell, the greatest first.
+fn word_at(bytes: &[u8; 32], at: usize) -> u64
+    requires { at + 8 ≤ 32 }
+    ensures { result ≡ big_endian 0 (take 8 (drop at bytes.now)) }
+{
+    u64::from_be_bytes([
+        bytes[at],
+        bytes[at + 1],
+        bytes[at + 2],
+        bytes[at + 3],
+        bytes[at + 4],
+        bytes[at + 5],
+        bytes[at + 6],
+        bytes[at + 7],
+    ])
 }
 
 fn are_name_bytes(bytes: &[u8]) -> bool

@@ -7,7 +7,7 @@
 
 use hm_frames::FrameMaker;
 use hm_outside::{NoGate, StdinSource, StdoutSink};
-use hm_run::{Status, replay};
+use hm_run::{Machine, Status, replay};
 use std::io::ErrorKind;
 use std::process::ExitCode;
 use std::{env, mem};
@@ -35,15 +35,12 @@ fn main(rt: HostRuntime) -> ExitCode {
         Ok(words) => {
             let mut source = StdinSource::new(rt.stdin().lock());
             let mut sink = StdoutSink::new(rt.stdout());
-            let run = replay(
-                &rt,
-                rt.alloc(),
-                &words,
-                &mut source,
-                &mut sink,
-                &mut FrameMaker,
-                &NoGate,
-            );
+            let machine = Machine {
+                rt: &rt,
+                alloc: rt.alloc(),
+                gate: &NoGate,
+            };
+            let run = replay(machine, &words, &mut source, &mut sink, &mut FrameMaker);
             let status = run.status;
             // The process ends here, and the system takes its memory back at once.
             mem::forget(run);

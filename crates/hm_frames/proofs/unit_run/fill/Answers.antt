@@ -3,7 +3,7 @@ use Rattle.hm_frames.specs.Units.{bytes_kept, own_units}
 use Rattle.hm_frames.specs.Part.{over}
 use Rattle.hm_frames.proofs.Keeping.{kept_long}
 use Rattle.hm_frames.proofs.Over.{filled, filled_on}
-use Rattle.hm_frames.proofs.Owning.{none_filled, next_stop, filled_next}
+use Rattle.hm_frames.proofs.Owning.{next_stop, filled_next}
 use Rattle.hm_frames.proofs.unit_run.fill.Goals as goal
 
 pub loop-at-preserved : goal.loop-at-preserved

@@ -17,21 +17,21 @@ use Rattle.hm_replay.proofs.round.run_round.Goals as goal
 pub returns-then-is_err-clause-root : goal.returns-then-is_err-clause-root
 returns-then-is_err-clause-root g c =
     let s = c.start.ensures in
-    unrun_root c.args.heap.now.locks c.args.number c.args.root.now c.start.new.root (held c.args.env.now)
+    unrun_root c.args.setting.now.heap.now.locks c.args.number c.args.root.now c.start.new.root (held c.args.env.now)
     c.start.new.workers c.args.round.now.scripts c.scripts-scripts.result.now c.scripts-scripts.ensures.all c.requires.of s.root
     s.workers s.some c.finish.new.root _ c.finish.ensures.passes
 
 pub returns-then-is_err-clause-begun : goal.returns-then-is_err-clause-begun
 returns-then-is_err-clause-begun g c =
     let s = c.start.ensures in
-    unrun_begins c.args.heap.now.locks c.args.number c.args.root.now c.start.new.root (held c.args.env.now)
+    unrun_begins c.args.setting.now.heap.now.locks c.args.number c.args.root.now c.start.new.root (held c.args.env.now)
     c.start.new.workers c.args.round.now.scripts c.scripts-scripts.result.now c.scripts-scripts.ensures.all c.requires.of s.root
-    s.workers s.some c.args.heap.now.config s.scripts c.finish.new.root _ c.finish.ensures.passes
+    s.workers s.some c.args.setting.now.heap.now.config s.scripts c.finish.new.root _ c.finish.ensures.passes
 
 pub returns-in_err-results-clause-root : goal.returns-in_err-results-clause-root
 returns-in_err-results-clause-root g c =
     let s = c.start.ensures in
-    run_root c.args.heap.now.locks c.args.number c.args.root.now c.start.new.root (held c.args.env.now)
+    run_root c.args.setting.now.heap.now.locks c.args.number c.args.root.now c.start.new.root (held c.args.env.now)
     c.start.new.workers c.args.round.now.scripts c.scripts-scripts.result.now c.scripts-scripts.ensures.all c.requires.of s.root
     s.workers s.some c.work.new.workers c.work.ensures.len (λ i w l. (c.work.ensures.each i w l).run) c.finish-2.new.root _
     c.finish-2.ensures.passes
@@ -39,15 +39,15 @@ returns-in_err-results-clause-root g c =
 pub returns-in_err-results-clause-begun : goal.returns-in_err-results-clause-begun
 returns-in_err-results-clause-begun g c =
     let s = c.start.ensures in
-    run_begins c.args.heap.now.locks c.args.number c.args.root.now c.start.new.root (held c.args.env.now)
+    run_begins c.args.setting.now.heap.now.locks c.args.number c.args.root.now c.start.new.root (held c.args.env.now)
     c.start.new.workers c.args.round.now.scripts c.scripts-scripts.result.now c.scripts-scripts.ensures.all c.requires.of s.root
-    s.workers s.some c.args.heap.now.config s.scripts c.work.new.workers c.work.ensures.len (λ i w l. (c.work.ensures.each i w l).run)
+    s.workers s.some c.args.setting.now.heap.now.config s.scripts c.work.new.workers c.work.ensures.len (λ i w l. (c.work.ensures.each i w l).run)
     (λ i w l. (c.work.ensures.each i w l).front) (λ i w l. (c.work.ensures.each i w l).script) c.finish-2.new.root _ c.finish-2.ensures.passes
 
 pub returns-in_err-left-clause-root : goal.returns-in_err-left-clause-root
 returns-in_err-left-clause-root g c =
     let s = c.start.ensures in
-    run_root c.args.heap.now.locks c.args.number c.args.root.now c.start.new.root (held c.args.env.now)
+    run_root c.args.setting.now.heap.now.locks c.args.number c.args.root.now c.start.new.root (held c.args.env.now)
     c.start.new.workers c.args.round.now.scripts c.scripts-scripts.result.now c.scripts-scripts.ensures.all c.requires.of s.root
     s.workers s.some c.work.new.workers c.work.ensures.len (λ i w l. (c.work.ensures.each i w l).run) c.finish-2.new.root _
     c.finish-2.ensures.passes
@@ -55,15 +55,15 @@ returns-in_err-left-clause-root g c =
 pub returns-in_err-left-clause-begun : goal.returns-in_err-left-clause-begun
 returns-in_err-left-clause-begun g c =
     let s = c.start.ensures in
-    run_begins c.args.heap.now.locks c.args.number c.args.root.now c.start.new.root (held c.args.env.now)
+    run_begins c.args.setting.now.heap.now.locks c.args.number c.args.root.now c.start.new.root (held c.args.env.now)
     c.start.new.workers c.args.round.now.scripts c.scripts-scripts.result.now c.scripts-scripts.ensures.all c.requires.of s.root
-    s.workers s.some c.args.heap.now.config s.scripts c.work.new.workers c.work.ensures.len (λ i w l. (c.work.ensures.each i w l).run)
+    s.workers s.some c.args.setting.now.heap.now.config s.scripts c.work.new.workers c.work.ensures.len (λ i w l. (c.work.ensures.each i w l).run)
     (λ i w l. (c.work.ensures.each i w l).front) (λ i w l. (c.work.ensures.each i w l).script) c.finish-2.new.root _ c.finish-2.ensures.passes
 
 pub returns-in_err-set_all-clause-root : goal.returns-in_err-set_all-clause-root
 returns-in_err-set_all-clause-root g c =
     let s = c.start.ensures in
-    run_root c.args.heap.now.locks c.args.number c.args.root.now c.start.new.root (held c.args.env.now)
+    run_root c.args.setting.now.heap.now.locks c.args.number c.args.root.now c.start.new.root (held c.args.env.now)
     c.start.new.workers c.args.round.now.scripts c.scripts-scripts.result.now c.scripts-scripts.ensures.all c.requires.of s.root
     s.workers s.some c.work.new.workers c.work.ensures.len (λ i w l. (c.work.ensures.each i w l).run) c.finish-2.new.root _
     c.finish-2.ensures.passes
@@ -71,15 +71,15 @@ returns-in_err-set_all-clause-root g c =
 pub returns-in_err-set_all-clause-begun : goal.returns-in_err-set_all-clause-begun
 returns-in_err-set_all-clause-begun g c =
     let s = c.start.ensures in
-    run_begins c.args.heap.now.locks c.args.number c.args.root.now c.start.new.root (held c.args.env.now)
+    run_begins c.args.setting.now.heap.now.locks c.args.number c.args.root.now c.start.new.root (held c.args.env.now)
     c.start.new.workers c.args.round.now.scripts c.scripts-scripts.result.now c.scripts-scripts.ensures.all c.requires.of s.root
-    s.workers s.some c.args.heap.now.config s.scripts c.work.new.workers c.work.ensures.len (λ i w l. (c.work.ensures.each i w l).run)
+    s.workers s.some c.args.setting.now.heap.now.config s.scripts c.work.new.workers c.work.ensures.len (λ i w l. (c.work.ensures.each i w l).run)
     (λ i w l. (c.work.ensures.each i w l).front) (λ i w l. (c.work.ensures.each i w l).script) c.finish-2.new.root _ c.finish-2.ensures.passes
 
 pub returns-clause-root : goal.returns-clause-root
 returns-clause-root g c =
     let s = c.start.ensures in
-    run_root c.args.heap.now.locks c.args.number c.args.root.now c.start.new.root (held c.args.env.now)
+    run_root c.args.setting.now.heap.now.locks c.args.number c.args.root.now c.start.new.root (held c.args.env.now)
     c.start.new.workers c.args.round.now.scripts c.scripts-scripts.result.now c.scripts-scripts.ensures.all c.requires.of s.root
     s.workers s.some c.work.new.workers c.work.ensures.len (λ i w l. (c.work.ensures.each i w l).run) c.finish-2.new.root _
     c.finish-2.ensures.passes
@@ -87,16 +87,16 @@ returns-clause-root g c =
 pub returns-clause-begun : goal.returns-clause-begun
 returns-clause-begun g c =
     let s = c.start.ensures in
-    run_begins c.args.heap.now.locks c.args.number c.args.root.now c.start.new.root (held c.args.env.now)
+    run_begins c.args.setting.now.heap.now.locks c.args.number c.args.root.now c.start.new.root (held c.args.env.now)
     c.start.new.workers c.args.round.now.scripts c.scripts-scripts.result.now c.scripts-scripts.ensures.all c.requires.of s.root
-    s.workers s.some c.args.heap.now.config s.scripts c.work.new.workers c.work.ensures.len (λ i w l. (c.work.ensures.each i w l).run)
+    s.workers s.some c.args.setting.now.heap.now.config s.scripts c.work.new.workers c.work.ensures.len (λ i w l. (c.work.ensures.each i w l).run)
     (λ i w l. (c.work.ensures.each i w l).front) (λ i w l. (c.work.ensures.each i w l).script) c.finish-2.new.root _ c.finish-2.ensures.passes
 
 pub returns-clause-ran : goal.returns-clause-ran
 returns-clause-ran g c =
     let s = c.start.ensures in
     let ws = c.start.new.workers in
-    let locks : List Lock = c.args.heap.now.locks in
+    let locks : List Lock = c.args.setting.now.heap.now.locks in
     let total : ℕ = length c.args.round.now.scripts in
     let p : PassView = c.args.root.now in
     let q : PassView = c.start.new.root in
@@ -106,7 +106,7 @@ returns-clause-ran g c =
     c.requires.of s.root s.workers s.some in
     let vs = c.work.new.workers in
     let z : PassView = c.finish-2.new.root in
-    let config = c.args.heap.now.config in
+    let config = c.args.setting.now.heap.now.config in
     let rs : List Results = c.in_ok-results.results.items in
     let same : length vs.items ≡ length ws.items = sym vs.ok.0 ∙ c.work.ensures.len ∙ ws.ok.0 in
     let all : vec_len ws ≡ length c.scripts-scripts.result.now = grind arith in

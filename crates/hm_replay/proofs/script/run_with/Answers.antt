@@ -10,7 +10,7 @@ use Rattle.hm_replay.proofs.script.run_with.Goals as goal
 
 pub returns-clause-ran : goal.returns-clause-ran
 returns-clause-ran g c =
-    let t = terms_of c.args.heap.now c.args.pass.now in
+    let t = terms_of c.args.setting.now.heap.now c.args.pass.now in
     let q = c.run_steps.new.pass in
     let names : Names = g.E.Addresses.names c.args.env.now in
     let last : Names = g.E.Addresses.names c.run_steps.new.env in
@@ -20,7 +20,7 @@ returns-clause-ran g c =
 
 pub returns-in_err-items-clause-stops : goal.returns-in_err-items-clause-stops
 returns-in_err-items-clause-stops g c =
-    let t = terms_of c.args.heap.now c.args.pass.now in
+    let t = terms_of c.args.setting.now.heap.now c.args.pass.now in
     let p = c.args.pass.now in
     let q = c.run_steps.new.pass in
     let names : Names = g.E.Addresses.names c.args.env.now in

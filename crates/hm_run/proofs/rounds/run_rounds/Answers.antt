@@ -20,7 +20,7 @@ use Rattle.hm_run.proofs.rounds.run_rounds.Goals as goal
 
 pub loop-index-init : goal.loop-index-init
 loop-index-init g c =
-    let heap = c.args.heap.now in
+    let heap = c.args.setting.now.heap.now in
     let root : PassView = c.args.root.now in
     let new = c.replayed_rounds.ensures.first heap.config heap.locks root c.requires.of.same c.requires.founds (ap (λ (p : PassView). p.splits) c.requires.first) in
     let index : ℕ = large_index heap.config in
@@ -52,7 +52,7 @@ after_round-requires-clause-index g c κs within = omega (arith, c.requires.inde
 
 pub after_round-requires-clause-front : goal.after_round-requires-clause-front
 after_round-requires-clause-front g c κs within =
-    let config = c.args.heap.now.config in
+    let config = c.args.setting.now.heap.now.config in
     let p : PassView = c.loop-index.root in
     let q : PassView = c.run_round.new.root in
     let before = c.loop-index.invariant in
@@ -62,7 +62,7 @@ after_round-requires-clause-front g c κs within =
 
 pub loop-index-preserved : goal.loop-index-preserved
 loop-index-preserved g c =
-    let config = c.args.heap.now.config in
+    let config = c.args.setting.now.heap.now.config in
     let p : PassView = c.loop-index.root in
     let q : PassView = c.run_round.new.root in
     let last : PassView = c.after_round.new.root in

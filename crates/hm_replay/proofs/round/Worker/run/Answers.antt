@@ -29,12 +29,12 @@ returns g c = record {
         λ o. IfSome o (λ left. AreLeft steps (seen_in scope) left.items) in
         elim c.match-results.branch [
           | in-Some w ↦
-              subst Left (sym w.t-13-is)
+              subst Left (sym w.t-15-is)
               (kept_ok w.left.result w.ok.result (λ left. AreLeft steps (seen_in scope) left.items) w.ok.ensures.value
               (left_settled scope steps w.left.result w.left.ensures
               (was_ok c.run_with.result (sym c.ok-results.ensures.value ∙ w.in-Some.is) c.run_with.ensures.touched
               ∙ ap (λ (touched : Touched). touched_all touched steps) c.requires.1)))
-          | in-None w ↦ subst Left (sym w.t-13-is) tt
+          | in-None w ↦ subst Left (sym w.t-15-is) tt
         ];
   };
 }

@@ -1,15 +1,22 @@
-use Rattle.std.proofs.Common.{◌∙◌}
-use Rattle.std.specs.Cmp.Lexicographic.{slice_cmp}
-use Rattle.std.specs.Ordering.{nat_cmp}
-use Rattle.hm_trace.proofs.Ordered.{no_order, some_order}
+use Rattle.std.proofs.Common.{sym, ap, ◌∙◌, arith}
+use Rattle.std.specs.Ordering.{nat_cmp, ordering_then}
+use Rattle.hm_trace.proofs.ByWords.{by_all, by_words}
 use Rattle.hm_trace.proofs.names.NameOrd.cmp.Goals as goal
 
-pub returns-in-Some : goal.returns-in-Some
-returns-in-Some c =
-    some_order c.bytes.result.now c.bytes-2.result.now c.partial_cmp.result c.in-Some.found c.partial_cmp.ensures c.in-Some.is
-    ∙ (λ i. slice_cmp nat_cmp (c.bytes.ensures i) (c.bytes-2.ensures i))
+pub returns-in-Equal : goal.returns-in-Equal
+returns-in-Equal c =
+    let name = c.args.self.now in
+    let other = c.args.other.now in
+    let all = by_all name.bytes other.bytes name.len other.len name.within other.within (omega arith) (omega arith) name.zeros other.zeros in
+    c.cmp.ensures
+    ∙ ap (λ r. ordering_then r (nat_cmp name.len other.len)) (sym c.in-Equal.is ∙ c.order_of.ensures)
+    ∙ all
 
-pub returns-in-None : goal.returns-in-None
-returns-in-None c =
-    no_order c.bytes.result.now c.bytes-2.result.now c.partial_cmp.result c.partial_cmp.ensures c.in-None.is
-    ∙ (λ i. slice_cmp nat_cmp (c.bytes.ensures i) (c.bytes-2.ensures i))
+pub returns-in_default : goal.returns-in_default
+returns-in_default c =
+    let name = c.args.self.now in
+    let other = c.args.other.now in
+    let all = by_all name.bytes other.bytes name.len other.len name.within other.within (omega arith) (omega arith) name.zeros other.zeros in
+    sym (by_words c.order_of.result (nat_cmp name.len other.len) c.in_default.not-Equal)
+    ∙ ap (λ r. ordering_then r (nat_cmp name.len other.len)) c.order_of.ensures
+    ∙ all
