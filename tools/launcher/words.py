@@ -18,7 +18,7 @@ usage: ./hmreplay COMMAND [OPTION VALUE].. < FILE     the command first; each op
   --class-region, --large-space: multiples of 4096 from 1048576, to 34359738368 and to 1099511627776
 statuses: 0 no finding, 1 a finding or the verdict no, 2 words, 3 no trace, 4 and 5 input and output failed, 6 and 9 no
   memory and no words, 7 too much input, 70 no program could be built or run
-example: ./hmreplay run --seed 7 < examples/double_free.hmtrace     (README.md has more of each)
+example: ./hmreplay run --seed 7 < examples/double_free.hmtrace     (docs/COMMANDS.md has more of each)
 """
 
 
